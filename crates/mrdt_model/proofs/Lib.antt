@@ -1,0 +1,3 @@
+pub mod TimeSets
+pub mod Parts
+pub mod Executions

@@ -1,0 +1,4 @@
+pub mod Times
+pub mod Executions
+pub mod Spelled
+pub mod Laws
