@@ -10,3 +10,15 @@ pub struct Time {
     /// The number of the branch.
     pub origin: u32,
 }
+
+impl Time {
+    ghost use Rattle.std.specs.Prelude.{◌≡◌};
+    ghost use Rattle.mrdt_model.specs.Times.{is_earlier};
+
+    /// Whether this time comes before another.
+    pub fn is_before(self, other: Time) -> bool
+        ensures { result ≡ is_earlier self other }
+    {
+        self < other
+    }
+}
