@@ -11,6 +11,8 @@ pub mod bytes;
 pub mod errors;
 pub mod listing;
 pub mod mrdt;
+#[cfg(test)]
+mod tests;
 pub mod time;
 
 pub use bytes::Bytes;
