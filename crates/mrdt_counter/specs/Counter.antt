@@ -1,0 +1,47 @@
+-- What a counter means.
+use Rattle.std.specs.Prelude.{◌≡◌, ℤ, pos, ◌+ℤ◌, List, [], ◌∷◌, FitsSigned}
+use Rattle.std.specs.Int.{w64}
+use Rattle.mrdt_model.specs.Executions.{Event}
+use Rattle.mrdt_model.specs.Laws.{Meaning}
+use Rattle.branch_wire.specs.Fields.{signed_number, wide_signed_number}
+use Rattle.branch_wire.specs.Reading.{HasLength}
+use Rattle.mrdt_counter.specs.declared.counter.CounterOp.{CounterOp}
+use Rattle.mrdt_counter.specs.declared.counter.CounterOp.TheVariants.{Add}
+use Rattle.mrdt_counter.specs.declared.counter.CounterQuery.{CounterQuery}
+
+abbrev pub amount : CounterOp → ℤ
+amount (Add n) = n
+
+-- the sum of the Adds
+abbrev pub total : {R : Type 0} → List (Event CounterOp R) → ℤ
+total [] = pos 0
+total (e ∷ x) = amount e.operation +ℤ total x
+
+abbrev pub IsAmount : CounterOp → Type 0
+IsAmount op = FitsSigned w64 (amount op)
+
+-- an operation replies nothing
+abbrev pub no_reply : List (Event CounterOp (Unit {0})) → CounterOp → Unit {0}
+no_reply x op = tt
+
+abbrev pub IsAnyReply : Unit {0} → Type 0
+IsAnyReply reply = Unit {0}
+
+abbrev pub StandsFor : ℤ → List (Event CounterOp (Unit {0})) → Type 0
+StandsFor c x = c ≡ total x
+
+abbrev pub counter_meaning : Meaning ℤ CounterOp (Unit {0}) CounterQuery ℤ
+counter_meaning = record {
+  is_op = IsAmount;
+  is_reply = IsAnyReply;
+  reply_of = no_reply;
+  answer_of = λ x query. total x;
+  spelling_of = λ x. wide_signed_number (total x);
+  stands = StandsFor;
+  state_spelling = wide_signed_number;
+  op_spelling = λ op. signed_number (amount op);
+  reply_spelling = λ reply. [];
+  is_state_spelling = HasLength 16;
+  is_op_spelling = HasLength 8;
+  is_reply_spelling = HasLength 0;
+}

@@ -1,0 +1,5 @@
+pub mod AtKeys
+pub mod OnKeys
+pub mod Spellings
+pub mod Writing
+pub mod Reading

@@ -1,0 +1,12 @@
+//! A map from keys, which are lists of bytes, to values of a type that merges: what is said of a key is what the
+//! values' type says over the operations on that key.
+#![tactic(auto)]
+
+mod entries;
+pub mod map;
+mod spelling;
+
+pub use map::{Map, MapAnswer, MapQuery, OnKey};
+
+#[cfg(test)]
+mod tests;
