@@ -1,0 +1,6 @@
+pub mod Prefixes
+pub mod Totals
+pub mod Rising
+pub mod Keeps
+pub mod EachStep
+pub mod Crosses

@@ -1,0 +1,14 @@
+use Rattle.std.proofs.Common.{sym, ap, ◌∙◌, arith}
+use Rattle.branch_front.proofs.EachStep.{into_caller, caller_looks}
+use Rattle.branch_front.proofs.front.Front.put_together.Goals as goal
+
+pub join_seat-requires : goal.join_seat-requires
+join_seat-requires g c =
+    let one = c.self.invariant in
+    let table = ap (λ o. o.table) c.self.view_is in
+    (c.requires.seats.0.0 ∙ sym table, c.requires.seats.1.0 ∙ sym table, c.requires.seats.1.1, omega arith, into_caller _ _ _ _ _ c.requires.roles.0 c.requires.roles.1)
+
+pub load-requires : goal.load-requires
+load-requires g c =
+    let one = c.self.invariant in
+    (c.join_seat.ensures.0 ∙ (c.requires.seats.0.0 ∙ sym (ap (λ o. o.table) c.self.view_is)), omega arith, caller_looks _ _ _ _)

@@ -1,0 +1,47 @@
+-- What a front, a writer and a pass are to a contract.
+use Rattle.std.specs.Prelude.{◌≡◌, ℕ, false, List, [], ◌∷◌}
+use Rattle.atomic_table.specs.Seated.{TableId}
+use Rattle.atomic_table.specs.declared.shared.Seat.{Seat}
+use Rattle.branch_front.specs.declared.view.View.{View}
+use Rattle.branch_front.specs.Views.{spent}
+
+-- which front it is, the length at which its word began, and the number of its parts
+pub record Opening : Type 0 where
+  pub table : TableId
+  pub begun : ℕ
+  pub parts : ℕ
+
+-- of which front it is; the entries that its holder has seen, from the first that came after the front was made; the rising
+-- lengths of the history at which its own entries landed; the disk's faults as last seen; its share of the front's parts;
+-- and the number of entries that landed by it and by the passes that were joined to it
+pub record Sight (M : Type 0) : Type 0 where
+  pub table : TableId
+  pub moves : List M
+  pub mine : List ℕ
+  pub faults : ℕ
+  pub parts : ℕ
+  pub receipts : ℕ
+
+module _ {M : Type 0} where
+  -- the writer holds nothing for a caller
+  abbrev pub IsIdle : Sight M → Type 0
+  IsIdle writer = (writer.mine ≡ []) × (writer.parts ≡ 0) × (writer.receipts ≡ 0)
+
+  -- what a contract sees of a view
+  abbrev pub sight : TableId → View M → Sight M
+  sight table v = record { table = table; moves = v.moves; mine = v.mine; faults = v.faults; parts = v.parts; receipts = v.receipts }
+
+  -- the one view of a badge
+  abbrev pub only_view : List (View M) → View M
+  only_view [] = spent
+  only_view (v ∷ vs) = v
+
+  -- a badge has one view, a caller's, with these receipts
+  pub record IsCallers (views : List (View M)) (receipts : ℕ) : Type 0 where
+    pub one : views ≡ only_view views ∷ []
+    pub caller : (only_view views).writes ≡ false
+    pub counted : receipts ≡ (only_view views).receipts
+
+  -- the seat is at this front's word. Such a seat never holds a slot, of which the word's table has none
+  abbrev pub IsAt : TableId → Seat (Unit {0}) (View M) → Type 0
+  IsAt table seat = (seat.table_id ≡ table) × (seat.me.1 ≡ [])

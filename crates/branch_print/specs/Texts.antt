@@ -1,0 +1,69 @@
+-- The texts of replies.
+use Rattle.std.specs.Prelude.{ℕ, ℤ, List, [], ◌∷◌, ◌++◌, codes, decimal, length}
+use Rattle.std.specs.Fmt.{signed_decimal}
+use Rattle.std.specs.List.{flat_map}
+use Rattle.mrdt_model.specs.declared.time.Time.{Time}
+use Rattle.mrdt_map.specs.declared.map.MapAnswer.{MapAnswer}
+use Rattle.mrdt_map.specs.declared.map.MapAnswer.TheVariants.{OnValue, OnKeys}
+use Rattle.branch_script.specs.declared.step.LineRefusal.{LineRefusal}
+use Rattle.branch_script.specs.declared.step.LineRefusal.TheVariants.{Syntax, BadName, BadNumber, Memory}
+use Rattle.branch_history.specs.Steps.{Refusal, UnknownBranch, NameTaken, Stale, Exhausted, FullCommits, FullBranches, FullMoves, ValueTooLarge, ManyBases, Outcome, Sees, Forked, Landed, Merged, Forwarded, Same, Answered, Refused}
+
+-- each reply is a line, ended by byte 10
+abbrev pub line_end : List ℕ
+line_end = 10 ∷ []
+
+-- `clock.origin`
+abbrev pub time_text : Time → List ℕ
+time_text t = decimal t.clock ++ codes "." ++ decimal t.origin
+
+-- `[count]`, then each item after a space
+abbrev pub items_text : List (List ℕ) → List ℕ
+items_text items = codes "[" ++ decimal (length items) ++ codes "]" ++ flat_map (λ item. codes " " ++ item) items
+
+abbrev pub answer_text : MapAnswer ℤ → List ℕ
+answer_text (OnValue value) = signed_decimal value
+answer_text (OnKeys keys) = items_text keys
+
+-- a refusal, of a step on the branch of this name
+abbrev pub refusal_text : List ℕ → Refusal → List ℕ
+refusal_text branch (UnknownBranch name) = codes "error unknown " ++ name
+refusal_text branch (NameTaken number) = codes "error taken " ++ decimal number
+refusal_text branch (Stale newest) = codes "stale " ++ branch ++ codes " at #" ++ decimal newest
+refusal_text branch (Exhausted clock) = codes "error exhausted " ++ decimal clock
+refusal_text branch (FullCommits count) = codes "error full commits " ++ decimal count
+refusal_text branch (FullBranches count) = codes "error full branches " ++ decimal count
+refusal_text branch (FullMoves count) = codes "error full moves " ++ decimal count
+refusal_text branch (ValueTooLarge size) = codes "error too large " ++ decimal size
+refusal_text branch (ManyBases count) = codes "error bases " ++ decimal count
+
+abbrev pub sees_text : List ℕ → List ℕ → ℕ → List ℕ
+sees_text session branch head = session ++ codes " sees " ++ branch ++ codes " at #" ++ decimal head
+
+abbrev pub forked_text : List ℕ → ℕ → ℕ → List ℕ
+forked_text branch number head = codes "forked " ++ branch ++ codes " as " ++ decimal number ++ codes " at #" ++ decimal head
+
+abbrev pub landed_text : ℕ → Time → List ℕ
+landed_text commit time = codes "landed #" ++ decimal commit ++ codes " at " ++ time_text time
+
+-- an outcome, for a session and a branch of these names; a fork's branch is the new one
+abbrev pub outcome_text : {R : Type 0} → List ℕ → List ℕ → Outcome (MapAnswer ℤ) R → List ℕ
+outcome_text session branch (Sees number head) = sees_text session branch head
+outcome_text session branch (Forked number head) = forked_text branch number head
+outcome_text session branch (Landed commit time reply) = landed_text commit time
+outcome_text session branch (Merged commit) = codes "merged #" ++ decimal commit
+outcome_text session branch (Forwarded commit) = codes "forward #" ++ decimal commit
+outcome_text session branch Same = codes "same"
+outcome_text session branch (Answered answer) = answer_text answer
+outcome_text session branch (Refused refusal) = refusal_text branch refusal
+
+-- a line that is no step; of want of memory nothing is told
+abbrev pub line_refusal_text : LineRefusal → List ℕ
+line_refusal_text Syntax = codes "error syntax"
+line_refusal_text BadName = codes "error name"
+line_refusal_text BadNumber = codes "error number"
+line_refusal_text Memory = []
+
+-- a step of a session that has not looked
+abbrev pub unseen_text : List ℕ → List ℕ
+unseen_text session = codes "error unseen " ++ session

@@ -1,0 +1,10 @@
+//! The texts of replies, each a line, written at the end of a list of bytes.
+//!
+//! After want of memory a first part of the text may have been written.
+#![tactic(auto)]
+
+mod pieces;
+pub mod refusals;
+pub mod replies;
+#[cfg(test)]
+mod tests;

@@ -1,0 +1,12 @@
+//! The script language: what a line of a script says.
+#![tactic(auto)]
+
+mod form;
+mod numbers;
+pub mod step;
+#[cfg(test)]
+mod tests;
+mod words;
+
+pub use form::read_line;
+pub use step::{LineRefusal, Step};

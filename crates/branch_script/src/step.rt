@@ -1,0 +1,82 @@
+// What a line of a script asks, and why a line asks nothing.
+use branch_names::{BadName, Name};
+use mrdt_counter::{CounterOp, CounterQuery};
+use mrdt_map::{MapQuery, OnKey};
+use mrdt_model::Memory;
+use std::alloc::AllocError;
+use thiserror::Error;
+
+/// One step of a script, over a map of counters.
+#[derive(Drop)]
+pub enum Step {
+    /// A session looks at a branch.
+    Look {
+        session: Name,
+        branch: Name,
+    },
+    /// A new branch is forked from another.
+    Fork {
+        new: Name,
+        from: Name,
+    },
+    /// A session lands an operation on the branch that it sees.
+    Do {
+        session: Name,
+        op: OnKey<CounterOp>,
+    },
+    /// A branch is asked at its head.
+    Ask {
+        branch: Name,
+        query: MapQuery<CounterQuery>,
+    },
+}
+
+/// Why a line of a script is no step.
+#[derive(Clone, Copy, Debug, PartialEq, Eq, Error)]
+pub enum LineRefusal {
+    /// The line fits no form.
+    #[error("the line fits no form")]
+    Syntax,
+    /// The line fits a form, and a session or a branch of it has no name.
+    #[error("a name is out of form")]
+    BadName,
+    /// The line fits a form with names, and its number is out of form or out of range.
+    #[error("a number is out of form")]
+    BadNumber,
+    /// Want of memory.
+    #[error("out of memory")]
+    Memory,
+}
+
+impl From<Memory> for LineRefusal {
+    ghost use Rattle.std.specs.Prelude.{◌≡◌};
+    ghost use Rattle.branch_script.specs.declared.step.LineRefusal.TheVariants as refusal;
+
+    ghost from_gives = { λ _ error. error ≡ refusal.Memory };
+
+    fn from(_: Memory) -> LineRefusal {
+        LineRefusal::Memory
+    }
+}
+
+impl From<AllocError> for LineRefusal {
+    ghost use Rattle.std.specs.Prelude.{◌≡◌};
+    ghost use Rattle.branch_script.specs.declared.step.LineRefusal.TheVariants as refusal;
+
+    ghost from_gives = { λ _ error. error ≡ refusal.Memory };
+
+    fn from(_: AllocError) -> LineRefusal {
+        LineRefusal::Memory
+    }
+}
+
+impl From<BadName> for LineRefusal {
+    ghost use Rattle.std.specs.Prelude.{◌≡◌};
+    ghost use Rattle.branch_script.specs.declared.step.LineRefusal.TheVariants as refusal;
+
+    ghost from_gives = { λ _ error. error ≡ refusal.BadName };
+
+    fn from(_: BadName) -> LineRefusal {
+        LineRefusal::BadName
+    }
+}
