@@ -1,0 +1,22 @@
+-- The merge makes the commit, as the machine's step does it.
+use Rattle.std.proofs.Common.{◌≡◌, length, ap, ◌∙◌, arith}
+use Rattle.store_core.proofs.Landings.{merge-adds, merge-turn}
+use Rattle.store_core.proofs.store.Core.land_merge.Goals as goal
+
+pub add_commit-requires-after_bounds : goal.add_commit-requires-after_bounds
+add_commit-requires-after_bounds g c κs within =
+    let laws = (g.met.T.Mrdt g.world.𝓛 g.world.𝓜 g.world.𝓡 ((λ s x. x), (λ x. x), (λ x. x), λ x. x)).laws in
+    let valid = c.may_add_commit.ensures.valid in
+    merge-adds g.T.Mrdt.meaning laws c.args.self.now valid c.args.branch c.requires.there c.args.other c.args.clock c.args.value c.args.head c.requires.ready c.in_ok-may_add_commit.ensures.free
+
+pub returns-clause-landed : goal.returns-clause-landed
+returns-clause-landed g c =
+    let laws = (g.met.T.Mrdt g.world.𝓛 g.world.𝓜 g.world.𝓡 ((λ s x. x), (λ x. x), (λ x. x), λ x. x)).laws in
+    let valid = c.may_add_commit.ensures.valid in
+    let done = c.in_ok-commit.ensures in
+    let counted : c.len.result ≡ length c.self.inside.moves.items = omega arith in
+    record {
+      turn_is = merge-turn g.T.Mrdt.meaning laws c.args.self.now valid c.args.branch c.requires.there c.args.other c.args.clock c.args.value c.args.head c.in_ok-commit.commit c.requires.ready c.in_ok-may_add_commit.ensures.free done.number;
+      history = done.added;
+      counted = counted ∙ ap (λ v. length v.history) c.self.view_is;
+    }

@@ -1,0 +1,5 @@
+pub mod Views
+pub mod Keeps
+pub mod Turns
+pub mod Nodes
+pub mod Pairs

@@ -1,0 +1,266 @@
+// What the calls of a core answer.
+use branch_names::Name;
+use mrdt_model::{Memory, Time};
+use std::alloc::{AllocError, AllocFailed};
+use thiserror::Error;
+
+/// Why a look was refused.
+#[derive(Clone, Copy, Debug, PartialEq, Eq, Error)]
+pub enum LookRefusal {
+    /// No branch has the name.
+    #[error("no branch has this name")]
+    UnknownBranch { name: Name },
+    /// Want of memory.
+    #[error("out of memory")]
+    Memory,
+}
+
+/// Why an operation was not prepared.
+#[derive(Clone, Copy, Debug, PartialEq, Eq, Error)]
+pub enum PrepareRefusal {
+    /// The clock of the commit that was seen is at the limit.
+    #[error("the clock is at its limit, {clock}")]
+    Exhausted { clock: u64 },
+    /// The spellings of the new value, the operation and the reply have together this many bytes, more than
+    /// the limit.
+    #[error("{length} bytes are too many")]
+    ValueTooLarge { length: u64 },
+    /// Want of memory.
+    #[error("out of memory")]
+    Memory,
+}
+
+/// Why a look was not paired with another branch.
+#[derive(Clone, Copy, Debug, PartialEq, Eq, Error)]
+pub enum PairRefusal {
+    /// No branch has the name.
+    #[error("no branch has this name")]
+    UnknownBranch { name: Name },
+    /// Want of memory.
+    #[error("out of memory")]
+    Memory,
+}
+
+/// Why a merge was not prepared.
+#[derive(Clone, Copy, Debug, PartialEq, Eq, Error)]
+pub enum PairPrepareRefusal {
+    /// The two commits have this many maximal common ancestors, not one.
+    #[error("{count} maximal common ancestors")]
+    ManyBases { count: u64 },
+    /// The spelling of the merged value has this many bytes, more than the limit.
+    #[error("{length} bytes are too many")]
+    ValueTooLarge { length: u64 },
+    /// Want of memory.
+    #[error("out of memory")]
+    Memory,
+}
+
+/// Why what was prepared did not land.
+#[derive(Clone, Copy, Debug, PartialEq, Eq, Error)]
+pub enum LandRefusal {
+    /// The branch's head is not the commit that was seen, but this newer one.
+    #[error("the newest head is #{newest}")]
+    Stale { newest: u32 },
+    /// The store holds this many commits, and may not hold more.
+    #[error("the store holds its limit of {count} commits")]
+    FullCommits { count: u32 },
+    /// The history has this many moves, and may not have more.
+    #[error("the history has its limit of {count} moves")]
+    FullMoves { count: u64 },
+    /// Want of memory.
+    #[error("out of memory")]
+    Memory,
+}
+
+/// Why a branch was not forked.
+#[derive(Clone, Copy, Debug, PartialEq, Eq, Error)]
+pub enum ForkRefusal {
+    /// No branch has the name to fork from.
+    #[error("no branch has this name")]
+    UnknownBranch { name: Name },
+    /// The branch of this number has the new name.
+    #[error("branch {number} has this name")]
+    NameTaken { number: u32 },
+    /// The store holds this many branches, and may not hold more.
+    #[error("the store holds its limit of {count} branches")]
+    FullBranches { count: u32 },
+    /// The history has this many moves, and may not have more.
+    #[error("the history has its limit of {count} moves")]
+    FullMoves { count: u64 },
+    /// Want of memory.
+    #[error("out of memory")]
+    Memory,
+}
+
+/// What was landed.
+#[derive(Drop)]
+pub enum Kind<R> {
+    /// An operation: the number of its commit, its time and its reply.
+    Operation { commit: u32, time: Time, reply: R },
+    /// A merge: the number of its commit.
+    Merged { commit: u32 },
+    /// A branch that moved up to a commit that stood before.
+    Forward { commit: u32 },
+}
+
+/// A landing that was accepted.
+#[derive(Drop)]
+pub struct Landed<R> {
+    /// The length of the history after the move.
+    pub moves: u64,
+    pub kind: Kind<R>,
+}
+
+/// A fork that was accepted.
+#[derive(Clone, Copy, Debug, PartialEq, Eq)]
+pub struct Forked {
+    /// The length of the history after the move.
+    pub moves: u64,
+    /// The number of the new branch.
+    pub number: u32,
+    /// The commit that is its head.
+    pub head: u32,
+}
+
+impl From<Memory> for LookRefusal {
+    ghost use Rattle.std.specs.Prelude.{◌≡◌};
+    ghost use Rattle.store_core.specs.declared.answers.LookRefusal.TheVariants as refusal;
+
+    ghost from_gives = { λ _ error. error ≡ refusal.Memory };
+
+    fn from(_: Memory) -> LookRefusal {
+        LookRefusal::Memory
+    }
+}
+
+impl From<AllocError> for LookRefusal {
+    ghost use Rattle.std.specs.Prelude.{◌≡◌};
+    ghost use Rattle.store_core.specs.declared.answers.LookRefusal.TheVariants as refusal;
+
+    ghost from_gives = { λ _ error. error ≡ refusal.Memory };
+
+    fn from(_: AllocError) -> LookRefusal {
+        LookRefusal::Memory
+    }
+}
+
+impl From<Memory> for PrepareRefusal {
+    ghost use Rattle.std.specs.Prelude.{◌≡◌};
+    ghost use Rattle.store_core.specs.declared.answers.PrepareRefusal.TheVariants as refusal;
+
+    ghost from_gives = { λ _ error. error ≡ refusal.Memory };
+
+    fn from(_: Memory) -> PrepareRefusal {
+        PrepareRefusal::Memory
+    }
+}
+
+impl From<AllocError> for PrepareRefusal {
+    ghost use Rattle.std.specs.Prelude.{◌≡◌};
+    ghost use Rattle.store_core.specs.declared.answers.PrepareRefusal.TheVariants as refusal;
+
+    ghost from_gives = { λ _ error. error ≡ refusal.Memory };
+
+    fn from(_: AllocError) -> PrepareRefusal {
+        PrepareRefusal::Memory
+    }
+}
+
+impl From<Memory> for PairRefusal {
+    ghost use Rattle.std.specs.Prelude.{◌≡◌};
+    ghost use Rattle.store_core.specs.declared.answers.PairRefusal.TheVariants as refusal;
+
+    ghost from_gives = { λ _ error. error ≡ refusal.Memory };
+
+    fn from(_: Memory) -> PairRefusal {
+        PairRefusal::Memory
+    }
+}
+
+impl From<AllocError> for PairRefusal {
+    ghost use Rattle.std.specs.Prelude.{◌≡◌};
+    ghost use Rattle.store_core.specs.declared.answers.PairRefusal.TheVariants as refusal;
+
+    ghost from_gives = { λ _ error. error ≡ refusal.Memory };
+
+    fn from(_: AllocError) -> PairRefusal {
+        PairRefusal::Memory
+    }
+}
+
+impl From<Memory> for PairPrepareRefusal {
+    ghost use Rattle.std.specs.Prelude.{◌≡◌};
+    ghost use Rattle.store_core.specs.declared.answers.PairPrepareRefusal.TheVariants as refusal;
+
+    ghost from_gives = { λ _ error. error ≡ refusal.Memory };
+
+    fn from(_: Memory) -> PairPrepareRefusal {
+        PairPrepareRefusal::Memory
+    }
+}
+
+impl From<Memory> for LandRefusal {
+    ghost use Rattle.std.specs.Prelude.{◌≡◌};
+    ghost use Rattle.store_core.specs.declared.answers.LandRefusal.TheVariants as refusal;
+
+    ghost from_gives = { λ _ error. error ≡ refusal.Memory };
+
+    fn from(_: Memory) -> LandRefusal {
+        LandRefusal::Memory
+    }
+}
+
+impl From<AllocError> for LandRefusal {
+    ghost use Rattle.std.specs.Prelude.{◌≡◌};
+    ghost use Rattle.store_core.specs.declared.answers.LandRefusal.TheVariants as refusal;
+
+    ghost from_gives = { λ _ error. error ≡ refusal.Memory };
+
+    fn from(_: AllocError) -> LandRefusal {
+        LandRefusal::Memory
+    }
+}
+
+impl From<Memory> for ForkRefusal {
+    ghost use Rattle.std.specs.Prelude.{◌≡◌};
+    ghost use Rattle.store_core.specs.declared.answers.ForkRefusal.TheVariants as refusal;
+
+    ghost from_gives = { λ _ error. error ≡ refusal.Memory };
+
+    fn from(_: Memory) -> ForkRefusal {
+        ForkRefusal::Memory
+    }
+}
+
+impl From<AllocError> for ForkRefusal {
+    ghost use Rattle.std.specs.Prelude.{◌≡◌};
+    ghost use Rattle.store_core.specs.declared.answers.ForkRefusal.TheVariants as refusal;
+
+    ghost from_gives = { λ _ error. error ≡ refusal.Memory };
+
+    fn from(_: AllocError) -> ForkRefusal {
+        ForkRefusal::Memory
+    }
+}
+
+impl<X: Drop> From<AllocFailed<X>> for LandRefusal {
+    ghost use Rattle.std.specs.Prelude.{◌≡◌};
+    ghost use Rattle.store_core.specs.declared.answers.LandRefusal.TheVariants as refusal;
+
+    ghost from_gives = { λ _ error. error ≡ refusal.Memory };
+
+    fn from(_: AllocFailed<X>) -> LandRefusal {
+        LandRefusal::Memory
+    }
+}
+
+impl<X: Drop> From<AllocFailed<X>> for ForkRefusal {
+    ghost use Rattle.std.specs.Prelude.{◌≡◌};
+    ghost use Rattle.store_core.specs.declared.answers.ForkRefusal.TheVariants as refusal;
+
+    ghost from_gives = { λ _ error. error ≡ refusal.Memory };
+
+    fn from(_: AllocFailed<X>) -> ForkRefusal {
+        ForkRefusal::Memory
+    }
+}
