@@ -1,0 +1,4 @@
+pub mod Played
+pub mod Turned
+pub mod Landings
+pub mod Replies

@@ -1,0 +1,104 @@
+-- What an engine stands for, step by step.
+use Rattle.std.proofs.Common.{◌≡◌, ℕ, ◌<◌, Bool, true, false, cond, List, [], ◌∷◌, ◌++◌, length, refl, ap, sym, subst, ◌∙◌, append_assoc, append-nil, Some}
+use Rattle.std.specs.Prelude.{Option, bytes_eq, Result, Ok, Err, OnOk, OnErr}
+use Rattle.mrdt_model.specs.declared.errors.Memory.{Memory}
+use Rattle.std.specs.Option.{option_map}
+use Rattle.std.specs.Ordering.{nat_cmp, is_eq}
+use Rattle.std.specs.Cmp.Lexicographic.{slice_cmp}
+use Rattle.std.proofs.lemmas.Map.Text.{is_eq-slice_cmp}
+use mathlib.Core.List.{IsPrefix}
+use Rattle.branch_names.specs.declared.limits.Limits.{Limits}
+use Rattle.branch_history.specs.History.{store_of}
+use Rattle.branch_history.specs.Steps as machine
+use Rattle.branch_history.specs.Machine.{turn, answers}
+use Rattle.branch_history.proofs.Heads.{same_branch}
+use Rattle.branch_engine.specs.Sessions.{Sight}
+use Rattle.branch_engine.specs.Play.{Operation, Query, Answer, History, counters, Play, Told}
+use Rattle.branch_engine.specs.Engines.{Core, Seen, EngineView, session_named, sight_of, AreLooksAt, Puts, Plays, IsAt}
+
+pub prefix-self : {A : Type 0} (xs : List A) → IsPrefix xs xs
+prefix-self xs = ([], append-nil xs)
+
+pub prefix-more : {A : Type 0} (xs ys added : List A) → IsPrefix xs ys → IsPrefix xs (ys ++ added)
+prefix-more xs ys added p = (p.0 ++ added, sym (append_assoc xs p.0 added) ∙ ap (λ w. w ++ added) p.1)
+
+-- what follows where a call succeeded
+pub on_ok : {E : Type 0} (r : Result (Unit {0}) E) (P Q : Type 0) → OnOk r P → (P → Q) → OnOk r Q
+on_ok (Ok done) P Q p f = f p
+on_ok (Err error) P Q p f = p
+
+-- a branch that is there stays
+pub branch-stays : (old new : History) (r : ℕ) → IsPrefix old new → r < length (store_of old).branches → r < length (store_of new).branches
+branch-stays old new r p there = subst (λ h. r < length (store_of h).branches) p.1 (same_branch old p.0 r there).there
+
+-- looks stay at beginnings of a history that grows
+pub looks-grow : (old new : Core) (sessions : List (List ℕ × Seen)) (made : History) → AreLooksAt old sessions → new.limits ≡ old.limits → new.history ≡ old.history ++ made → AreLooksAt new sessions
+looks-grow old new sessions made looks limits grown name seen found =
+    let l = looks name seen found in
+    (subst (IsPrefix seen.history) (sym grown) (prefix-more seen.history old.history made l.0), l.1 ∙ sym limits)
+
+-- one look more
+put_step : (core : Core) (t : Bool) (seen s : Seen) (old : Option Seen) → IsPrefix seen.history core.history × (seen.limits ≡ core.limits)
+    → (old ≡ Some s → IsPrefix s.history core.history × (s.limits ≡ core.limits)) → cond t (Some seen) old ≡ Some s → IsPrefix s.history core.history × (s.limits ≡ core.limits)
+put_step core true seen s old here rest is = let same : seen ≡ s = cc in subst (λ k. IsPrefix k.history core.history × (k.limits ≡ core.limits)) same here
+put_step core false seen s old here rest is = rest is
+
+pub looks-put : (core : Core) (old new : List (List ℕ × Seen)) (session : List ℕ) (seen : Seen) → AreLooksAt core old → Puts old new session seen
+    → IsPrefix seen.history core.history → seen.limits ≡ core.limits → AreLooksAt core new
+looks-put core old new session seen looks puts at limits name s found =
+    put_step core (is_eq (slice_cmp nat_cmp session name)) seen s (session_named old name) (at, limits) (looks name s) (sym (puts name) ∙ found)
+
+-- a look was put or, for want of memory, nothing
+pub looks-set : (core : Core) (old new : List (List ℕ × Seen)) (session : List ℕ) (seen : Seen) (result : Result (Unit {0}) Memory) → AreLooksAt core old
+    → OnOk result (Puts old new session seen) → OnErr result ((name : List ℕ) → session_named new name ≡ session_named old name)
+    → IsPrefix seen.history core.history → seen.limits ≡ core.limits → AreLooksAt core new
+looks-set core old new session seen (Ok done) looks puts kept at limits = looks-put core old new session seen looks puts at limits
+looks-set core old new session seen (Err memory) looks puts kept at limits = λ name s found. looks name s (sym (kept name) ∙ found)
+
+abbrev sees : ℕ → ℕ → machine.Outcome Answer (Unit {0})
+sees a b = machine.Sees a b
+
+abbrev refused : machine.Refusal → machine.Outcome Answer (Unit {0})
+refused refusal = machine.Refused refusal
+
+-- a look gives one branch and one head
+pub same-look : (a b c d : ℕ) → answers {O = Operation} {R = Unit {0}} {A = Answer} (machine.Sees a b) ≡ answers (machine.Sees c d) → (a ≡ c) × (b ≡ d)
+same-look a b c d is = let o : sees a b ≡ sees c d = ap (λ t. t.outcome) is in (cc, cc)
+
+pub never-refused : (a b : ℕ) (refusal : machine.Refusal) → answers {O = Operation} {R = Unit {0}} {A = Answer} (machine.Sees a b) ≡ answers (machine.Refused refusal) → ⊥
+never-refused a b refusal is = let o : sees a b ≡ refused refusal = ap (λ t. t.outcome) is in cc
+
+map_step : (t : Bool) (seen : Seen) (old : Option Seen) → option_map sight_of (cond t (Some seen) old) ≡ cond t (Some (sight_of seen)) (option_map sight_of old)
+map_step true seen old = refl
+map_step false seen old = refl
+
+module _ (limits : Limits) (core : Core) (sessions : List (List ℕ × Seen)) (p : Play) (at : Plays limits core sessions p) where
+  -- the machine's turn, over the play
+  pub turn-at : (step : machine.Step Operation Query) (t : machine.Turn Operation (Unit {0}) Answer) → turn counters core.limits core.history step ≡ t → turn counters limits p.moves step ≡ t
+  turn-at step t is = ap (λ m. turn counters limits m step) (sym at.history) ∙ ap (λ l. turn counters l core.history step) (sym at.limits_are) ∙ is
+
+  -- after a move of the core
+  pub plays-more : (new : Core) (made : History) → new.limits ≡ core.limits → new.history ≡ core.history ++ made → Plays limits new sessions (record { moves = p.moves ++ made; sessions = p.sessions })
+  plays-more new made same grown = record { limits_are = same ∙ at.limits_are; history = grown ∙ ap (λ h. h ++ made) at.history; sights = at.sights }
+
+  -- with no move
+  pub plays-still : Plays limits core sessions (record { moves = p.moves ++ []; sessions = p.sessions })
+  plays-still = record { limits_are = at.limits_are; history = at.history ∙ sym (append-nil p.moves); sights = at.sights }
+
+  -- a session came to see a look
+  pub plays-put : (new : List (List ℕ × Seen)) (session : List ℕ) (seen : Seen) (sight : Sight) → Puts sessions new session seen → sight_of seen ≡ sight
+      → Plays limits core new (record { moves = p.moves; sessions = (record { name = session; sight = sight }) ∷ p.sessions })
+  plays-put new session seen sight puts same = record {
+    limits_are = at.limits_are;
+    history = at.history;
+    sights = λ name.
+        ap (option_map sight_of) (puts name) ∙ map_step (is_eq (slice_cmp nat_cmp session name)) seen (session_named sessions name)
+        ∙ ap (λ t. cond t (Some (sight_of seen)) (option_map sight_of (session_named sessions name))) (is_eq-slice_cmp session name)
+        ∙ ap (λ s. cond (bytes_eq session name) (Some s) (option_map sight_of (session_named sessions name))) same
+        ∙ ap (cond (bytes_eq session name) (Some sight)) (at.sights name);
+  }
+
+-- a line or a step was told so
+pub tells-by : (limits : Limits) (new : EngineView) (old_out new_out : List ℕ) (told it : Told) → told ≡ it → IsAt limits new it.after → new_out ≡ old_out ++ it.text
+    → IsAt limits new told.after × (new_out ≡ old_out ++ told.text)
+tells-by limits new old_out new_out told it is after text = (subst (IsAt limits new) (sym (ap (λ t. t.after) is)) after, text ∙ ap (λ t. old_out ++ t.text) (sym is))

@@ -1,0 +1,83 @@
+-- The play of the machine that an engine stands for.
+use Rattle.std.specs.Prelude.{◌≡◌, ℕ, List, [], ◌++◌, Some, if◌then◌else◌}
+use Rattle.std.specs.declared.option.Option.{Option}
+use Rattle.std.specs.Option.{option_map}
+use Rattle.std.specs.Map.{lookup}
+use Rattle.std.specs.Ordering.{nat_cmp, is_eq}
+use Rattle.std.specs.Cmp.Lexicographic.{slice_cmp}
+use mathlib.Core.List.{IsPrefix}
+use Rattle.branch_names.specs.declared.limits.Limits.{Limits}
+use Rattle.branch_names.specs.Heads.{head_of}
+use Rattle.branch_history.specs.History.{store_of}
+use Rattle.branch_history.specs.declared.moves.Move.{Move}
+use Rattle.store_core.specs.Views.{CoreView, SeenView}
+use Rattle.store_core.specs.declared.answers.Kind.{Kind}
+use Rattle.store_core.specs.declared.answers.Kind.TheVariants as kind
+use Rattle.branch_print.specs.Texts.{landed_text}
+use Rattle.branch_engine.specs.Sessions.{Sight, seen_by}
+use Rattle.branch_engine.specs.Play.{Operation, Play, Told}
+
+-- what a core and a look of the engine are
+abbrev pub Core : Type 0
+Core = CoreView (Move Operation (Unit {0}))
+
+abbrev pub Seen : Type 0
+Seen = SeenView (Move Operation (Unit {0}))
+
+-- an engine: its core, and the look of each session by name
+pub record EngineView : Type 0 where
+  pub core : Core
+  pub sessions : List (List ℕ × Seen)
+
+-- what the table of sessions has for a name
+abbrev pub session_named : List (List ℕ × Seen) → List ℕ → Option Seen
+session_named entries name = lookup (λ other. is_eq (slice_cmp nat_cmp name other)) entries
+
+abbrev pub sight_of : Seen → Sight
+sight_of seen = record { branch = seen.branch; head = seen.head }
+
+-- each session's look is at a beginning of the core's history, under its limits
+abbrev pub AreLooksAt : Core → List (List ℕ × Seen) → Type 0
+AreLooksAt core sessions = (name : List ℕ) (seen : Seen) → session_named sessions name ≡ Some seen → IsPrefix seen.history core.history × (seen.limits ≡ core.limits)
+
+-- a session came to see this look, and the others see what they saw
+abbrev pub Puts : List (List ℕ × Seen) → List (List ℕ × Seen) → List ℕ → Seen → Type 0
+Puts old new session seen = (name : List ℕ) → session_named new name ≡ (if is_eq (slice_cmp nat_cmp session name) then Some seen else session_named old name)
+
+-- a look at the head of this branch of a core
+pub record IsLookAt (core : Core) (branch : ℕ) (seen : Seen) : Type 0 where
+  pub history : seen.history ≡ core.history
+  pub limits_are : seen.limits ≡ core.limits
+  pub branch_is : seen.branch ≡ branch
+  pub head_is : seen.head ≡ head_of (store_of core.history).branches branch
+
+-- a session came to see the head of this branch
+abbrev pub SeesHead : EngineView → EngineView → List ℕ → ℕ → Type 0
+SeesHead old new session branch = (seen : Seen) × Puts old.sessions new.sessions session seen × IsLookAt old.core branch seen
+
+-- the core has the play's history, and each session's look gives what the session sees
+pub record Plays (limits : Limits) (core : Core) (sessions : List (List ℕ × Seen)) (p : Play) : Type 0 where
+  pub limits_are : core.limits ≡ limits
+  pub history : core.history ≡ p.moves
+  pub sights : (name : List ℕ) → option_map sight_of (session_named sessions name) ≡ seen_by p.sessions name
+
+-- the engine stands for a play, under these limits
+abbrev pub IsAt : Limits → EngineView → Play → Type 0
+IsAt limits engine p = Plays limits engine.core engine.sessions p
+
+-- where the engine stood for a play, it stands for what a line or step told leaves of it, and the text was added
+abbrev pub Tells : (Limits → Play → Told) → EngineView → EngineView → List ℕ → List ℕ → Type 0
+Tells told old new old_out new_out =
+    (limits : Limits) (p : Play) → IsAt limits old p → IsAt limits new (told limits p).after × (new_out ≡ old_out ++ (told limits p).text)
+
+-- an operation landed
+abbrev pub IsOperation : {R : Type 0} → Kind R → Type 0
+IsOperation (kind.Operation commit time reply) = Unit {0}
+IsOperation (kind.Merged commit) = ⊥
+IsOperation (kind.Forward commit) = ⊥
+
+-- the text of what landed
+abbrev pub kind_text : {R : Type 0} → Kind R → List ℕ
+kind_text (kind.Operation commit time reply) = landed_text commit time
+kind_text (kind.Merged commit) = []
+kind_text (kind.Forward commit) = []

@@ -1,0 +1,119 @@
+-- The machine runs the lines of a script, with what each named session sees.
+use Rattle.std.specs.Prelude.{ℕ, ℤ, List, [], ◌∷◌, ◌++◌, Result, Ok, Err, Some, None}
+use Rattle.std.specs.declared.option.Option.{Option}
+use Rattle.mrdt_model.specs.Laws.{Meaning}
+use Rattle.mrdt_counter.specs.declared.counter.CounterOp.{CounterOp}
+use Rattle.mrdt_counter.specs.declared.counter.CounterQuery.{CounterQuery}
+use Rattle.mrdt_counter.specs.Counter.{counter_meaning}
+use Rattle.mrdt_map.specs.declared.map.OnKey.{OnKey}
+use Rattle.mrdt_map.specs.declared.map.MapQuery.{MapQuery}
+use Rattle.mrdt_map.specs.declared.map.MapAnswer.{MapAnswer}
+use Rattle.mrdt_map.specs.Keyed.{map_meaning}
+use Rattle.branch_names.specs.declared.limits.Limits.{Limits}
+use Rattle.branch_history.specs.declared.moves.Move.{Move}
+use Rattle.branch_names.specs.Heads.{name_of}
+use Rattle.branch_history.specs.History.{store_of}
+use Rattle.branch_history.specs.Steps as machine
+use Rattle.branch_history.specs.Machine.{turn}
+use Rattle.branch_script.specs.declared.step.Step.{Step}
+use Rattle.branch_script.specs.declared.step.Step.TheVariants.{Look, Fork, Do, Ask}
+use Rattle.branch_script.specs.declared.step.LineRefusal.{LineRefusal}
+use Rattle.branch_script.specs.Script.{step_of}
+use Rattle.branch_print.specs.Texts.{outcome_text, line_refusal_text, unseen_text, line_end}
+use Rattle.branch_engine.specs.Sessions.{Sight, Session, seen_by}
+
+abbrev pub Operation : Type 0
+Operation = OnKey CounterOp
+
+abbrev pub Query : Type 0
+Query = MapQuery CounterQuery
+
+abbrev pub Answer : Type 0
+Answer = MapAnswer ℤ
+
+abbrev pub History : Type 0
+History = List (Move Operation (Unit {0}))
+
+-- what a map of counters means
+abbrev pub counters : Meaning (List (List ℕ × ℤ)) Operation (Unit {0}) Query Answer
+counters = map_meaning counter_meaning
+
+-- the history so far, and what sessions came to see, the newest first
+pub record Play : Type 0 where
+  pub moves : History
+  pub sessions : List Session
+
+-- the text that a line is answered with, and the play after it
+pub record Told : Type 0 where
+  pub text : List ℕ
+  pub after : Play
+
+-- after a look, or a move of its own on the branch of this number, a session sees the head that it gave
+abbrev pub sight_after : ℕ → machine.Outcome Answer (Unit {0}) → Option Sight
+sight_after branch (machine.Sees number head) = Some (record { branch = number; head = head })
+sight_after branch (machine.Landed commit time reply) = Some (record { branch = branch; head = commit })
+sight_after branch (machine.Merged commit) = Some (record { branch = branch; head = commit })
+sight_after branch (machine.Forwarded commit) = Some (record { branch = branch; head = commit })
+sight_after branch outcome = None
+
+-- a session that came to see something, or sees what it saw
+abbrev pub with_sight : List Session → List ℕ → Option Sight → List Session
+with_sight sessions name None = sessions
+with_sight sessions name (Some sight) = (record { name = name; sight = sight }) ∷ sessions
+
+-- a text alone
+abbrev pub says : Play → List ℕ → Told
+says p text = record { text = text ++ line_end; after = p }
+
+-- a turn of the machine for a session, on the branch of this number and name
+abbrev pub told : Play → List ℕ → ℕ → List ℕ → machine.Turn Operation (Unit {0}) Answer → Told
+told p session number branch t = record {
+  text = outcome_text session branch t.outcome ++ line_end;
+  after = record { moves = p.moves ++ t.made; sessions = with_sight p.sessions session (sight_after number t.outcome) };
+}
+
+-- an operation of a session, given what it sees
+abbrev pub do_told : Limits → Play → List ℕ → Operation → Option Sight → Told
+do_told limits p session op None = says p (unseen_text session)
+do_told limits p session op (Some sight) =
+    told p session sight.branch (name_of (store_of p.moves).branches sight.branch) (turn counters limits p.moves (machine.Land sight.branch sight.head op))
+
+-- a query at a branch, given the outcome of a look at it: it is asked at the head
+abbrev pub ask_told : Limits → Play → List ℕ → Query → machine.Outcome Answer (Unit {0}) → Told
+ask_told limits p branch query (machine.Sees number head) = says p (outcome_text [] branch (turn counters limits p.moves (machine.Ask head query)).outcome)
+ask_told limits p branch query outcome = says p (outcome_text [] branch outcome)
+
+unfoldable pub step_told : Limits → Play → Step → Told
+step_told limits p (Look session branch) = told p session 0 branch (turn counters limits p.moves (machine.Look branch))
+step_told limits p (Fork new from) = told p [] 0 new (turn counters limits p.moves (machine.Fork new from))
+step_told limits p (Do session op) = do_told limits p session op (seen_by p.sessions session)
+step_told limits p (Ask branch query) = ask_told limits p branch query (turn counters limits p.moves (machine.Look branch)).outcome
+
+-- an empty line or a comment is not answered; another line is, also where it is no step
+abbrev pub read_told : Limits → Play → Result (Option Step) LineRefusal → Told
+read_told limits p (Ok None) = record { text = []; after = p }
+read_told limits p (Ok (Some step)) = step_told limits p step
+read_told limits p (Err refusal) = says p (line_refusal_text refusal)
+
+abbrev pub line_told : Limits → Play → List ℕ → Told
+line_told limits p line = read_told limits p (step_of line)
+
+-- the text of lines, from a play on, and the play after them
+abbrev pub text_from : Limits → Play → List (List ℕ) → List ℕ
+text_from limits p [] = []
+text_from limits p (line ∷ lines) = (line_told limits p line).text ++ text_from limits (line_told limits p line).after lines
+
+abbrev pub after_from : Limits → Play → List (List ℕ) → Play
+after_from limits p [] = p
+after_from limits p (line ∷ lines) = after_from limits (line_told limits p line).after lines
+
+-- a play over a history, in which no session has looked
+abbrev pub begins : History → Play
+begins moves = record { moves = moves; sessions = [] }
+
+-- the text of lines over a history, and the history after them
+unfoldable pub text_of : Limits → History → List (List ℕ) → List ℕ
+text_of limits moves lines = text_from limits (begins moves) lines
+
+unfoldable pub after_lines : Limits → History → List (List ℕ) → History
+after_lines limits moves lines = (after_from limits (begins moves) lines).moves

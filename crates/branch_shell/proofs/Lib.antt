@@ -1,0 +1,5 @@
+pub mod Pieces
+pub mod Cuts
+pub mod Told
+pub mod FirstEnd
+pub mod Ends

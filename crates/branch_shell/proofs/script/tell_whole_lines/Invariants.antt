@@ -1,0 +1,18 @@
+use Rattle.std.proofs.Common.{◌≡◌, ◌≤◌, ◌++◌, List, ℕ, length}
+use Rattle.branch_script.specs.Lines.{lines_of}
+use Rattle.branch_shell.specs.Reading.{IsWholeLines, AreShort}
+use Rattle.branch_shell.specs.Telling.{TellsLines}
+use Rattle.branch_shell.proofs.script.tell_whole_lines.Given as goal
+
+abbrev pub invariant-loop-line : goal.invariant-loop-line
+invariant-loop-line g l = record {
+  done : List ℕ;
+  parts : l.bytes ≡ done ++ l.rest;
+  ended : IsWholeLines done;
+  short : AreShort (lines_of done);
+  told : TellsLines (lines_of done) l.initial.engine l.engine (g.K.Sink.given l.initial.sink) (g.K.Sink.given l.sink);
+  later : g.K.Sink.faults l.initial.sink ≤ g.K.Sink.faults l.sink;
+}
+
+abbrev pub decreases-loop-line : goal.decreases-loop-line
+decreases-loop-line g l = length l.rest

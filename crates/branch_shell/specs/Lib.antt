@@ -1,0 +1,4 @@
+pub mod Reading
+pub mod Statuses
+pub mod StatusNumbers
+pub mod Telling

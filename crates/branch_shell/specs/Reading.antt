@@ -1,0 +1,22 @@
+-- The part of an input that was told line by line.
+use Rattle.std.specs.Prelude.{◌≡◌, ℕ, ◌<◌, ◌⊎◌, List, [], ◌∷◌, ◌++◌, length, false, nat_eq}
+use Rattle.std.specs.List.{AllByRecursion, list_any}
+use Rattle.branch_script.specs.Lines.{lines_of}
+
+-- nothing, or bytes of which the last ends a line
+abbrev pub IsWholeLines : List ℕ → Type 0
+IsWholeLines bytes = (bytes ≡ []) ⊎ ((front : List ℕ) × (bytes ≡ front ++ 10 ∷ []))
+
+abbrev pub HasNoLineEnd : List ℕ → Type 0
+HasNoLineEnd bytes = list_any (λ b. nat_eq b 10) bytes ≡ false
+
+-- each line has fewer than 4,096 bytes
+abbrev pub AreShort : List (List ℕ) → Type 0
+AreShort lines = AllByRecursion (λ line. length line < 4096) lines
+
+-- an input is some whole lines, all short, and the beginning of a line
+pub record IsCut (input whole rest : List ℕ) : Type 0 where
+  pub parts : input ≡ whole ++ rest
+  pub ended : IsWholeLines whole
+  pub unended : HasNoLineEnd rest
+  pub short : AreShort (lines_of whole)

@@ -1,0 +1,11 @@
+//! The commands of the store, from the words of the command line to a status.
+#![tactic(auto)]
+
+mod script;
+pub mod status;
+#[cfg(test)]
+mod tests;
+pub mod top;
+
+pub use status::Status;
+pub use top::run;

@@ -1,0 +1,128 @@
+// Scripts through the top call.
+use crate::{Status, run};
+use branch_io::{MemorySink, MemorySource};
+use std::alloc::Global;
+use std::test::Fail;
+
+// What a run over these bytes answers and writes; the listed calls of the source and of the sink fail.
+fn played(
+    alloc: Global,
+    input: &[u8],
+    source_fails: &[u64],
+    sink_fails: &[u64],
+) -> Result<(Status, Vec<u8>), Fail> {
+    let words = vec![in alloc; String::from_str(alloc, "script")?]?;
+    let mut source = MemorySource::new(input.to_vec(alloc)?, 16, source_fails.to_vec(alloc)?);
+    let mut sink = MemorySink::new(sink_fails.to_vec(alloc)?);
+    let status = run(alloc, &words, &mut source, &mut sink);
+    Ok((status, sink.bytes().to_vec(alloc)?))
+}
+
+#[test]
+fn scripts_and_their_replies(rt: HostRuntime) -> Result<(), Fail> {
+    let rows: [(&[u8], &[u8]); 9] = [
+        (b"", b""),
+        (b"ask main counter c value", b"0\n"),
+        (
+            b"look a main\ndo a counter hits add 5\nask main counter hits value\n",
+            b"a sees main at #0\nlanded #1 at 1.0\n5\n",
+        ),
+        (
+            b"fork l main\nfork r main\nlook a l\ndo a counter c add 3\nlook b r\ndo b counter c add -4\nask l counter c value\nask r counter c value\n",
+            b"forked l as 1 at #0\nforked r as 2 at #0\na sees l at #0\nlanded #1 at 1.1\nb sees r at #0\nlanded #2 at 1.2\n3\n-4\n",
+        ),
+        (
+            b"look a main\nlook b main\ndo a counter c add 1\ndo b counter c add 1\nlook b main\ndo b counter c add 1\nask main counter c value\n",
+            b"a sees main at #0\nb sees main at #0\nlanded #1 at 1.0\nstale main at #1\nb sees main at #1\nlanded #2 at 2.0\n2\n",
+        ),
+        (
+            b"look a main\ndo a counter c add 9223372036854775807\ndo a counter c add 9223372036854775807\nask main counter c value\n",
+            b"a sees main at #0\nlanded #1 at 1.0\nlanded #2 at 2.0\n18446744073709551614\n",
+        ),
+        (
+            b"ask nope counter c value\nfork main main\nfork main nope\n",
+            b"error unknown nope\nerror taken 0\nerror unknown nope\n",
+        ),
+        (
+            b"look\nlook A main\ndo a counter c add 01\ndo a counter c add 1\n\n# x\n",
+            b"error syntax\nerror name\nerror number\nerror unseen a\n",
+        ),
+        (
+            b"look a main\ndo a counter v add -9223372036854775808\ndo a counter u add 0\nask main counter keys\nask main counter v value",
+            b"a sees main at #0\nlanded #1 at 1.0\nlanded #2 at 2.0\n[2] u v\n-9223372036854775808\n",
+        ),
+    ];
+    for (input, output) in rows.iter() {
+        let (status, text) = played(rt.alloc(), input, &[], &[])?;
+        assert_eq!(rt; status, Status::Done);
+        assert_eq!(rt; text.as_slice(), *output);
+    }
+    Ok(())
+}
+
+#[test]
+fn lines_and_their_length(rt: HostRuntime) -> Result<(), Fail> {
+    let alloc = rt.alloc();
+    let mut line = Vec::new(alloc);
+    for _ in 0..4095 {
+        line.push(b'x')?;
+    }
+    let (status, text) = played(alloc, &line, &[], &[])?;
+    assert_eq!(rt; status, Status::Done);
+    assert_eq!(rt; text.as_slice(), b"error syntax\n".as_slice());
+    line.push(b'x')?;
+    let (status, text) = played(alloc, &line, &[], &[])?;
+    assert_eq!(rt; status, Status::LineTooLong);
+    assert_eq!(rt; text.len(), 0);
+    Ok(())
+}
+
+#[test]
+fn faults_in_mid_stream(rt: HostRuntime) -> Result<(), Fail> {
+    let alloc = rt.alloc();
+    let (status, text) = played(alloc, b"look a main\nlo", &[2], &[])?;
+    assert_eq!(rt; status, Status::ReadFault);
+    assert_eq!(rt; text.as_slice(), b"a sees main at #0\n".as_slice());
+    let (status, text) = played(alloc, b"look a main\nlook b main\n", &[], &[2])?;
+    assert_eq!(rt; status, Status::WriteFault);
+    assert_eq!(rt; text.as_slice(), b"a sees main at #0\n".as_slice());
+    let (status, _) = played(alloc, b"", &[], &[1])?;
+    assert_eq!(rt; status, Status::WriteFault);
+    Ok(())
+}
+
+#[test]
+fn words_that_are_no_command(rt: HostRuntime) -> Result<(), Fail> {
+    let alloc = rt.alloc();
+    for words in [
+        vec![in alloc]?,
+        vec![in alloc; String::from_str(alloc, "scripts")?]?,
+        vec![in alloc;
+            String::from_str(alloc, "script")?,
+            String::from_str(alloc, "x")?,
+        ]?,
+    ] {
+        let mut source = MemorySource::new(b"look a main\n".to_vec(alloc)?, 16, vec![in alloc]?);
+        let mut sink = MemorySink::new(vec![in alloc]?);
+        let status = run(alloc, &words, &mut source, &mut sink);
+        assert_eq!(rt; status, Status::Usage);
+        assert_eq!(rt; sink.bytes().len(), 0);
+    }
+    Ok(())
+}
+
+#[test]
+fn numbers_of_statuses(rt: HostRuntime) {
+    let rows = [
+        (Status::Done, 0),
+        (Status::Usage, 1),
+        (Status::ReadFault, 4),
+        (Status::WriteFault, 5),
+        (Status::LineTooLong, 6),
+        (Status::InputTooLong, 7),
+        (Status::Memory, 8),
+    ];
+    for (status, number) in rows {
+        assert_eq!(rt; status.number(), number);
+    }
+}
