@@ -1,0 +1,6 @@
+pub mod Entries
+pub mod Payloads
+pub mod Spelling
+pub mod Effects
+pub mod Walks
+pub mod Reading

@@ -1,0 +1,90 @@
+// Live sets as bytes: a count, and that many times and payloads.
+ghost use Rattle.std.specs.Prelude.{◌≡◌, ◌++◌, List, ℕ, IfOk, OnOk, OnErr, IsErrOf};
+ghost use Rattle.mrdt_model.specs.Spelled.{AppendsPart};
+ghost use Rattle.live_set.specs.declared.kept.Kept.{Kept as SpecKept};
+ghost use Rattle.live_set.specs.Entries.{kept_times, AllBefore};
+ghost use Rattle.live_set.specs.Spelling.{kept_spelling, live_spelling, KeptFits, AreLive, IsLiveSpelling};
+ghost use Rattle.live_set.specs.Reading.{TakesKept};
+
+use crate::kept::Kept;
+use crate::live::Live;
+use crate::payload::Payload;
+use branch_wire::{Cursor, put_time, put_u64};
+use mrdt_model::{Memory, Unread};
+use std::alloc::Global;
+
+// Writes a time, and its payload.
+fn put_kept<V: Payload>(kept: &Kept<V>, out: &mut Vec<u8>) -> Result<(), Memory>
+    ensures ok { OnOk result (out.new.items ≡ out.old.items ++ kept_spelling V.spelling kept.now) }
+    ensures err { OnErr result (AppendsPart out.old.items out.new.items (kept_spelling V.spelling kept.now)) }
+{
+    put_time(kept.time, out)?;
+    kept.payload.put(out)
+}
+
+// Takes an entry that is later than all others, and puts it behind them.
+fn take_kept<V: Payload>(
+    alloc: Global,
+    cursor: &mut Cursor<'_>,
+    live: &mut Live<V>,
+) -> Result<(), Unread>
+    ensures ok { OnOk result (TakesKept V.fits V.spelling cursor.old live.old cursor.new live.new) }
+    ensures outside { IsErrOf result Unread.NotCanonical → (kept : SpecKept V) (rest : List ℕ) → KeptFits V.fits kept → AllBefore (kept_times live.old) kept.time → cursor.old ≡ kept_spelling V.spelling kept ++ rest → ⊥ }
+{
+    let time = cursor.take_time()?;
+    let payload = V::take(alloc, cursor)?;
+    if live.ends_before(time) {
+        Ok(live.add(time, payload)?)
+    } else {
+        Err(Unread::NotCanonical)
+    }
+}
+
+impl<V: Payload> Live<V> {
+    /// Writes the count of the payloads, and the time and the spelling of each, by rising time, at the end of
+    /// `out`; after `Memory`, a first part of that.
+    pub fn put(&self, out: &mut Vec<u8>) -> Result<(), Memory>
+        ensures ok { OnOk result (out.new.items ≡ out.old.items ++ live_spelling V.spelling self.now) }
+        ensures err { OnErr result (AppendsPart out.old.items out.new.items (live_spelling V.spelling self.now)) }
+    {
+        let entries = self.items();
+        put_u64(entries.len() as u64, out)?;
+        for kept in entries {
+            put_kept(kept, out)?;
+        }
+        Ok(())
+    }
+
+    /// Takes a live set that is spelled at the front. `NotCanonical` comes exactly where none is: times rise,
+    /// and as many follow as the count says.
+    pub fn take(alloc: Global, cursor: &mut Cursor<'_>) -> Result<Live<V>, Unread>
+        ensures known { IfOk result (AreLive V.fits) }
+        ensures ok { IfOk result (λ live. cursor.old ≡ live_spelling V.spelling live ++ cursor.new) }
+        ensures outside { IsErrOf result Unread.NotCanonical → (entries : List (SpecKept V)) (rest : List ℕ) → AreLive V.fits entries → cursor.old ≡ live_spelling V.spelling entries ++ rest → ⊥ }
+    {
+        let count = cursor.take_u64()?;
+        let mut live = Live::new(alloc);
+        for _index in 0..count {
+            take_kept(alloc, cursor, &mut live)?;
+        }
+        Ok(live)
+    }
+
+    /// Reads a live set whose spelling is the whole of the bytes. `NotCanonical` comes exactly where they are
+    /// none.
+    pub fn get(alloc: Global, bytes: &[u8]) -> Result<Live<V>, Unread>
+        ensures spelled { IfOk result (λ live. live_spelling V.spelling live ≡ bytes.now) }
+        ensures known { IfOk result (AreLive V.fits) }
+        ensures equal { IfOk result (λ live. (entries : List (SpecKept V)) → AreLive V.fits entries → live_spelling V.spelling entries ≡ bytes.now → live ≡ entries) }
+        ensures inside { OnOk result (IsLiveSpelling V.fits V.spelling bytes.now) }
+        ensures outside { IsErrOf result Unread.NotCanonical → ¬ IsLiveSpelling V.fits V.spelling bytes.now }
+    {
+        let mut cursor = Cursor::new(bytes);
+        let live = Live::take(alloc, &mut cursor)?;
+        if cursor.is_at_end() {
+            Ok(live)
+        } else {
+            Err(Unread::NotCanonical)
+        }
+    }
+}

@@ -1,0 +1,4 @@
+pub mod Log
+pub mod Appends
+pub mod Texts
+pub mod LogLaws

@@ -1,0 +1,4 @@
+pub mod Queue
+pub mod Texts
+pub mod Content
+pub mod QueueLaws

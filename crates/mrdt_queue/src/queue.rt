@@ -1,0 +1,239 @@
+// The queue and its laws.
+ghost use Rattle.std.specs.Prelude.{◌≡◌, ◌++◌, ◌∷◌, ◌↔◌, [], length, reverse, IsTrue, IfOk};
+ghost use Rattle.std.specs.Option.{option_copied};
+ghost use Rattle.live_set.specs.Entries.{kept_times, IsRising, AllBefore};
+ghost use Rattle.mrdt_queue.specs.Queue.{IsReply, TakesFirst, first_of, reply_to};
+
+use crate::entries::{copies, copy_of, live_of, push_copies, reversed, take_first};
+use crate::op::{QueueAnswer, QueueOp, QueueQuery, QueueReply};
+use crate::spelling::{get_op, get_reply, put_op, put_reply};
+use live_set::{Kept, Live};
+use mrdt_model::{Bytes, Listing, Memory, Mrdt, Time, Unread};
+use std::alloc::Global;
+use std::marker::Model;
+
+/// Payloads with the times of their enqueues. Contracts see them by rising time, which is the order in which
+/// they are dequeued.
+#[derive(Drop)]
+pub struct Queue {
+    alloc: Global,
+    // The last one is the first of the queue.
+    front: Vec<Kept<Bytes>>,
+    // Behind the front, the last one behind all others.
+    back: Vec<Kept<Bytes>>,
+}
+
+impl Model for Queue {
+    ghost use Rattle.std.specs.Prelude.{List, ℕ, reverse, ◌++◌};
+    ghost use Rattle.live_set.specs.declared.kept.Kept.{Kept};
+    ghost use Rattle.live_set.specs.Entries.{kept_times, IsRising};
+
+    ghost Value = { List (Kept (List ℕ)) };
+
+    ghost view = { λ q. reverse q.front.items ++ q.back.items };
+
+    ghost invariant = { λ q. IsRising (kept_times (reverse q.front.items ++ q.back.items)) };
+}
+
+impl Queue {
+    /// The number of the payloads.
+    pub fn length(&self) -> u64
+        ensures { result ≡ length self.now }
+    {
+        self.front.len() as u64 + self.back.len() as u64
+    }
+
+    // Copies of the payloads, the first one first.
+    fn content(&self) -> Result<Vec<Kept<Bytes>>, Memory>
+        ensures items { IfOk result (λ list. list.items ≡ self.now) }
+        ensures rising { IfOk result (λ list. IsRising (kept_times list.items)) }
+    {
+        let mut list = reversed(self.alloc, &self.front)?;
+        push_copies(&mut list, &self.back)?;
+        Ok(list)
+    }
+
+    // The payloads as a live set.
+    fn as_live(&self) -> Result<Live<Bytes>, Memory>
+        ensures { IfOk result (λ live. live ≡ self.now) }
+    {
+        live_of(self.alloc, self.content()?.as_slice())
+    }
+
+    // A queue of the payloads of a live set, all in its front.
+    fn of_live(alloc: Global, live: &Live<Bytes>) -> Result<Queue, Memory>
+        ensures { IfOk result (λ queue. queue ≡ live.now) }
+    {
+        let front = reversed(alloc, live.items())?;
+        Ok(Queue {
+            alloc,
+            front,
+            back: Vec::new(alloc),
+        })
+    }
+
+    // The same payloads.
+    fn same(&self) -> Result<Queue, Memory>
+        ensures { IfOk result (λ queue. queue ≡ self.now) }
+    {
+        Ok(Queue {
+            alloc: self.alloc,
+            front: copies(self.alloc, &self.front)?,
+            back: copies(self.alloc, &self.back)?,
+        })
+    }
+
+    // The first payload.
+    fn first(&self) -> Option<&Kept<Bytes>>
+        ensures { option_copied result ≡ first_of self.now }
+    {
+        match self.front.split_last() {
+            Some((kept, _)) => Some(kept),
+            None => self.back.first(),
+        }
+    }
+
+    // Whether all times are before this one.
+    fn ends_before(&self, time: Time) -> bool
+        ensures { IsTrue result ↔ AllBefore (kept_times self.now) time }
+    {
+        match self.back.split_last() {
+            Some((kept, _)) => kept.time.is_before(time),
+            None => match self.front.split_first() {
+                Some((kept, _)) => kept.time.is_before(time),
+                None => true,
+            },
+        }
+    }
+
+    // The queue with a payload behind all others, where its time is after theirs. Else nothing changes.
+    fn enqueued(&self, time: Time, payload: &Bytes) -> Result<Queue, Memory>
+        ensures { IfOk result (λ queue. AllBefore (kept_times self.now) time → queue ≡ self.now ++ record { time = time; payload = payload.now } ∷ []) }
+    {
+        if !self.ends_before(time) {
+            return self.same();
+        }
+        let front = copies(self.alloc, &self.front)?;
+        let mut back = copies(self.alloc, &self.back)?;
+        back.push(Kept {
+            time,
+            payload: payload.copy()?,
+        })?;
+        Ok(Queue {
+            alloc: self.alloc,
+            front,
+            back,
+        })
+    }
+
+    // The queue without its first payload, and that one.
+    fn dequeued(&self) -> Result<(Queue, Option<Kept<Bytes>>), Memory>
+        ensures { IfOk result (λ made. TakesFirst self.now made.1 made.0) }
+    {
+        let mut front = copies(self.alloc, &self.front)?;
+        let mut back = copies(self.alloc, &self.back)?;
+        let first = take_first(&mut front, &mut back);
+        let queue = Queue {
+            alloc: self.alloc,
+            front,
+            back,
+        };
+        Ok((queue, first))
+    }
+}
+
+// What a dequeue replies that found this payload first.
+fn reply_of_dequeue(first: Option<Kept<Bytes>>) -> QueueReply
+    ensures value { result ≡ reply_to first }
+    ensures known { IsReply result }
+{
+    match first {
+        Some(kept) => {
+            kept.payload.known();
+            QueueReply::Took(kept)
+        }
+        None => QueueReply::Nothing,
+    }
+}
+
+impl Mrdt for Queue {
+    ghost use Rattle.mrdt_queue.specs.Queue.{queue_meaning};
+    ghost use Rattle.mrdt_queue.specs.QueueLaws.{queue_laws};
+
+    type Op = QueueOp;
+
+    type Query = QueueQuery;
+
+    type Answer = QueueAnswer;
+
+    type Reply = QueueReply;
+
+    ghost meaning = { queue_meaning };
+
+    fn initial(alloc: Global) -> Queue {
+        Queue {
+            alloc,
+            front: Vec::new(alloc),
+            back: Vec::new(alloc),
+        }
+    }
+
+    fn copy(&self) -> Result<Queue, Memory> {
+        self.same()
+    }
+
+    fn apply(&self, op: &QueueOp, time: Time) -> Result<(Queue, QueueReply), Memory> {
+        match op {
+            QueueOp::Enqueue(payload) => {
+                payload.known();
+                Ok((self.enqueued(time, payload)?, QueueReply::Enqueued))
+            }
+            QueueOp::Dequeue => {
+                let (queue, first) = self.dequeued()?;
+                Ok((queue, reply_of_dequeue(first)))
+            }
+        }
+    }
+
+    fn merge(base: &Queue, left: &Queue, right: &Queue) -> Result<Queue, Memory> {
+        let merged = Live::merge(&base.as_live()?, &left.as_live()?, &right.as_live()?)?;
+        Queue::of_live(left.alloc, &merged)
+    }
+
+    fn answer(&self, query: &QueueQuery) -> Result<QueueAnswer, Memory> {
+        match query {
+            QueueQuery::Peek => match self.first() {
+                Some(kept) => Ok(QueueAnswer::OnFirst(Some(copy_of(kept)?))),
+                None => Ok(QueueAnswer::OnFirst(None)),
+            },
+            QueueQuery::Items => Ok(QueueAnswer::OnItems(Listing::from_vec(self.content()?))),
+            QueueQuery::Length => Ok(QueueAnswer::OnLength(self.length())),
+        }
+    }
+
+    fn put(&self, out: &mut Vec<u8>) -> Result<(), Memory> {
+        self.as_live()?.put(out)
+    }
+
+    fn get(alloc: Global, bytes: &[u8]) -> Result<Queue, Unread> {
+        Ok(Queue::of_live(alloc, &Live::get(alloc, bytes)?)?)
+    }
+
+    fn put_op(op: &QueueOp, out: &mut Vec<u8>) -> Result<(), Memory> {
+        put_op(op, out)
+    }
+
+    fn get_op(alloc: Global, bytes: &[u8]) -> Result<QueueOp, Unread> {
+        get_op(alloc, bytes)
+    }
+
+    fn put_reply(reply: &QueueReply, out: &mut Vec<u8>) -> Result<(), Memory> {
+        put_reply(reply, out)
+    }
+
+    fn get_reply(alloc: Global, bytes: &[u8]) -> Result<QueueReply, Unread> {
+        get_reply(alloc, bytes)
+    }
+
+    ghost laws = { queue_laws };
+}

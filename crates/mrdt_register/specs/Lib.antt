@@ -1,0 +1,6 @@
+pub mod Sets
+pub mod Lww
+pub mod Tops
+pub mod LwwLaws
+pub mod Multi
+pub mod MultiLaws

@@ -1,0 +1,185 @@
+// The register that keeps the last write, and its laws.
+ghost use Rattle.std.specs.Prelude.{◌≡◌, ◌∷◌, ◌++◌, Option, IfOk, OnOk, OnErr, IsErrOf, List, ℕ};
+ghost use Rattle.mrdt_model.specs.Spelled.{AppendsPart};
+ghost use Rattle.branch_wire.specs.Fields.{time_field, field};
+ghost use Rattle.live_set.specs.declared.kept.Kept.{Kept as SpecKept};
+ghost use Rattle.mrdt_register.specs.Lww.{later, lww_spelling, IsLast};
+
+use crate::op::RegisterOp;
+use branch_wire::{Cursor, put_bytes, put_time};
+use live_set::Kept;
+use mrdt_model::{Bytes, Memory, Mrdt, Time, Unread};
+use std::alloc::Global;
+use std::marker::Model;
+
+const NONE: u8 = 0;
+
+const SET: u8 = 1;
+
+/// The payload that was set at the greatest time, with that time. Contracts see it, if there is one.
+#[derive(Drop)]
+pub struct Lww {
+    last: Option<Kept<Bytes>>,
+}
+
+impl Model for Lww {
+    ghost use Rattle.std.specs.Prelude.{Option, List, ℕ};
+    ghost use Rattle.live_set.specs.declared.kept.Kept.{Kept};
+
+    ghost Value = { Option (Kept (List ℕ)) };
+
+    ghost view = { λ l. l.last };
+}
+
+/// A query of a register that keeps the last write.
+#[derive(Clone, Copy, Debug, PartialEq, Eq)]
+pub enum LwwQuery {
+    /// The payload, if one was set.
+    Get,
+}
+
+// The same payload and time.
+fn copy_of(kept: &Option<Kept<Bytes>>) -> Result<Option<Kept<Bytes>>, Memory>
+    ensures { IfOk result (λ same. same ≡ kept.now) }
+{
+    match kept {
+        Some(kept) => Ok(Some(Kept {
+            time: kept.time,
+            payload: kept.payload.copy()?,
+        })),
+        None => Ok(None),
+    }
+}
+
+// A copy of the one of the greater time; of two of one time, of the left one.
+fn later_of(
+    left: &Option<Kept<Bytes>>,
+    right: &Option<Kept<Bytes>>,
+) -> Result<Option<Kept<Bytes>>, Memory>
+    ensures { IfOk result (λ kept. kept ≡ later left.now right.now) }
+{
+    match (left, right) {
+        (Some(mine), Some(other)) if mine.time.is_before(other.time) => copy_of(right),
+        (None, _) => copy_of(right),
+        _ => copy_of(left),
+    }
+}
+
+// Writes a payload and its time.
+fn put_last(last: &Option<Kept<Bytes>>, out: &mut Vec<u8>) -> Result<(), Memory>
+    ensures ok { OnOk result (out.new.items ≡ out.old.items ++ lww_spelling last.now) }
+    ensures err { OnErr result (AppendsPart out.old.items out.new.items (lww_spelling last.now)) }
+{
+    match last {
+        None => Ok(out.push(NONE)?),
+        Some(kept) => {
+            out.push(SET)?;
+            put_time(kept.time, out)?;
+            put_bytes(kept.payload.as_slice(), out)
+        }
+    }
+}
+
+// Reads a payload and its time that are the whole of the bytes.
+fn get_last(alloc: Global, bytes: &[u8]) -> Result<Kept<Bytes>, Unread>
+    ensures spelled { IfOk result (λ kept. time_field kept.time ++ field kept.payload ≡ bytes.now) }
+    ensures known { IfOk result IsLast }
+    ensures equal { IfOk result (λ kept. (other : SpecKept (List ℕ)) → IsLast other → time_field other.time ++ field other.payload ≡ bytes.now → kept ≡ other) }
+    ensures outside { IsErrOf result Unread.NotCanonical → (other : SpecKept (List ℕ)) → IsLast other → time_field other.time ++ field other.payload ≡ bytes.now → ⊥ }
+{
+    let mut cursor = Cursor::new(bytes);
+    let time = cursor.take_time()?;
+    let payload = Bytes::from_slice(alloc, cursor.take_bytes()?)?;
+    payload.known();
+    if cursor.is_at_end() {
+        Ok(Kept { time, payload })
+    } else {
+        Err(Unread::NotCanonical)
+    }
+}
+
+impl Mrdt for Lww {
+    ghost use Rattle.mrdt_register.specs.Lww.{lww_meaning};
+    ghost use Rattle.mrdt_register.specs.LwwLaws.{lww_laws};
+
+    type Op = RegisterOp;
+
+    type Query = LwwQuery;
+
+    type Answer = Option<Bytes>;
+
+    type Reply = ();
+
+    ghost meaning = { lww_meaning };
+
+    fn initial(_alloc: Global) -> Lww {
+        Lww { last: None }
+    }
+
+    fn copy(&self) -> Result<Lww, Memory> {
+        Ok(Lww {
+            last: copy_of(&self.last)?,
+        })
+    }
+
+    fn apply(&self, op: &RegisterOp, time: Time) -> Result<(Lww, ()), Memory> {
+        let payload = op.payload().copy()?;
+        let lww = Lww {
+            last: Some(Kept { time, payload }),
+        };
+        Ok((lww, ()))
+    }
+
+    fn merge(_base: &Lww, left: &Lww, right: &Lww) -> Result<Lww, Memory> {
+        Ok(Lww {
+            last: later_of(&left.last, &right.last)?,
+        })
+    }
+
+    fn answer(&self, query: &LwwQuery) -> Result<Option<Bytes>, Memory> {
+        match query {
+            LwwQuery::Get => match &self.last {
+                Some(kept) => Ok(Some(kept.payload.copy()?)),
+                None => Ok(None),
+            },
+        }
+    }
+
+    fn put(&self, out: &mut Vec<u8>) -> Result<(), Memory> {
+        put_last(&self.last, out)
+    }
+
+    fn get(alloc: Global, bytes: &[u8]) -> Result<Lww, Unread> {
+        match bytes.split_first() {
+            Some((0, [])) => Ok(Lww { last: None }),
+            Some((1, rest)) => Ok(Lww {
+                last: Some(get_last(alloc, rest)?),
+            }),
+            _ => Err(Unread::NotCanonical),
+        }
+    }
+
+    fn put_op(op: &RegisterOp, out: &mut Vec<u8>) -> Result<(), Memory> {
+        Ok(out.extend_from_slice(op.payload().as_slice())?)
+    }
+
+    fn get_op(alloc: Global, bytes: &[u8]) -> Result<RegisterOp, Unread> {
+        let payload = Bytes::from_slice(alloc, bytes)?;
+        payload.known();
+        Ok(RegisterOp::Set(payload))
+    }
+
+    fn put_reply(_reply: &(), _out: &mut Vec<u8>) -> Result<(), Memory> {
+        Ok(())
+    }
+
+    fn get_reply(_alloc: Global, bytes: &[u8]) -> Result<(), Unread> {
+        if bytes.is_empty() {
+            Ok(())
+        } else {
+            Err(Unread::NotCanonical)
+        }
+    }
+
+    ghost laws = { lww_laws };
+}

@@ -1,0 +1,130 @@
+// The register of several values, and its laws.
+ghost use Rattle.std.specs.Prelude.{◌≡◌, map, IfOk};
+
+use crate::op::RegisterOp;
+use live_set::{Kept, Live};
+use mrdt_model::{Bytes, Listing, Memory, Mrdt, Time, Unread};
+use std::alloc::Global;
+use std::marker::Model;
+
+/// The payloads that no other has replaced, with the times when they were set. Contracts see them by rising
+/// time.
+#[derive(Drop)]
+pub struct Multi {
+    alloc: Global,
+    live: Live<Bytes>,
+}
+
+impl Model for Multi {
+    ghost use Rattle.std.specs.Prelude.{List, ℕ};
+    ghost use Rattle.live_set.specs.declared.kept.Kept.{Kept};
+
+    ghost Value = { List (Kept (List ℕ)) };
+
+    ghost view = { λ m. m.live };
+}
+
+/// A query of a register of several values.
+#[derive(Clone, Copy, Debug, PartialEq, Eq)]
+pub enum MultiQuery {
+    /// The payloads, the one that was set first standing first.
+    Values,
+}
+
+// The payloads of entries.
+fn payloads(alloc: Global, entries: &[Kept<Bytes>]) -> Result<Listing<Bytes>, Memory>
+    ensures { IfOk result (λ list. list ≡ map (λ k. k.payload) entries.now) }
+{
+    let mut list = Vec::new(alloc);
+    for kept in entries {
+        list.push(kept.payload.copy()?)?;
+    }
+    Ok(Listing::from_vec(list))
+}
+
+impl Mrdt for Multi {
+    ghost use Rattle.mrdt_register.specs.Multi.{multi_meaning};
+    ghost use Rattle.mrdt_register.specs.MultiLaws.{multi_laws};
+
+    type Op = RegisterOp;
+
+    type Query = MultiQuery;
+
+    type Answer = Listing<Bytes>;
+
+    type Reply = ();
+
+    ghost meaning = { multi_meaning };
+
+    fn initial(alloc: Global) -> Multi {
+        Multi {
+            alloc,
+            live: Live::new(alloc),
+        }
+    }
+
+    fn copy(&self) -> Result<Multi, Memory> {
+        Ok(Multi {
+            alloc: self.alloc,
+            live: self.live.copy()?,
+        })
+    }
+
+    fn apply(&self, op: &RegisterOp, time: Time) -> Result<(Multi, ()), Memory> {
+        let mut live = Live::new(self.alloc);
+        live.add(time, op.payload().copy()?)?;
+        let multi = Multi {
+            alloc: self.alloc,
+            live,
+        };
+        Ok((multi, ()))
+    }
+
+    fn merge(base: &Multi, left: &Multi, right: &Multi) -> Result<Multi, Memory> {
+        Ok(Multi {
+            alloc: left.alloc,
+            live: Live::merge(&base.live, &left.live, &right.live)?,
+        })
+    }
+
+    fn answer(&self, query: &MultiQuery) -> Result<Listing<Bytes>, Memory> {
+        match query {
+            MultiQuery::Values => Ok(payloads(self.alloc, self.live.items())?),
+        }
+    }
+
+    fn put(&self, out: &mut Vec<u8>) -> Result<(), Memory> {
+        self.live.put(out)
+    }
+
+    fn get(alloc: Global, bytes: &[u8]) -> Result<Multi, Unread> {
+        Ok(Multi {
+            alloc,
+            live: Live::get(alloc, bytes)?,
+        })
+    }
+
+    fn put_op(op: &RegisterOp, out: &mut Vec<u8>) -> Result<(), Memory> {
+        Ok(out.extend_from_slice(op.payload().as_slice())?)
+    }
+
+    fn get_op(alloc: Global, bytes: &[u8]) -> Result<RegisterOp, Unread> {
+        let payload = Bytes::from_slice(alloc, bytes)?;
+        payload.known();
+        Ok(RegisterOp::Set(payload))
+    }
+
+    fn put_reply(_reply: &(), _out: &mut Vec<u8>) -> Result<(), Memory> {
+        Ok(())
+    }
+
+    fn get_reply(_alloc: Global, bytes: &[u8]) -> Result<(), Unread> {
+        if bytes.is_empty() {
+            Ok(())
+        } else {
+            Err(Unread::NotCanonical)
+        }
+    }
+
+    ghost laws = { multi_laws };
+}
