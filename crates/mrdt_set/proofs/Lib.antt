@@ -1,0 +1,4 @@
+pub mod Writing
+pub mod Rebuilt
+pub mod Reading
+pub mod Standing

@@ -1,0 +1,100 @@
+-- The elements of an execution, and what is live of each.
+use Rattle.std.proofs.Common.{◌≡◌, ◌≢◌, ℕ, Bool, true, false, not, cond, ◌&&◌, ◌||◌, None, Some, List, [], ◌∷◌, refl, ◌∙◌, ap, sym, subst, arith, ⊎_elim}
+use Rattle.std.specs.List.{list_any, AllByRecursion}
+use Rattle.std.specs.Map.{keys_of}
+use Rattle.std.specs.List.Sorted.{IsStrictlySortedBy}
+use Rattle.std.proofs.lemmas.Bool.{and_parts, or_cases, or_left, or_right, both_ways}
+use Rattle.mrdt_model.specs.Spelled.{IsBytes}
+use Rattle.mrdt_model.specs.Executions.{Event, IsWellFormed, IsLawful}
+use Rattle.live_set.specs.Effects.{Puts, Removes, Apart, puts, is_removed, has_any, live_of}
+use Rattle.live_set.specs.Payloads.{IsNothing}
+use Rattle.live_set.specs.Spelling.{KeptFits, AreLive}
+use Rattle.live_set.proofs.Lengths.{length-live, each-live}
+use Rattle.live_set.proofs.Standing.{live-rising}
+use Rattle.live_set.proofs.Holding.{holds-live}
+use Rattle.mrdt_set.specs.declared.set.SetOp.{SetOp}
+use Rattle.mrdt_set.specs.declared.set.SetOp.TheVariants.{Add, Remove}
+use Rattle.mrdt_set.specs.Members.{Times, same_element, times_at, some_times}
+use Rattle.mrdt_set.specs.Set.{element_of, set_effect, IsSetOp, IsAnyReply, no_reply, holds, elements, members, set_of}
+use Rattle.mrdt_set.specs.Tables.{cmp, insert-all, insert-sorted, insert-any, filter-all, filter-sorted, filter-any, keys-table, value-table}
+
+abbrev pub Events : Type 0
+Events = List (Event SetOp (Unit {0}))
+
+pub elements-sorted : (x : Events) → IsStrictlySortedBy cmp (elements x)
+unfolding IsStrictlySortedBy
+elements-sorted [] = tt
+elements-sorted (e ∷ x) = insert-sorted (element_of e.operation) (elements x) (elements-sorted x)
+
+elements-any : (q : List ℕ) (x : Events) → list_any (same_element q) (elements x) ≡ list_any (λ e. same_element q (element_of e.operation)) x
+elements-any q [] = refl
+elements-any q (e ∷ x) = insert-any q (element_of e.operation) (elements x) ∙ ap (λ b. same_element q (element_of e.operation) || b) (elements-any q x)
+
+any-more : (f g : Event SetOp (Unit {0}) → Bool) (x : Events) → ((e : Event SetOp (Unit {0})) → f e ≡ true → g e ≡ true) → list_any f x ≡ true → list_any g x ≡ true
+any-more f g [] more h = h
+any-more f g (e ∷ x) more h = ⊎_elim (λ here. or_left (g e) (list_any g x) (more e here)) (λ there. or_right (g e) (list_any g x) (any-more f g x more there)) (or_cases (f e) (list_any f x) h)
+
+add-puts : (b : Bool) → puts {V = Unit {0}} (cond b (Puts tt) Apart) ≡ true → b ≡ true
+add-puts true h = refl
+add-puts false h = cc
+
+remove-puts : (b : Bool) → puts {V = Unit {0}} (cond b Removes Apart) ≡ true → b ≡ true
+remove-puts true h = refl
+remove-puts false h = cc
+
+puts-same : (q : List ℕ) (op : SetOp) → puts (set_effect q op) ≡ true → same_element q (element_of op) ≡ true
+puts-same q (Add k) h = add-puts (same_element q k) h
+puts-same q (Remove k) h = remove-puts (same_element q k) h
+
+-- an element that is held is one of the elements
+holds-any : (q : List ℕ) (x : Events) → holds x q ≡ true → list_any (same_element q) (elements x) ≡ true
+holds-any q x h =
+    elements-any q x
+    ∙ any-more (λ e. puts (set_effect q e.operation) && not (is_removed (set_effect q) x e.time)) (λ e. same_element q (element_of e.operation)) x
+    (λ e put. puts-same q e.operation (and_parts (puts (set_effect q e.operation)) (not (is_removed (set_effect q) x e.time)) put).0) h
+
+pub holds-element : (q : List ℕ) (x : Events) → IsWellFormed IsSetOp IsAnyReply x → holds x q ≡ has_any (live_of (set_effect q) x)
+holds-element q x w = holds-live (set_effect q) IsSetOp IsAnyReply x w
+
+-- what the set has at an element
+pub times-set_of : (q : List ℕ) (x : Events) → IsWellFormed IsSetOp IsAnyReply x → times_at (set_of x) q ≡ some_times (live_of (set_effect q) x)
+times-set_of q x w =
+    value-table (λ k. live_of (set_effect k) x) (members x) q
+    ∙ ap (λ b. cond b (Some (live_of (set_effect q) x)) None) (filter-any q (holds x) (elements x)) ∙ at (live_of (set_effect q) x) (holds x q) refl (holds-element q x w)
+  where
+    at : (live : Times) (b : Bool) → holds x q ≡ b → b ≡ has_any live → cond (b && list_any (same_element q) (elements x)) (Some live) None ≡ some_times live
+    at [] true is h = cc
+    at [] false is h = refl
+    at (k ∷ live) true is h = ap (λ p. cond p (Some (k ∷ live)) None) (holds-any q x is)
+    at (k ∷ live) false is h = cc
+
+pub members-sorted : (x : Events) → IsStrictlySortedBy cmp (members x)
+members-sorted x = filter-sorted (holds x) (elements x) (elements-sorted x)
+
+pub keys-set_of : (x : Events) → keys_of (set_of x) ≡ members x
+keys-set_of x = keys-table (λ k. live_of (set_effect k) x) (members x)
+
+pub set_of-sorted : (x : Events) → IsStrictlySortedBy cmp (keys_of (set_of x))
+set_of-sorted x = subst (IsStrictlySortedBy cmp) (sym (keys-set_of x)) (members-sorted x)
+
+elements-bytes : (x : Events) → IsWellFormed IsSetOp IsAnyReply x → AllByRecursion IsBytes (elements x)
+elements-bytes [] w = tt
+elements-bytes (e ∷ x) w = insert-all IsBytes (element_of e.operation) (elements x) w.0.operation (elements-bytes x w.1)
+
+-- a member is bytes, and has live times
+pub record IsLively (x : Events) (k : List ℕ) : Type 0 where
+  pub bytes : IsBytes k
+  pub some : live_of (set_effect k) x ≢ []
+
+pub members-lively : (x : Events) → IsLawful IsSetOp IsAnyReply no_reply x → AllByRecursion (IsLively x) (members x)
+members-lively x l = filter-all (holds x) IsBytes (IsLively x) (elements x) (λ k bytes held. record { bytes = bytes; some = λ none. both_ways (holds x k) (holds-element k x l.well_formed ∙ ap has_any none) held }) (elements-bytes x l.well_formed)
+
+-- the live times of an element are in the grammar
+pub times-live : (k : List ℕ) (x : Events) → IsLawful IsSetOp IsAnyReply no_reply x → AreLive IsNothing (live_of (set_effect k) x)
+times-live k x l =
+    let few = l.few in
+    record {
+      few = omega (arith, length-live (set_effect k) x, few);
+      rising = live-rising (set_effect k) x;
+      each = each-live (set_effect k) IsSetOp IsAnyReply (KeptFits IsNothing) (λ o t v known time is. (time, tt)) x l.well_formed;
+    }

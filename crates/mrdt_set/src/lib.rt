@@ -1,0 +1,11 @@
+//! A set that merges: an element is in it where some Add of it has been seen by no Remove of it.
+#![tactic(auto)]
+
+mod members;
+pub mod set;
+mod spelled;
+
+pub use set::{Set, SetAnswer, SetOp, SetQuery};
+
+#[cfg(test)]
+mod tests;
