@@ -1,67 +1,103 @@
--- What landing an operation can answer.
-use Rattle.std.proofs.Common.{◌≡◌, ℕ, ◌<◌, [], ◌∷◌, ◌++◌, length, ap, ◌∙◌, None, Some}
+-- Where a branch stands after a move on it.
+use Rattle.std.proofs.Common.{◌≡◌, ℕ, ◌<◌, Bool, true, false, cond, List, [], ◌∷◌, ◌++◌, length, refl, ap, sym, subst, ◌∙◌, None, Some}
 use Rattle.std.specs.Prelude.{Option}
-use Rattle.mrdt_model.specs.declared.time.Time.{Time}
 use Rattle.branch_names.specs.declared.limits.Limits.{Limits}
 use Rattle.branch_names.specs.Heads.{head_of}
 use Rattle.branch_history.specs.declared.moves.Move.{Move}
 use Rattle.branch_history.specs.declared.moves.Move.TheVariants as move
 use Rattle.branch_history.specs.History.{store_of}
 use Rattle.branch_history.specs.Steps as machine
-use Rattle.branch_history.specs.Machine.{turn, unless, makes, operation_refusal, commit_refusal, event_made}
+use Rattle.branch_history.specs.Machine.{turn, answers, unless, makes, operation_refusal, merge_refusal, forward_refusal, commit_refusal, event_made}
 use Rattle.branch_history.proofs.Valid.{store_of-more}
 use Rattle.branch_history.proofs.Stores.{head_of-same}
 use Rattle.store_core.specs.declared.answers.Kind.{Kind}
 use Rattle.store_core.specs.declared.answers.Kind.TheVariants as kind
-use Rattle.store_core.specs.Turns.{outcome_of}
-use Rattle.branch_engine.specs.Play.{Operation, Answer, History, counters}
-use Rattle.branch_engine.specs.Engines.{IsOperation}
+use Rattle.store_core.specs.Turns.{Moves, step_of, move_of, outcome_of}
+use Rattle.store_core.specs.Views.{Work}
+use Rattle.store_core.specs.Views as work
+use Rattle.branch_print.specs.Texts.{outcome_text}
+use Rattle.branch_engine.specs.Sessions.{Sight}
+use Rattle.branch_engine.specs.Play.{Operation, Reply, Query, Answer, History, counters, sight_after}
+use Rattle.branch_engine.specs.Engines.{Core, Seen, kind_text}
 
 abbrev Outcome : Type 0
-Outcome = machine.Outcome Answer (Unit {0})
+Outcome = machine.Outcome Answer Reply
 
 abbrev Turn : Type 0
-Turn = machine.Turn Operation (Unit {0}) Answer
+Turn = machine.Turn Operation Reply Answer
 
-never_merged : (a b : Option machine.Refusal) (m : Move Operation (Unit {0})) (c : ℕ) (t : Time) (r : Unit {0}) (commit : ℕ)
-    → (unless a (unless b (makes {A = Answer} m (machine.Landed c t r)))).outcome ≡ machine.Merged commit → ⊥
-never_merged (Some x) b m c t r commit is = cc
-never_merged None (Some x) m c t r commit is = cc
-never_merged None None m c t r commit is = cc
+abbrev OneMove : Type 0
+OneMove = Move Operation Reply
 
-never_forwarded : (a b : Option machine.Refusal) (m : Move Operation (Unit {0})) (c : ℕ) (t : Time) (r : Unit {0}) (commit : ℕ)
-    → (unless a (unless b (makes {A = Answer} m (machine.Landed c t r)))).outcome ≡ machine.Forwarded commit → ⊥
-never_forwarded (Some x) b m c t r commit is = cc
-never_forwarded None (Some x) m c t r commit is = cc
-never_forwarded None None m c t r commit is = cc
+abbrev pub sight_at : ℕ → ℕ → Sight
+sight_at b h = record { branch = b; head = h }
 
-commit_made : (a b : Option machine.Refusal) (m : Move Operation (Unit {0})) (c : ℕ) (t : Time) (r : Unit {0}) (commit : ℕ) (time : Time) (reply : Unit {0})
-    → (unless a (unless b (makes {A = Answer} m (machine.Landed c t r)))).outcome ≡ machine.Landed commit time reply → commit ≡ c
-commit_made (Some x) b m c t r commit time reply is = absurd (let no : ⊥ = cc in no)
-commit_made None (Some x) m c t r commit time reply is = absurd (let no : ⊥ = cc in no)
-commit_made None None m c t r commit time reply is = cc
+-- what holds of a move and its outcome holds of the move that was made unless it was refused
+made_once : (P : Outcome → OneMove → Type 0) (a : Option machine.Refusal) (m made : OneMove) (o told : Outcome) → P o m → unless a (makes m o) ≡ makes made told → P told made
+made_once P (Some x) m made o told holds is = let bad : [] ≡ made ∷ [] = ap (λ (t : Turn). t.made) is in absurd (let no : ⊥ = cc in no)
+made_once P None m made o told holds is =
+    let outcome : o ≡ told = ap (λ (t : Turn). t.outcome) is in
+    let moved : m ∷ [] ≡ made ∷ [] = ap (λ (t : Turn). t.made) is in
+    let move : m ≡ made = cc in
+    subst (λ x. P x made) outcome (subst (P o) move holds)
 
-module _ (limits : Limits) (moves : History) (r h : ℕ) (op : Operation) where
-  pub lands-operation : (k : Kind (Unit {0})) → (turn counters limits moves (machine.Land r h op)).outcome ≡ outcome_of k → IsOperation k
+made_twice : (P : Outcome → OneMove → Type 0) (a b : Option machine.Refusal) (m made : OneMove) (o told : Outcome) → P o m → unless a (unless b (makes m o)) ≡ makes made told → P told made
+made_twice P (Some x) b m made o told holds is = let bad : [] ≡ made ∷ [] = ap (λ (t : Turn). t.made) is in absurd (let no : ⊥ = cc in no)
+made_twice P None b m made o told holds is = made_once P b m made o told holds is
+
+-- a merge moves up, or makes a commit
+made_either : (P : Outcome → OneMove → Type 0) (above below : Bool) (up a b : Option machine.Refusal) (m f made : OneMove) (o g told : Outcome) → P g f → P o m
+    → cond above (answers machine.Same) (cond below (unless up (makes f g)) (unless a (unless b (makes m o)))) ≡ makes made told → P told made
+made_either P true below up a b m f made o g told holds_up holds is = let bad : [] ≡ made ∷ [] = ap (λ (t : Turn). t.made) is in absurd (let no : ⊥ = cc in no)
+made_either P false true up a b m f made o g told holds_up holds is = made_once P up f made g told holds_up is
+made_either P false false up a b m f made o g told holds_up holds is = made_twice P a b m made o told holds is
+
+module _ (limits : Limits) (moves : History) (r : ℕ) (there : r < length (store_of moves).branches) where
+  -- who made this move with this outcome sees the branch's new head
+  abbrev SeesNew : Outcome → OneMove → Type 0
+  SeesNew outcome made = sight_after r outcome ≡ Some (sight_at r (head_of (store_of (moves ++ made ∷ [])).branches r))
+
+  operation_head : (op : Operation) (reply : Reply) → head_of (store_of (moves ++ move.Operation r op reply ∷ [])).branches r ≡ length (store_of moves).commits
+  operation_head op reply = ap (λ s. head_of s.branches r) (store_of-more moves (move.Operation r op reply)) ∙ head_of-same (store_of moves).branches r (length (store_of moves).commits) there
+
+  merge_head : (m : ℕ) → head_of (store_of (moves ++ move.Merge r m ∷ [])).branches r ≡ length (store_of moves).commits
+  merge_head m = ap (λ s. head_of s.branches r) (store_of-more moves (move.Merge r m)) ∙ head_of-same (store_of moves).branches r (length (store_of moves).commits) there
+
+  forward_head : (m : ℕ) → head_of (store_of (moves ++ move.Forward r m ∷ [])).branches r ≡ m
+  forward_head m = ap (λ s. head_of s.branches r) (store_of-more moves (move.Forward r m)) ∙ head_of-same (store_of moves).branches r m there
+
+  pub land-sees : (h : ℕ) (op : Operation) (outcome : Outcome) (made : OneMove) → turn counters limits moves (machine.Land r h op) ≡ makes made outcome → SeesNew outcome made
   unfolding turn
-  lands-operation (kind.Operation commit time reply) is = tt
-  lands-operation (kind.Merged commit) is =
+  land-sees h op outcome made is =
       let commits = (store_of moves).commits in
       let e = event_made counters commits r h op in
-      never_merged (operation_refusal counters limits commits r h op) (commit_refusal limits moves r h) (move.Operation r op e.reply) (length commits) e.time e.reply commit is
-  lands-operation (kind.Forward commit) is =
-      let commits = (store_of moves).commits in
-      let e = event_made counters commits r h op in
-      never_forwarded (operation_refusal counters limits commits r h op) (commit_refusal limits moves r h) (move.Operation r op e.reply) (length commits) e.time e.reply commit is
+      made_twice SeesNew (operation_refusal counters limits commits r h op) (commit_refusal limits moves r h) (move.Operation r op e.reply) made (machine.Landed (length commits) e.time e.reply) outcome
+      (ap (λ n. Some (sight_at r n)) (sym (operation_head op e.reply))) is
 
-  pub lands-at : (commit : ℕ) (time : Time) (reply : Unit {0}) → (turn counters limits moves (machine.Land r h op)).outcome ≡ machine.Landed commit time reply → commit ≡ length (store_of moves).commits
+  pub merge-sees : (h m : ℕ) (outcome : Outcome) (made : OneMove) → turn counters limits moves (machine.Merge r h m) ≡ makes made outcome → SeesNew outcome made
   unfolding turn
-  lands-at commit time reply is =
+  merge-sees h m outcome made is =
       let commits = (store_of moves).commits in
-      let e = event_made counters commits r h op in
-      commit_made (operation_refusal counters limits commits r h op) (commit_refusal limits moves r h) (move.Operation r op e.reply) (length commits) e.time e.reply commit time reply is
+      made_either SeesNew _ _ (forward_refusal limits moves r h) (merge_refusal counters limits commits h m) (commit_refusal limits moves r h)
+      (move.Merge r m) (move.Forward r m) made (machine.Merged (length commits)) (machine.Forwarded m) outcome
+      (ap (λ n. Some (sight_at r n)) (sym (forward_head m))) (ap (λ n. Some (sight_at r n)) (sym (merge_head m))) is
 
--- the head of a branch that an operation landed on
-pub head-landed : (moves : History) (r : ℕ) (op : Operation) (reply : Unit {0}) → r < length (store_of moves).branches → head_of (store_of (moves ++ move.Operation r op reply ∷ [])).branches r ≡ length (store_of moves).commits
-head-landed moves r op reply there =
-    ap (λ s. head_of s.branches r) (store_of-more moves (move.Operation r op reply)) ∙ head_of-same (store_of moves).branches r (length (store_of moves).commits) there
+lands_step : (old : Core) (seen : Seen) (does : Work Operation Reply) (k : Kind Reply) → seen.branch < length (store_of old.history).branches
+    → turn counters old.limits old.history (step_of {Q = Query} seen does) ≡ makes (move_of seen.branch does) (outcome_of k)
+    → sight_after seen.branch (outcome_of k) ≡ Some (sight_at seen.branch (head_of (store_of (old.history ++ move_of seen.branch does ∷ [])).branches seen.branch))
+lands_step old seen (work.Operation op reply) k there is = land-sees old.limits old.history seen.branch there seen.head op (outcome_of k) (move.Operation seen.branch op reply) is
+lands_step old seen (work.Merge commit) k there is = merge-sees old.limits old.history seen.branch there seen.head commit (outcome_of k) (move.Merge seen.branch commit) is
+lands_step old seen (work.Forward commit) k there is = merge-sees old.limits old.history seen.branch there seen.head commit (outcome_of k) (move.Forward seen.branch commit) is
+
+-- after what was prepared has landed, its session sees the branch's new head
+pub lands-sees : (old new : Core) (seen : Seen) (does : Work Operation Reply) (k : Kind Reply) (moves : ℕ) → seen.branch < length (store_of old.history).branches
+    → Moves counters old new (step_of seen does) (move_of seen.branch does) (outcome_of k) moves
+    → sight_after seen.branch (outcome_of k) ≡ Some (sight_at seen.branch (head_of (store_of new.history).branches seen.branch))
+lands-sees old new seen does k moves there m =
+    lands_step old seen does k there m.turn_is ∙ ap (λ (c : Core). Some (sight_at seen.branch (head_of (store_of c.history).branches seen.branch))) (sym m.history)
+
+-- the text of what landed is that of the machine's outcome
+pub text-of_kind : (session branch : List ℕ) (k : Kind Reply) → kind_text k ≡ outcome_text session branch (outcome_of k)
+text-of_kind session branch (kind.Operation commit time reply) = refl
+text-of_kind session branch (kind.Merged commit) = refl
+text-of_kind session branch (kind.Forward commit) = refl

@@ -1,4 +1,5 @@
 pub mod Played
 pub mod Turned
 pub mod Landings
+pub mod Merges
 pub mod Replies

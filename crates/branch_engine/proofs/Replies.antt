@@ -1,30 +1,26 @@
 -- Replies of an engine: what each step tells, from what the core and the texts ensure.
-use Rattle.std.proofs.Common.{◌≡◌, ℕ, ◌<◌, List, [], ◌∷◌, ◌++◌, length, refl, ap, sym, ◌∙◌, append-nil, None, Some}
+use Rattle.std.proofs.Common.{◌≡◌, ℕ, List, [], ◌∷◌, ◌++◌, refl, ap, sym, subst, ◌∙◌, append-nil, None, Some}
 use Rattle.branch_names.specs.declared.limits.Limits.{Limits}
-use Rattle.branch_names.specs.Heads.{name_of, head_of}
+use Rattle.branch_names.specs.Heads.{name_of}
 use Rattle.store_core.specs.declared.answers.Kind.{Kind}
-use Rattle.store_core.specs.declared.answers.Kind.TheVariants as kind
 use Rattle.store_core.specs.Turns.{Moves, outcome_of}
+use Rattle.branch_history.specs.declared.moves.Move.{Move}
 use Rattle.branch_history.specs.declared.moves.Move.TheVariants as move
 use Rattle.branch_history.specs.History.{store_of}
 use Rattle.branch_history.specs.Steps as machine
-use Rattle.branch_history.specs.Machine.{turn, answers}
-use Rattle.branch_script.specs.declared.step.Step.TheVariants.{Look, Fork, Do, Ask}
-use Rattle.branch_print.specs.Texts.{refusal_text, sees_text, forked_text, answer_text, unseen_text, landed_text, line_end}
-use Rattle.branch_engine.specs.Sessions.{Sight, seen_by}
-use Rattle.branch_engine.specs.Play.{Operation, Query, Answer, History, Play, counters, told, step_told}
+use Rattle.branch_history.specs.Machine.{turn, answers, makes}
+use Rattle.branch_script.specs.declared.step.Step.TheVariants.{Look, Fork, Merge, Do, Ask}
+use Rattle.branch_print.specs.Texts.{refusal_text, outcome_text, sees_text, forked_text, answer_text, unseen_text, line_end}
+use Rattle.branch_engine.specs.Sessions.{seen_by}
+use Rattle.branch_engine.specs.Play.{Operation, Reply, Query, Answer, History, Play, counters, told, turn_told, with_sight, sight_after, step_told}
 use Rattle.std.specs.Option.{option_map}
-use Rattle.mrdt_model.specs.declared.time.Time.{Time}
-use Rattle.branch_engine.specs.Engines.{Core, Seen, EngineView, session_named, Puts, sight_of, IsAt, Tells, IsOperation, kind_text}
+use Rattle.branch_engine.specs.Engines.{Core, Seen, EngineView, session_named, Puts, sight_of, IsAt, Tells, kind_text}
 use Rattle.branch_engine.proofs.Played.{turn-at, plays-more, plays-still, plays-put, tells-by}
-use Rattle.branch_engine.proofs.Landings.{lands-at, head-landed}
-use Rattle.branch_engine.proofs.Turned.{told-look, told-fork, told-unseen, told-do, told-ask, told-ask_refused}
-
-abbrev sight_at : ℕ → ℕ → Sight
-sight_at b h = record { branch = b; head = h }
+use Rattle.branch_engine.proofs.Landings.{text-of_kind}
+use Rattle.branch_engine.proofs.Turned.{told-look, told-fork, told-unseen, told-do, told-unmerged, told-merge, told-merge_unknown, told-ask, told-ask_refused}
 
 -- the turn of a fork
-abbrev pub fork_turn : List ℕ → ℕ → ℕ → ℕ → machine.Turn Operation (Unit {0}) Answer
+abbrev pub fork_turn : List ℕ → ℕ → ℕ → ℕ → machine.Turn Operation Reply Answer
 fork_turn new number source head = record { outcome = machine.Forked number head; made = move.Fork new number source ∷ [] }
 
 module _ (old : EngineView) (out : List ℕ) where
@@ -33,7 +29,7 @@ module _ (old : EngineView) (out : List ℕ) where
       → new.core ≡ old.core → Puts old.sessions new.sessions session seen → out' ≡ out ++ (sees_text session branch seen.head ++ line_end)
       → Tells (λ limits p. step_told limits p (Look session branch)) old new out out'
   looked new out' session branch seen is same puts text limits p at =
-      let t = answers {O = Operation} {R = Unit {0}} {A = Answer} (machine.Sees seen.branch seen.head) in
+      let t = answers {O = Operation} {R = Reply} {A = Answer} (machine.Sees seen.branch seen.head) in
       let plays = plays-put limits old.core old.sessions p at new.sessions session seen (sight_of seen) puts refl in
       let after : IsAt limits new (told p session 0 branch t).after = record { limits_are = ap (λ c. c.limits) same ∙ plays.limits_are; history = ap (λ c. c.history) same ∙ plays.history ∙ sym (append-nil p.moves); sights = plays.sights } in
       tells-by limits new out out' (step_told limits p (Look session branch)) (told p session 0 branch t) (told-look limits p session branch t (turn-at limits old.core old.sessions p at (machine.Look branch) t is)) after text
@@ -41,7 +37,7 @@ module _ (old : EngineView) (out : List ℕ) where
   pub look_refused : (out' : List ℕ) (session branch : List ℕ) (refusal : machine.Refusal) → turn counters old.core.limits old.core.history (machine.Look branch) ≡ answers (machine.Refused refusal)
       → out' ≡ out ++ (refusal_text branch refusal ++ line_end) → Tells (λ limits p. step_told limits p (Look session branch)) old old out out'
   look_refused out' session branch refusal is text limits p at =
-      let t = answers {O = Operation} {R = Unit {0}} {A = Answer} (machine.Refused refusal) in
+      let t = answers {O = Operation} {R = Reply} {A = Answer} (machine.Refused refusal) in
       tells-by limits old out out' (step_told limits p (Look session branch)) (told p session 0 branch t) (told-look limits p session branch t (turn-at limits old.core old.sessions p at (machine.Look branch) t is))
       (plays-still limits old.core old.sessions p at) text
 
@@ -57,7 +53,7 @@ module _ (old : EngineView) (out : List ℕ) where
   pub fork_refused : (out' : List ℕ) (new from : List ℕ) (refusal : machine.Refusal) → turn counters old.core.limits old.core.history (machine.Fork new from) ≡ answers (machine.Refused refusal)
       → out' ≡ out ++ (refusal_text new refusal ++ line_end) → Tells (λ limits p. step_told limits p (Fork new from)) old old out out'
   fork_refused out' new from refusal is text limits p at =
-      let t = answers {O = Operation} {R = Unit {0}} {A = Answer} (machine.Refused refusal) in
+      let t = answers {O = Operation} {R = Reply} {A = Answer} (machine.Refused refusal) in
       tells-by limits old out out' (step_told limits p (Fork new from)) (told p [] 0 new t) (told-fork limits p new from t (turn-at limits old.core old.sessions p at (machine.Fork new from) t is))
       (plays-still limits old.core old.sessions p at) text
 
@@ -81,45 +77,61 @@ module _ (old : EngineView) (out : List ℕ) where
   unseen out' session op none text limits p at =
       tells-by limits old out out' (step_told limits p (Do session op)) _ (told-unseen limits p session op (sym (at.sights session) ∙ ap (option_map sight_of) none)) at text
 
-  module _ (session : List ℕ) (op : Operation) (seen : Seen) (found : session_named old.sessions session ≡ Some seen) where
+  pub unmerged : (out' : List ℕ) (session from : List ℕ) → session_named old.sessions session ≡ None → out' ≡ out ++ (unseen_text session ++ line_end)
+      → Tells (λ limits p. step_told limits p (Merge session from)) old old out out'
+  unmerged out' session from none text limits p at =
+      tells-by limits old out out' (step_told limits p (Merge session from)) _ (told-unmerged limits p session from (sym (at.sights session) ∙ ap (option_map sight_of) none)) at text
+
+  -- a step of the machine that is refused, or moves nothing: the session sees what it saw
+  pub turn_stays : (out' : List ℕ) (session : List ℕ) (number : ℕ) (step : machine.Step Operation Query) (outcome : machine.Outcome Answer Reply) → turn counters old.core.limits old.core.history step ≡ answers outcome
+      → sight_after number outcome ≡ None → out' ≡ out ++ (outcome_text session (name_of (store_of old.core.history).branches number) outcome ++ line_end)
+      → Tells (λ limits p. turn_told limits p session number step) old old out out'
+  turn_stays out' session number step outcome is none text limits p at =
+      let t = answers {O = Operation} {R = Reply} {A = Answer} outcome in
+      let name = λ (h : History). name_of (store_of h).branches number in
+      let still = subst (λ s. IsAt limits old (record { moves = p.moves ++ []; sessions = with_sight p.sessions session s })) (sym none) (plays-still limits old.core old.sessions p at) in
+      tells-by limits old out out' (turn_told limits p session number step) (told p session number (name p.moves) t)
+      (ap (told p session number (name p.moves)) (turn-at limits old.core old.sessions p at step t is))
+      still (text ∙ ap (λ h. out ++ (outcome_text session (name h) outcome ++ line_end)) at.history)
+
+  -- what landed: the session sees the branch's new head
+  pub landed : (new : EngineView) (core : Core) (out' : List ℕ) (session : List ℕ) (number : ℕ) (step : machine.Step Operation Query) (made : Move Operation Reply) (k : Kind Reply) (moves : ℕ) (next : Seen)
+      → Moves counters old.core core step made (outcome_of k) moves → sight_after number (outcome_of k) ≡ Some (sight_of next)
+      → new.core ≡ core → Puts old.sessions new.sessions session next → out' ≡ out ++ (kind_text k ++ line_end)
+      → Tells (λ limits p. turn_told limits p session number step) old new out out'
+  landed new core out' session number step made k moves next m sees same puts text limits p at =
+      let name = name_of (store_of p.moves).branches number in
+      let t = makes {A = Answer} made (outcome_of k) in
+      let grown = same ∙ m.history in
+      let more = plays-more limits old.core old.sessions p at new.core (made ∷ []) (ap (λ c. c.limits) grown) (ap (λ c. c.history) grown) in
+      let put = plays-put limits new.core old.sessions (record { moves = p.moves ++ made ∷ []; sessions = p.sessions }) more new.sessions session next (sight_of next) puts refl in
+      let after = subst (λ s. IsAt limits new (record { moves = p.moves ++ made ∷ []; sessions = with_sight p.sessions session s })) (sym sees) put in
+      tells-by limits new out out' (turn_told limits p session number step) (told p session number name t)
+      (ap (told p session number name) (turn-at limits old.core old.sessions p at step t m.turn_is))
+      after (text ∙ ap (λ words. out ++ (words ++ line_end)) (text-of_kind session name k))
+
+  module _ (session : List ℕ) (seen : Seen) (found : session_named old.sessions session ≡ Some seen) where
     sight : (limits : Limits) (p : Play) → IsAt limits old p → seen_by p.sessions session ≡ Some (sight_of seen)
     sight limits p at = sym (at.sights session) ∙ ap (option_map sight_of) found
 
-    pub do_refused : (out' : List ℕ) (refusal : machine.Refusal) → turn counters old.core.limits old.core.history (machine.Land seen.branch seen.head op) ≡ answers (machine.Refused refusal)
-        → out' ≡ out ++ (refusal_text (name_of (store_of old.core.history).branches seen.branch) refusal ++ line_end) → Tells (λ limits p. step_told limits p (Do session op)) old old out out'
-    do_refused out' refusal is text limits p at =
-        let t = answers {O = Operation} {R = Unit {0}} {A = Answer} (machine.Refused refusal) in
-        let name = λ (h : History). name_of (store_of h).branches seen.branch in
-        tells-by limits old out out' (step_told limits p (Do session op)) (told p session seen.branch (name p.moves) t)
-        (told-do limits p session op (sight_of seen) t (sight limits p at) (turn-at limits old.core old.sessions p at (machine.Land seen.branch seen.head op) t is))
-        (plays-still limits old.core old.sessions p at)
-        (text ∙ ap (λ h. out ++ (refusal_text (name h) refusal ++ line_end)) at.history)
+    -- an operation is told as the machine's turn
+    pub do_told_so : (new : EngineView) (out' : List ℕ) (op : Operation) → Tells (λ limits p. turn_told limits p session seen.branch (machine.Land seen.branch seen.head op)) old new out out'
+        → Tells (λ limits p. step_told limits p (Do session op)) old new out out'
+    do_told_so new out' op tells limits p at =
+        let it = tells limits p at in
+        tells-by limits new out out' (step_told limits p (Do session op)) _ (told-do limits p session op (sight_of seen) (sight limits p at)) it.0 it.1
 
-    -- an operation that landed: the session sees the new head
-    pub landed : (core : Core) (sessions : List (List ℕ × Seen)) (out' : List ℕ) (commit : ℕ) (time : Time) (reply : Unit {0}) (next : Seen)
-        → turn counters old.core.limits old.core.history (machine.Land seen.branch seen.head op) ≡ record { outcome = machine.Landed commit time reply; made = move.Operation seen.branch op reply ∷ [] }
-        → core ≡ record old.core { history = old.core.history ++ move.Operation seen.branch op reply ∷ [] } → Puts old.sessions sessions session next → next.branch ≡ seen.branch → next.head ≡ commit
-        → out' ≡ out ++ (landed_text commit time ++ line_end) → Tells (λ limits p. step_told limits p (Do session op)) old (record { core = core; sessions = sessions }) out out'
-    landed core sessions out' commit time reply next is grown puts branch head text limits p at =
-        let made = move.Operation seen.branch op reply in
-        let t : machine.Turn Operation (Unit {0}) Answer = record { outcome = machine.Landed commit time reply; made = made ∷ [] } in
-        let more = plays-more limits old.core old.sessions p at core (made ∷ []) (ap (λ c. c.limits) grown) (ap (λ c. c.history) grown) in
-        let same : sight_of next ≡ record { branch = seen.branch; head = commit } = ap (λ b. sight_at b next.head) branch ∙ ap (λ h. sight_at seen.branch h) head in
-        let put = plays-put limits core old.sessions (record { moves = p.moves ++ made ∷ []; sessions = p.sessions }) more sessions session next (sight_at seen.branch commit) puts same in
-        tells-by limits (record { core = core; sessions = sessions }) out out' (step_told limits p (Do session op)) (told p session seen.branch (name_of (store_of p.moves).branches seen.branch) t)
-        (told-do limits p session op (sight_of seen) t (sight limits p at) (turn-at limits old.core old.sessions p at (machine.Land seen.branch seen.head op) t is))
-        put text
+    -- and a merge of the head of another branch
+    pub merge_told_so : (new : EngineView) (out' : List ℕ) (from : List ℕ) (number head : ℕ) → turn counters old.core.limits old.core.history (machine.Look from) ≡ answers (machine.Sees number head)
+        → Tells (λ limits p. turn_told limits p session seen.branch (machine.Merge seen.branch seen.head head)) old new out out'
+        → Tells (λ limits p. step_told limits p (Merge session from)) old new out out'
+    merge_told_so new out' from number head looks tells limits p at =
+        let it = tells limits p at in
+        tells-by limits new out out' (step_told limits p (Merge session from)) _
+        (told-merge limits p session from (sight_of seen) number head (sight limits p at) (turn-at limits old.core old.sessions p at (machine.Look from) (answers (machine.Sees number head)) looks)) it.0 it.1
 
-    -- what landed, as the core answers it
-    pub landed_as : (new : EngineView) (core : Core) (out' : List ℕ) (k : Kind (Unit {0})) (reply : Unit {0}) (moves : ℕ) (next : Seen) → IsOperation k → seen.branch < length (store_of old.core.history).branches
-        → Moves counters old.core core (machine.Land seen.branch seen.head op) (move.Operation seen.branch op reply) (outcome_of k) moves
-        → new.core ≡ core → Puts old.sessions new.sessions session next → next.branch ≡ seen.branch → next.head ≡ head_of (store_of core.history).branches seen.branch
-        → out' ≡ out ++ (kind_text k ++ line_end) → Tells (λ limits p. step_told limits p (Do session op)) old new out out'
-    landed_as new core out' (kind.Operation commit time said) reply moves next known there m same puts branch head text =
-        let at : commit ≡ length (store_of old.core.history).commits = lands-at old.core.limits old.core.history seen.branch seen.head op commit time said (ap (λ t. t.outcome) m.turn_is) in
-        let here : next.head ≡ commit =
-        head ∙ ap (λ (c : Core). head_of (store_of c.history).branches seen.branch) m.history ∙ head-landed old.core.history seen.branch op reply there ∙ sym at
-        in
-        landed new.core new.sessions out' commit time said next m.turn_is (same ∙ m.history) puts branch here text
-    landed_as new core out' (kind.Merged commit) reply moves next known there m same puts branch head text = absurd known
-    landed_as new core out' (kind.Forward commit) reply moves next known there m same puts branch head text = absurd known
+    pub merge_unknown : (out' : List ℕ) (from : List ℕ) (refusal : machine.Refusal) → turn counters old.core.limits old.core.history (machine.Look from) ≡ answers (machine.Refused refusal)
+        → out' ≡ out ++ (refusal_text from refusal ++ line_end) → Tells (λ limits p. step_told limits p (Merge session from)) old old out out'
+    merge_unknown out' from refusal looks text limits p at =
+        tells-by limits old out out' (step_told limits p (Merge session from)) _
+        (told-merge_unknown limits p session from (sight_of seen) refusal (sight limits p at) (turn-at limits old.core old.sessions p at (machine.Look from) (answers (machine.Refused refusal)) looks)) at text

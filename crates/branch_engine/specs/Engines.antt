@@ -1,5 +1,5 @@
 -- The play of the machine that an engine stands for.
-use Rattle.std.specs.Prelude.{◌≡◌, ℕ, List, [], ◌++◌, Some, if◌then◌else◌}
+use Rattle.std.specs.Prelude.{◌≡◌, ℕ, List, ◌++◌, Some, if◌then◌else◌}
 use Rattle.std.specs.declared.option.Option.{Option}
 use Rattle.std.specs.Option.{option_map}
 use Rattle.std.specs.Map.{lookup}
@@ -13,16 +13,16 @@ use Rattle.branch_history.specs.declared.moves.Move.{Move}
 use Rattle.store_core.specs.Views.{CoreView, SeenView}
 use Rattle.store_core.specs.declared.answers.Kind.{Kind}
 use Rattle.store_core.specs.declared.answers.Kind.TheVariants as kind
-use Rattle.branch_print.specs.Texts.{landed_text}
+use Rattle.branch_print.specs.Texts.{landed_text, merged_text, forward_text}
 use Rattle.branch_engine.specs.Sessions.{Sight, seen_by}
-use Rattle.branch_engine.specs.Play.{Operation, Play, Told}
+use Rattle.branch_engine.specs.Play.{Operation, Reply, Play, Told}
 
 -- what a core and a look of the engine are
 abbrev pub Core : Type 0
-Core = CoreView (Move Operation (Unit {0}))
+Core = CoreView (Move Operation Reply)
 
 abbrev pub Seen : Type 0
-Seen = SeenView (Move Operation (Unit {0}))
+Seen = SeenView (Move Operation Reply)
 
 -- an engine: its core, and the look of each session by name
 pub record EngineView : Type 0 where
@@ -70,14 +70,8 @@ abbrev pub Tells : (Limits → Play → Told) → EngineView → EngineView → 
 Tells told old new old_out new_out =
     (limits : Limits) (p : Play) → IsAt limits old p → IsAt limits new (told limits p).after × (new_out ≡ old_out ++ (told limits p).text)
 
--- an operation landed
-abbrev pub IsOperation : {R : Type 0} → Kind R → Type 0
-IsOperation (kind.Operation commit time reply) = Unit {0}
-IsOperation (kind.Merged commit) = ⊥
-IsOperation (kind.Forward commit) = ⊥
-
 -- the text of what landed
 abbrev pub kind_text : {R : Type 0} → Kind R → List ℕ
 kind_text (kind.Operation commit time reply) = landed_text commit time
-kind_text (kind.Merged commit) = []
-kind_text (kind.Forward commit) = []
+kind_text (kind.Merged commit) = merged_text commit
+kind_text (kind.Forward commit) = forward_text commit

@@ -4,17 +4,20 @@ ghost use mathlib.Core.List.{IsPrefix};
 ghost use Rattle.branch_names.specs.Heads.{name_of};
 ghost use Rattle.branch_history.specs.History.{store_of};
 ghost use Rattle.branch_history.specs.Steps.{Stale};
+ghost use Rattle.store_core.specs.Turns.{step_of};
 ghost use Rattle.branch_print.specs.Texts.{refusal_text, line_end};
-ghost use Rattle.branch_engine.specs.Engines.{IsAt, Tells, Puts, SeesHead, IsOperation, kind_text, session_named};
-ghost use Rattle.branch_engine.specs.Play.{begins, step_told, line_told};
+ghost use Rattle.branch_engine.specs.Engines.{IsAt, Tells, Puts, SeesHead, kind_text, session_named};
+ghost use Rattle.branch_engine.specs.Play.{begins, turn_told, step_told, line_told};
 ghost use Rattle.branch_script.specs.declared.step.Step.TheVariants as step;
 
 use branch_names::{Limits, Name};
 use branch_print::refusals::{
-    put_exhausted, put_full_branches, put_full_commits, put_full_moves, put_line_refusal,
-    put_stale, put_taken, put_too_large, put_unknown, put_unseen,
+    put_bases, put_exhausted, put_full_branches, put_full_commits, put_full_moves,
+    put_line_refusal, put_stale, put_taken, put_too_large, put_unknown, put_unseen,
 };
-use branch_print::replies::{put_answer, put_forked, put_landed, put_sees};
+use branch_print::replies::{
+    put_answer, put_forked, put_forward, put_landed, put_merged, put_same, put_sees,
+};
 use branch_script::{LineRefusal, Step, read_line};
 use mrdt_counter::{Counter, CounterOp, CounterQuery};
 use mrdt_map::{Map, MapQuery, OnKey};
@@ -22,7 +25,10 @@ use mrdt_model::Memory;
 use std::alloc::Global;
 use std::collections::BTreeMap;
 use std::marker::Model;
-use store_core::{Core, ForkRefusal, Kind, LandRefusal, LookRefusal, PrepareRefusal, Seen};
+use store_core::{
+    Core, ForkRefusal, Kind, LandRefusal, LookRefusal, PairPrepareRefusal, PairRefusal, PairStep,
+    PrepareRefusal, Prepared, Seen,
+};
 
 /// The value of a store's branch: counters by their keys.
 pub type Counters = Map<Counter>;
@@ -63,13 +69,12 @@ fn set_session(
 
 // What landed.
 fn put_kind(alloc: Global, out: &mut Vec<u8>, kind: &Kind<()>) -> Result<(), Memory>
-    requires { IsOperation kind.now }
     ensures { OnOk result (out.new.items ≡ out.old.items ++ (kind_text kind.now ++ line_end)) }
 {
     match kind {
         Kind::Operation { commit, time, .. } => put_landed(alloc, out, *commit, *time),
-        Kind::Merged { .. } => unreachable!(),
-        Kind::Forward { .. } => unreachable!(),
+        Kind::Merged { commit } => put_merged(alloc, out, *commit),
+        Kind::Forward { commit } => put_forward(alloc, out, *commit),
     }
 }
 
@@ -158,7 +163,7 @@ impl Engine {
         put_answer(self.alloc, out, &answer)
     }
 
-    // A session lands an operation on the branch that it sees, and then sees the new head.
+    // A session lands an operation on the branch that it sees.
     fn land(
         &mut self,
         out: &mut Vec<u8>,
@@ -171,16 +176,52 @@ impl Engine {
             return put_unseen(out, session);
         };
         let branch = seen.branch();
-        let prepared = match seen.prepare(op) {
-            Ok(prepared) => prepared,
-            Err(PrepareRefusal::Exhausted { clock }) => return put_exhausted(
-                self.alloc, out, clock,
-            ),
-            Err(PrepareRefusal::ValueTooLarge { length }) => {
-                return put_too_large(self.alloc, out, length);
-            }
-            Err(PrepareRefusal::Memory) => return Err(Memory),
+        match seen.prepare(op) {
+            Ok(prepared) => self.move_on(out, session, branch, prepared),
+            Err(PrepareRefusal::Exhausted { clock }) => put_exhausted(self.alloc, out, clock),
+            Err(PrepareRefusal::ValueTooLarge { length }) => put_too_large(self.alloc, out, length),
+            Err(PrepareRefusal::Memory) => Err(Memory),
+        }
+    }
+
+    // The head of a branch is merged into the branch that a session sees.
+    fn merge(&mut self, out: &mut Vec<u8>, session: &Name, from: &Name) -> Result<(), Memory>
+        ensures { OnOk result (Tells (λ limits p. step_told limits p (step.Merge session.now from.now)) self.old self.new out.old.items out.new.items) }
+    {
+        let Some(seen) = self.sessions.get(session) else {
+            return put_unseen(out, session);
         };
+        let branch = seen.branch();
+        let pair = match self.core.pair(seen, from) {
+            Ok(pair) => pair,
+            Err(PairRefusal::UnknownBranch { .. }) => return put_unknown(out, from),
+            Err(PairRefusal::Memory) => return Err(Memory),
+        };
+        match pair.prepare() {
+            Ok(PairStep::Same) => put_same(out),
+            Ok(PairStep::Land(prepared)) => self.move_on(out, session, branch, prepared),
+            Err(PairPrepareRefusal::ManyBases { count }) => put_bases(self.alloc, out, count),
+            Err(PairPrepareRefusal::ValueTooLarge { length }) => put_too_large(
+                self.alloc, out, length,
+            ),
+            Err(PairPrepareRefusal::Memory) => Err(Memory),
+        }
+    }
+
+    // Lands what was prepared for a session on the branch of this number. The session then sees the new head.
+    fn move_on(
+        &mut self,
+        out: &mut Vec<u8>,
+        session: &Name,
+        branch: u32,
+        prepared: Prepared<Counters>,
+    ) -> Result<(), Memory>
+        requires history { IsPrefix prepared.seen.history self.old.core.history }
+        requires limits { prepared.seen.limits ≡ self.old.core.limits }
+        requires branch { prepared.seen.branch ≡ branch }
+        requires within { branch < length (store_of self.old.core.history).branches }
+        ensures { OnOk result (Tells (λ limits p. turn_told limits p session.now branch (step_of prepared.seen prepared.work)) self.old self.new out.old.items out.new.items) }
+    {
         match self.core.land(prepared) {
             Ok(landed) => {
                 put_kind(self.alloc, out, &landed.kind)?;
@@ -209,6 +250,7 @@ impl Engine {
         match step {
             Step::Look { session, branch } => self.look(out, &session, &branch),
             Step::Fork { new, from } => self.fork(out, &new, &from),
+            Step::Merge { session, branch } => self.merge(out, &session, &branch),
             Step::Do { session, op } => self.land(out, &session, op),
             Step::Ask { branch, query } => self.ask(out, &branch, &query),
         }

@@ -68,3 +68,46 @@ fn limits_are_told(rt: HostRuntime) -> Result<(), Fail> {
     assert_eq!(rt; text.as_slice(), expected);
     Ok(())
 }
+
+#[test]
+fn merges_are_told(rt: HostRuntime) -> Result<(), Fail> {
+    let lines: [&[u8]; 11] = [
+        b"merge a main",
+        b"fork r main",
+        b"look a main",
+        b"look b main",
+        b"merge a main",
+        b"merge a none",
+        b"do a counter c add 1",
+        b"merge b r",
+        b"merge b main",
+        b"look c r",
+        b"merge c main",
+    ];
+    let text = told(rt.alloc(), Limits::default(), &lines)?;
+    let expected: &[u8] =
+        b"error unseen a\nforked r as 1 at #0\na sees main at #0\nb sees main at #0\nsame\nerror unknown none\nlanded #1 at 1.0\nsame\nstale main at #1\nc sees r at #0\nforward #1\n";
+    assert_eq!(rt; text.as_slice(), expected);
+    Ok(())
+}
+
+#[test]
+fn a_merge_under_limits(rt: HostRuntime) -> Result<(), Fail> {
+    let lines: [&[u8]; 9] = [
+        b"fork q main",
+        b"look a main",
+        b"do a counter c add 1",
+        b"do a counter c add 1",
+        b"do a counter c add 1",
+        b"look b q",
+        b"do b counter c add 1",
+        b"merge a q",
+        b"do a counter c add 1",
+    ];
+    let low = limited(&rt, 2, 9, 9, 4096, 9);
+    let text = told(rt.alloc(), low, &lines)?;
+    let expected: &[u8] =
+        b"forked q as 1 at #0\na sees main at #0\nlanded #1 at 1.0\nlanded #2 at 2.0\nerror exhausted 2\nb sees q at #0\nlanded #3 at 1.1\nmerged #4\nerror exhausted 2\n";
+    assert_eq!(rt; text.as_slice(), expected);
+    Ok(())
+}

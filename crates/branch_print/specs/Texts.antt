@@ -46,14 +46,23 @@ forked_text branch number head = codes "forked " ++ branch ++ codes " as " ++ de
 abbrev pub landed_text : ℕ → Time → List ℕ
 landed_text commit time = codes "landed #" ++ decimal commit ++ codes " at " ++ time_text time
 
+abbrev pub merged_text : ℕ → List ℕ
+merged_text commit = codes "merged #" ++ decimal commit
+
+abbrev pub forward_text : ℕ → List ℕ
+forward_text commit = codes "forward #" ++ decimal commit
+
+abbrev pub same_text : List ℕ
+same_text = codes "same"
+
 -- an outcome, for a session and a branch of these names; a fork's branch is the new one
 abbrev pub outcome_text : {R : Type 0} → List ℕ → List ℕ → Outcome (MapAnswer ℤ) R → List ℕ
 outcome_text session branch (Sees number head) = sees_text session branch head
 outcome_text session branch (Forked number head) = forked_text branch number head
 outcome_text session branch (Landed commit time reply) = landed_text commit time
-outcome_text session branch (Merged commit) = codes "merged #" ++ decimal commit
-outcome_text session branch (Forwarded commit) = codes "forward #" ++ decimal commit
-outcome_text session branch Same = codes "same"
+outcome_text session branch (Merged commit) = merged_text commit
+outcome_text session branch (Forwarded commit) = forward_text commit
+outcome_text session branch Same = same_text
 outcome_text session branch (Answered answer) = answer_text answer
 outcome_text session branch (Refused refusal) = refusal_text branch refusal
 

@@ -1,6 +1,6 @@
 // The replies to lines that are no step, and to steps that were refused.
 ghost use Rattle.std.specs.Prelude.{◌≡◌, ◌++◌, [], OnOk};
-ghost use Rattle.branch_history.specs.Steps.{UnknownBranch, Stale, NameTaken, Exhausted, FullCommits, FullBranches, FullMoves, ValueTooLarge};
+ghost use Rattle.branch_history.specs.Steps.{UnknownBranch, Stale, NameTaken, Exhausted, FullCommits, FullBranches, FullMoves, ValueTooLarge, ManyBases};
 ghost use Rattle.branch_print.specs.Texts.{refusal_text, line_refusal_text, unseen_text, line_end};
 
 use crate::pieces::{put_count, put_text};
@@ -94,4 +94,11 @@ pub fn put_too_large(alloc: Global, out: &mut Vec<u8>, length: u64) -> Result<()
     ensures { OnOk result (out.new.items ≡ out.old.items ++ (refusal_text [] (ValueTooLarge length) ++ line_end)) }
 {
     put_count(alloc, out, b"error too large ", length)
+}
+
+/// The two commits to be merged have too many maximal common ancestors: `error bases 2`.
+pub fn put_bases(alloc: Global, out: &mut Vec<u8>, count: u64) -> Result<(), Memory>
+    ensures { OnOk result (out.new.items ≡ out.old.items ++ (refusal_text [] (ManyBases count) ++ line_end)) }
+{
+    put_count(alloc, out, b"error bases ", count)
 }

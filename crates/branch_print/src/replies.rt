@@ -1,6 +1,6 @@
 // The replies to steps that were not refused.
 ghost use Rattle.std.specs.Prelude.{◌≡◌, ◌++◌, OnOk};
-ghost use Rattle.branch_print.specs.Texts.{sees_text, forked_text, landed_text, answer_text, line_end};
+ghost use Rattle.branch_print.specs.Texts.{sees_text, forked_text, landed_text, merged_text, forward_text, same_text, answer_text, line_end};
 
 use crate::pieces::{put_count, put_items, put_number, put_signed, put_text, put_time};
 use branch_names::Name;
@@ -50,6 +50,27 @@ pub fn put_landed(alloc: Global, out: &mut Vec<u8>, commit: u32, time: Time) -> 
     put_text(out, b" at ")?;
     put_time(alloc, out, time)?;
     put_text(out, b"\n")
+}
+
+/// A merge that made a commit: `merged #3`.
+pub fn put_merged(alloc: Global, out: &mut Vec<u8>, commit: u32) -> Result<(), Memory>
+    ensures { OnOk result (out.new.items ≡ out.old.items ++ (merged_text commit ++ line_end)) }
+{
+    put_count(alloc, out, b"merged #", u64::from(commit))
+}
+
+/// A merge that moved the branch up to a commit: `forward #1`.
+pub fn put_forward(alloc: Global, out: &mut Vec<u8>, commit: u32) -> Result<(), Memory>
+    ensures { OnOk result (out.new.items ≡ out.old.items ++ (forward_text commit ++ line_end)) }
+{
+    put_count(alloc, out, b"forward #", u64::from(commit))
+}
+
+/// A merge of what is there already: `same`.
+pub fn put_same(out: &mut Vec<u8>) -> Result<(), Memory>
+    ensures { OnOk result (out.new.items ≡ out.old.items ++ (same_text ++ line_end)) }
+{
+    put_text(out, b"same\n")
 }
 
 /// The answer to a query: a counter's value, or the keys, as `[2] a b`.

@@ -1,9 +1,11 @@
 // Each text once.
 use crate::refusals::{
-    put_exhausted, put_full_branches, put_full_commits, put_full_moves, put_line_refusal,
-    put_stale, put_taken, put_too_large, put_unknown, put_unseen,
+    put_bases, put_exhausted, put_full_branches, put_full_commits, put_full_moves,
+    put_line_refusal, put_stale, put_taken, put_too_large, put_unknown, put_unseen,
 };
-use crate::replies::{put_answer, put_forked, put_landed, put_sees};
+use crate::replies::{
+    put_answer, put_forked, put_forward, put_landed, put_merged, put_same, put_sees,
+};
 use branch_names::Name;
 use branch_script::LineRefusal;
 use mrdt_map::MapAnswer;
@@ -41,6 +43,19 @@ fn replies(rt: HostRuntime) -> Result<(), Fail> {
     put_answer(alloc, &mut out, &MapAnswer::OnKeys(Listing::from_vec(keys)))?;
     let text =
         b"a sees main at #0\nforked l as 1 at #0\nlanded #1 at 1.0\n18446744073709551614\n-4\n[2] u v\n";
+    assert_eq!(rt; out.as_slice(), text.as_slice());
+    Ok(())
+}
+
+#[test]
+fn merges(rt: HostRuntime) -> Result<(), Fail> {
+    let alloc = rt.alloc();
+    let mut out = Vec::new(alloc);
+    put_merged(alloc, &mut out, 3)?;
+    put_forward(alloc, &mut out, 1)?;
+    put_same(&mut out)?;
+    put_bases(alloc, &mut out, 2)?;
+    let text = b"merged #3\nforward #1\nsame\nerror bases 2\n";
     assert_eq!(rt; out.as_slice(), text.as_slice());
     Ok(())
 }

@@ -5,7 +5,7 @@ use Rattle.mrdt_counter.specs.declared.counter.CounterQuery.TheVariants.{Value}
 use Rattle.mrdt_map.specs.declared.map.MapQuery.TheVariants.{AtKey, Keys}
 use Rattle.branch_names.specs.Names.{is_name}
 use Rattle.branch_script.specs.declared.step.Step.{Step}
-use Rattle.branch_script.specs.declared.step.Step.TheVariants.{Look, Fork, Do, Ask}
+use Rattle.branch_script.specs.declared.step.Step.TheVariants.{Look, Fork, Merge, Do, Ask}
 use Rattle.branch_script.specs.declared.step.LineRefusal.{LineRefusal}
 use Rattle.branch_script.specs.declared.step.LineRefusal.TheVariants.{Syntax, BadName, BadNumber, Memory}
 use Rattle.branch_script.specs.Lines.{words_of, is_silent, is_plain}
@@ -24,11 +24,12 @@ abbrev pub add_step : List ℕ → List ℕ → Option ℤ → Result Step LineR
 add_step session key None = Err BadNumber
 add_step session key (Some amount) = Ok (Do session (record { key = key; operation = Add amount }))
 
--- `look SESSION BRANCH`, `fork NEW BRANCH`
+-- `look SESSION BRANCH`, `fork NEW BRANCH`, `merge SESSION BRANCH`
 abbrev pub three_words : List ℕ → List ℕ → List ℕ → Result Step LineRefusal
 three_words verb a b =
     if is (codes "look") verb then named a (named b (Ok (Look a b)))
     else if is (codes "fork") verb then named a (named b (Ok (Fork a b)))
+    else if is (codes "merge") verb then named a (named b (Ok (Merge a b)))
     else Err Syntax
 
 -- `ask BRANCH counter keys`

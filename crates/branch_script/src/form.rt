@@ -23,6 +23,10 @@ fn three_words(verb: &[u8], first: &[u8], second: &[u8]) -> Result<Step, LineRef
             new: Name::read(first)?,
             from: Name::read(second)?,
         }),
+        b"merge" => Ok(Step::Merge {
+            session: Name::read(first)?,
+            branch: Name::read(second)?,
+        }),
         _ => Err(LineRefusal::Syntax),
     }
 }

@@ -19,6 +19,11 @@ pub enum Step {
         new: Name,
         from: Name,
     },
+    /// The head of a branch is merged into the branch that a session sees.
+    Merge {
+        session: Name,
+        branch: Name,
+    },
     /// A session lands an operation on the branch that it sees.
     Do {
         session: Name,

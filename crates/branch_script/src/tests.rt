@@ -74,10 +74,13 @@ fn amounts_at_both_ends(rt: HostRuntime) -> Result<(), Fail> {
     Ok(())
 }
 
-// Whether a step is a look or a fork with these two names.
+// Whether a step is a look, a merge or a fork with these two names.
 fn has_names(step: &Step, first: &[u8], second: &[u8]) -> bool {
     match step {
         Step::Look { session, branch } => {
+            session.as_bytes() == first && branch.as_bytes() == second
+        }
+        Step::Merge { session, branch } => {
             session.as_bytes() == first && branch.as_bytes() == second
         }
         Step::Fork { new, from } => new.as_bytes() == first && from.as_bytes() == second,
@@ -110,6 +113,10 @@ fn the_other_forms(rt: HostRuntime) -> Result<(), Fail> {
         panic!(rt; "no fork");
     };
     assert!(rt; matches!(&fork, Step::Fork { .. }) && has_names(&fork, b"l", b"main"));
+    let Ok(Some(merge)) = read_line(alloc, b"merge a r") else {
+        panic!(rt; "no merge");
+    };
+    assert!(rt; matches!(&merge, Step::Merge { .. }) && has_names(&merge, b"a", b"r"));
     let Ok(Some(keys)) = read_line(alloc, b"ask main counter keys") else {
         panic!(rt; "no keys");
     };

@@ -20,7 +20,7 @@ fn played(
 
 #[test]
 fn scripts_and_their_replies(rt: HostRuntime) -> Result<(), Fail> {
-    let rows: [(&[u8], &[u8]); 9] = [
+    let rows: [(&[u8], &[u8]); 11] = [
         (b"", b""),
         (b"ask main counter c value", b"0\n"),
         (
@@ -28,8 +28,16 @@ fn scripts_and_their_replies(rt: HostRuntime) -> Result<(), Fail> {
             b"a sees main at #0\nlanded #1 at 1.0\n5\n",
         ),
         (
-            b"fork l main\nfork r main\nlook a l\ndo a counter c add 3\nlook b r\ndo b counter c add -4\nask l counter c value\nask r counter c value\n",
-            b"forked l as 1 at #0\nforked r as 2 at #0\na sees l at #0\nlanded #1 at 1.1\nb sees r at #0\nlanded #2 at 1.2\n3\n-4\n",
+            b"fork l main\nfork r main\nlook a l\ndo a counter c add 3\nlook b r\ndo b counter c add -4\nask l counter c value\nmerge a r\nask l counter c value\nask r counter c value\n",
+            b"forked l as 1 at #0\nforked r as 2 at #0\na sees l at #0\nlanded #1 at 1.1\nb sees r at #0\nlanded #2 at 1.2\n3\nmerged #3\n-1\n-4\n",
+        ),
+        (
+            b"fork p main\nfork q main\nlook a p\nlook b q\ndo a counter c add 1\ndo b counter c add 10\nfork p1 p\nmerge a q\nmerge b p1\nask p counter c value\nask q counter c value\ndo a counter c add 100\ndo b counter c add 1000\nmerge a q\n",
+            b"forked p as 1 at #0\nforked q as 2 at #0\na sees p at #0\nb sees q at #0\nlanded #1 at 1.1\nlanded #2 at 1.2\nforked p1 as 3 at #1\nmerged #3\nmerged #4\n11\n11\nlanded #5 at 2.1\nlanded #6 at 2.2\nerror bases 2\n",
+        ),
+        (
+            b"fork r main\nlook a main\nmerge a r\nlook b r\ndo b counter c add 1\nmerge a r\ndo a counter c add 1\n",
+            b"forked r as 1 at #0\na sees main at #0\nsame\nb sees r at #0\nlanded #1 at 1.1\nforward #1\nlanded #2 at 2.0\n",
         ),
         (
             b"look a main\nlook b main\ndo a counter c add 1\ndo b counter c add 1\nlook b main\ndo b counter c add 1\nask main counter c value\n",

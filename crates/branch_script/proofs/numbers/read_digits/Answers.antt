@@ -1,4 +1,4 @@
-use Rattle.std.proofs.Common.{◌≡◌, ◌≤◌, ◌<◌, ◌*◌, ◌+◌, ◌^◌, arith}
+use Rattle.std.proofs.Common.{◌≤◌, ◌<◌, ◌*◌, ◌+◌, ◌^◌, arith}
 use Rattle.branch_script.specs.Numbers.{read_on}
 use Rattle.branch_script.proofs.Digits.{read_on-drop_ge}
 use Rattle.branch_script.proofs.numbers.read_digits.Goals as goal

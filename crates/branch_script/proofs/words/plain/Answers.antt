@@ -1,7 +1,7 @@
-use Rattle.std.proofs.Common.{◌≡◌, ◌&&◌, Bool, true, map, not, sym, ap, ◌∙◌, rules, List, ℕ}
+use Rattle.std.proofs.Common.{◌≡◌, ◌&&◌, Bool, true, not, sym, ap, ◌∙◌, List, ℕ}
 use Rattle.std.specs.Prelude.{nat_le}
 use Rattle.std.specs.List.{list_all}
-use Rattle.branch_script.specs.Lines.{is_plain, is_empty, words_of}
+use Rattle.branch_script.specs.Lines.{is_empty, words_of}
 use Rattle.branch_script.proofs.Mapped.{list_all-map}
 use Rattle.branch_script.proofs.words.plain.Goals as goal
 

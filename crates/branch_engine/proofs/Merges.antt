@@ -1,0 +1,51 @@
+-- A look paired with the head of another branch, over the core on which it was paired.
+use Rattle.std.proofs.Common.{◌≡◌, ℕ, List, ap, sym, subst, ◌∙◌}
+use mathlib.Core.List.{IsPrefix}
+use Rattle.branch_history.specs.declared.moves.Move.{Move}
+use Rattle.branch_history.specs.Steps as machine
+use Rattle.branch_history.specs.Machine.{turn, answers}
+use Rattle.store_core.specs.Turns.{step_of}
+use Rattle.store_core.specs.Pairs.{seen_of, IsPaired, MergesAs, IsWorkOf}
+use Rattle.store_core.specs.Views.{PairView, PreparedView, Work}
+use Rattle.store_core.specs.Views as work
+use Rattle.branch_engine.specs.Play.{Operation, Reply, Query, Answer, counters}
+use Rattle.branch_engine.specs.Engines.{Core, Seen}
+use Rattle.branch_engine.proofs.Played.{prefix-self}
+
+abbrev pub Pair : Type 0
+Pair = PairView (Move Operation Reply)
+
+-- on a branch, by one that sees a commit, the merge of another
+abbrev pub merge_of : ℕ → ℕ → ℕ → machine.Step Operation Query
+merge_of branch head other = machine.Merge branch head other
+
+work_step : (pair : Pair) (does : Work Operation Reply) → IsWorkOf counters pair does → step_of {Q = Query} (seen_of pair) does ≡ merge_of pair.branch pair.head pair.other
+work_step pair (work.Operation op reply) is = absurd is
+work_step pair (work.Merge commit) is = ap (λ n. merge_of pair.branch pair.head n) is.0
+work_step pair (work.Forward commit) is = ap (λ n. merge_of pair.branch pair.head n) is.0
+
+module _ (core : Core) (seen : Seen) (from : List ℕ) (pair : Pair) (paired : IsPaired counters core seen from pair) where
+  pub pair-history : pair.history ≡ core.history
+  pair-history = ap (λ (s : Seen). s.history) paired.look
+
+  pub pair-limits : pair.limits ≡ core.limits
+  pair-limits = ap (λ (s : Seen). s.limits) paired.look
+
+  pub pair-branch : pair.branch ≡ seen.branch
+  pair-branch = ap (λ (s : Seen). s.branch) paired.look
+
+  pub pair-head : pair.head ≡ seen.head
+  pair-head = ap (λ (s : Seen). s.head) paired.look
+
+  abbrev same_merge : merge_of pair.branch pair.head pair.other ≡ merge_of seen.branch seen.head pair.other
+  same_merge = ap (λ b. merge_of b pair.head pair.other) pair-branch ∙ ap (λ h. merge_of seen.branch h pair.other) pair-head
+
+  -- the machine's turn that the pair was told, of the merge that a session asks for
+  pub pair-turn : (outcome : machine.Outcome Answer Reply) → MergesAs counters pair outcome → turn counters core.limits core.history (merge_of seen.branch seen.head pair.other) ≡ answers outcome
+  pair-turn outcome merges =
+      let told = merges core.history (subst (λ h. IsPrefix h core.history) (sym pair-history) (prefix-self core.history)) in
+      subst (λ s. turn counters core.limits core.history s ≡ answers outcome) same_merge (subst (λ l. turn counters l core.history (merge_of pair.branch pair.head pair.other) ≡ answers outcome) pair-limits told)
+
+  -- what was prepared is that merge
+  pub pair-work : (made : PreparedView Operation Reply) → made.seen ≡ seen_of pair → IsWorkOf counters pair made.work → step_of {Q = Query} made.seen made.work ≡ merge_of seen.branch seen.head pair.other
+  pair-work made look is = ap (λ s. step_of s made.work) look ∙ work_step pair made.work is ∙ same_merge
