@@ -1,0 +1,324 @@
+-- Plain forms and a document's own, there and back.
+use Rattle.std.proofs.Common.{◌≡◌, ℕ, Option, None, Some, List, refl}
+use Rattle.live_set.specs.declared.kept.Kept.{Kept}
+use Rattle.mrdt_both.specs.declared.both.Side.TheVariants.{First, Second}
+use Rattle.mrdt_counter.specs.declared.counter.CounterOp.{CounterOp}
+use Rattle.mrdt_counter.specs.declared.counter.CounterOp.TheVariants as counter_op
+use Rattle.mrdt_counter.specs.declared.counter.CounterQuery.{CounterQuery}
+use Rattle.mrdt_counter.specs.declared.counter.CounterQuery.TheVariants as counter_query
+use Rattle.mrdt_flag.specs.declared.flag.FlagOp.{FlagOp}
+use Rattle.mrdt_flag.specs.declared.flag.FlagOp.TheVariants as flag_op
+use Rattle.mrdt_flag.specs.declared.flag.FlagQuery.{FlagQuery}
+use Rattle.mrdt_flag.specs.declared.flag.FlagQuery.TheVariants as flag_query
+use Rattle.mrdt_register.specs.declared.op.RegisterOp.{RegisterOp}
+use Rattle.mrdt_register.specs.declared.op.RegisterOp.TheVariants as register_op
+use Rattle.mrdt_register.specs.declared.lww.LwwQuery.{LwwQuery}
+use Rattle.mrdt_register.specs.declared.lww.LwwQuery.TheVariants as lww_query
+use Rattle.mrdt_register.specs.declared.multi.MultiQuery.{MultiQuery}
+use Rattle.mrdt_register.specs.declared.multi.MultiQuery.TheVariants as multi_query
+use Rattle.mrdt_set.specs.declared.set.SetOp.{SetOp}
+use Rattle.mrdt_set.specs.declared.set.SetOp.TheVariants as set_op
+use Rattle.mrdt_set.specs.declared.set.SetQuery.{SetQuery}
+use Rattle.mrdt_set.specs.declared.set.SetQuery.TheVariants as set_query
+use Rattle.mrdt_set.specs.declared.set.SetAnswer.TheVariants.{IsIn, All, Count}
+use Rattle.mrdt_log.specs.declared.log.LogOp.{LogOp}
+use Rattle.mrdt_log.specs.declared.log.LogOp.TheVariants as log_op
+use Rattle.mrdt_log.specs.declared.log.LogQuery.{LogQuery}
+use Rattle.mrdt_log.specs.declared.log.LogQuery.TheVariants as log_query
+use Rattle.mrdt_log.specs.declared.log.LogAnswer.TheVariants as log_answer
+use Rattle.mrdt_queue.specs.declared.op.QueueOp.{QueueOp}
+use Rattle.mrdt_queue.specs.declared.op.QueueOp.TheVariants as queue_op
+use Rattle.mrdt_queue.specs.declared.op.QueueQuery.{QueueQuery}
+use Rattle.mrdt_queue.specs.declared.op.QueueQuery.TheVariants as queue_query
+use Rattle.mrdt_queue.specs.declared.op.QueueReply.{QueueReply}
+use Rattle.mrdt_queue.specs.declared.op.QueueReply.TheVariants.{Enqueued, Nothing, Took}
+use Rattle.mrdt_queue.specs.declared.op.QueueAnswer.TheVariants as queue_answer
+use Rattle.mrdt_map.specs.declared.map.MapQuery.{MapQuery}
+use Rattle.mrdt_map.specs.declared.map.MapQuery.TheVariants as map_query
+use Rattle.mrdt_map.specs.declared.map.MapAnswer.TheVariants.{OnValue, OnKeys}
+use Rattle.branch_doc.specs.declared.plain.Kind.{Kind}
+use Rattle.branch_doc.specs.declared.plain.Kind.TheVariants as kind
+use Rattle.branch_doc.specs.declared.plain.PlainOp.{PlainOp}
+use Rattle.branch_doc.specs.declared.plain.PlainOp.TheVariants.{CounterAdd, FlagEnable, FlagDisable, LwwSet, MultiSet, SetAdd, SetRemove, LogAppend, QueueEnqueue, QueueDequeue}
+use Rattle.branch_doc.specs.declared.plain.PlainQuery.{PlainQuery}
+use Rattle.branch_doc.specs.declared.plain.PlainQuery.TheVariants.{CounterValue, FlagIsOn, LwwGet, MultiValues, SetContains, SetMembers, SetSize, LogRead, LogLength, QueuePeek, QueueItems, QueueLength, Keys}
+use Rattle.branch_doc.specs.declared.plain.PlainReply.{PlainReply}
+use Rattle.branch_doc.specs.declared.plain.PlainReply.TheVariants as reply
+use Rattle.branch_doc.specs.declared.plain.PlainAnswer.{PlainAnswer}
+use Rattle.branch_doc.specs.declared.plain.PlainAnswer.TheVariants as answer
+use Rattle.branch_doc.specs.Sides.{at_counters, at_flags, at_lasts, at_multis, at_sets, at_logs, at_queues}
+use Rattle.branch_doc.specs.Forms.{DocOp, DocQuery, DocReply, DocAnswer, on, doc_op, doc_query, plain_reply, plain_answer}
+
+-- the plain form of an operation
+abbrev counter_form : List ℕ → CounterOp → PlainOp
+counter_form key (counter_op.Add amount) = CounterAdd key amount
+
+abbrev flag_form : List ℕ → FlagOp → PlainOp
+flag_form key flag_op.Enable = FlagEnable key
+flag_form key flag_op.Disable = FlagDisable key
+
+abbrev lww_form : List ℕ → RegisterOp → PlainOp
+lww_form key (register_op.Set payload) = LwwSet key payload
+
+abbrev multi_form : List ℕ → RegisterOp → PlainOp
+multi_form key (register_op.Set payload) = MultiSet key payload
+
+abbrev set_form : List ℕ → SetOp → PlainOp
+set_form key (set_op.Add element) = SetAdd key element
+set_form key (set_op.Remove element) = SetRemove key element
+
+abbrev log_form : List ℕ → LogOp → PlainOp
+log_form key (log_op.Append payload) = LogAppend key payload
+
+abbrev queue_form : List ℕ → QueueOp → PlainOp
+queue_form key (queue_op.Enqueue payload) = QueueEnqueue key payload
+queue_form key queue_op.Dequeue = QueueDequeue key
+
+abbrev pub op_form : DocOp → PlainOp
+op_form (First o) = counter_form o.key o.operation
+op_form (Second (First o)) = flag_form o.key o.operation
+op_form (Second (Second (First o))) = lww_form o.key o.operation
+op_form (Second (Second (Second (First o)))) = multi_form o.key o.operation
+op_form (Second (Second (Second (Second (First o))))) = set_form o.key o.operation
+op_form (Second (Second (Second (Second (Second (First o)))))) = log_form o.key o.operation
+op_form (Second (Second (Second (Second (Second (Second o)))))) = queue_form o.key o.operation
+
+pub op-there : (p : PlainOp) → op_form (doc_op p) ≡ p
+op-there (CounterAdd key amount) = refl
+op-there (FlagEnable key) = refl
+op-there (FlagDisable key) = refl
+op-there (LwwSet key payload) = refl
+op-there (MultiSet key payload) = refl
+op-there (SetAdd key element) = refl
+op-there (SetRemove key element) = refl
+op-there (LogAppend key payload) = refl
+op-there (QueueEnqueue key payload) = refl
+op-there (QueueDequeue key) = refl
+
+counter-back : (key : List ℕ) (o : CounterOp) → doc_op (counter_form key o) ≡ at_counters (on key o)
+counter-back key (counter_op.Add amount) = refl
+
+flag-back : (key : List ℕ) (o : FlagOp) → doc_op (flag_form key o) ≡ at_flags (on key o)
+flag-back key flag_op.Enable = refl
+flag-back key flag_op.Disable = refl
+
+lww-back : (key : List ℕ) (o : RegisterOp) → doc_op (lww_form key o) ≡ at_lasts (on key o)
+lww-back key (register_op.Set payload) = refl
+
+multi-back : (key : List ℕ) (o : RegisterOp) → doc_op (multi_form key o) ≡ at_multis (on key o)
+multi-back key (register_op.Set payload) = refl
+
+set-back : (key : List ℕ) (o : SetOp) → doc_op (set_form key o) ≡ at_sets (on key o)
+set-back key (set_op.Add element) = refl
+set-back key (set_op.Remove element) = refl
+
+log-back : (key : List ℕ) (o : LogOp) → doc_op (log_form key o) ≡ at_logs (on key o)
+log-back key (log_op.Append payload) = refl
+
+queue-back : (key : List ℕ) (o : QueueOp) → doc_op (queue_form key o) ≡ at_queues (on key o)
+queue-back key (queue_op.Enqueue payload) = refl
+queue-back key queue_op.Dequeue = refl
+
+pub op-back : (d : DocOp) → doc_op (op_form d) ≡ d
+op-back (First o) = counter-back o.key o.operation
+op-back (Second (First o)) = flag-back o.key o.operation
+op-back (Second (Second (First o))) = lww-back o.key o.operation
+op-back (Second (Second (Second (First o)))) = multi-back o.key o.operation
+op-back (Second (Second (Second (Second (First o))))) = set-back o.key o.operation
+op-back (Second (Second (Second (Second (Second (First o)))))) = log-back o.key o.operation
+op-back (Second (Second (Second (Second (Second (Second o)))))) = queue-back o.key o.operation
+
+-- the plain form of a query of a map
+abbrev map_form : {Q : Type 0} → Kind → (List ℕ → Q → PlainQuery) → MapQuery Q → PlainQuery
+map_form k at_key (map_query.AtKey key q) = at_key key q
+map_form k at_key map_query.Keys = Keys k
+
+abbrev counter_query_form : List ℕ → CounterQuery → PlainQuery
+counter_query_form key counter_query.Value = CounterValue key
+
+abbrev flag_query_form : List ℕ → FlagQuery → PlainQuery
+flag_query_form key flag_query.IsOn = FlagIsOn key
+
+abbrev lww_query_form : List ℕ → LwwQuery → PlainQuery
+lww_query_form key lww_query.Get = LwwGet key
+
+abbrev multi_query_form : List ℕ → MultiQuery → PlainQuery
+multi_query_form key multi_query.Values = MultiValues key
+
+abbrev set_query_form : List ℕ → SetQuery → PlainQuery
+set_query_form key (set_query.Contains element) = SetContains key element
+set_query_form key set_query.Members = SetMembers key
+set_query_form key set_query.Size = SetSize key
+
+abbrev log_query_form : List ℕ → LogQuery → PlainQuery
+log_query_form key log_query.Read = LogRead key
+log_query_form key log_query.Length = LogLength key
+
+abbrev queue_query_form : List ℕ → QueueQuery → PlainQuery
+queue_query_form key queue_query.Peek = QueuePeek key
+queue_query_form key queue_query.Items = QueueItems key
+queue_query_form key queue_query.Length = QueueLength key
+
+abbrev pub query_form : DocQuery → PlainQuery
+query_form (First q) = map_form kind.Counter counter_query_form q
+query_form (Second (First q)) = map_form kind.Flag flag_query_form q
+query_form (Second (Second (First q))) = map_form kind.Lww lww_query_form q
+query_form (Second (Second (Second (First q)))) = map_form kind.Multi multi_query_form q
+query_form (Second (Second (Second (Second (First q))))) = map_form kind.Set set_query_form q
+query_form (Second (Second (Second (Second (Second (First q)))))) = map_form kind.Log log_query_form q
+query_form (Second (Second (Second (Second (Second (Second q)))))) = map_form kind.Queue queue_query_form q
+
+keys-there : (k : Kind) → query_form (doc_query (Keys k)) ≡ Keys k
+keys-there kind.Counter = refl
+keys-there kind.Flag = refl
+keys-there kind.Lww = refl
+keys-there kind.Multi = refl
+keys-there kind.Set = refl
+keys-there kind.Log = refl
+keys-there kind.Queue = refl
+
+pub query-there : (p : PlainQuery) → query_form (doc_query p) ≡ p
+query-there (CounterValue key) = refl
+query-there (FlagIsOn key) = refl
+query-there (LwwGet key) = refl
+query-there (MultiValues key) = refl
+query-there (SetContains key element) = refl
+query-there (SetMembers key) = refl
+query-there (SetSize key) = refl
+query-there (LogRead key) = refl
+query-there (LogLength key) = refl
+query-there (QueuePeek key) = refl
+query-there (QueueItems key) = refl
+query-there (QueueLength key) = refl
+query-there (Keys k) = keys-there k
+
+pub query-back : (d : DocQuery) → doc_query (query_form d) ≡ d
+query-back (First (map_query.AtKey key counter_query.Value)) = refl
+query-back (First map_query.Keys) = refl
+query-back (Second (First (map_query.AtKey key flag_query.IsOn))) = refl
+query-back (Second (First map_query.Keys)) = refl
+query-back (Second (Second (First (map_query.AtKey key lww_query.Get)))) = refl
+query-back (Second (Second (First map_query.Keys))) = refl
+query-back (Second (Second (Second (First (map_query.AtKey key multi_query.Values))))) = refl
+query-back (Second (Second (Second (First map_query.Keys)))) = refl
+query-back (Second (Second (Second (Second (First (map_query.AtKey key (set_query.Contains element))))))) = refl
+query-back (Second (Second (Second (Second (First (map_query.AtKey key set_query.Members)))))) = refl
+query-back (Second (Second (Second (Second (First (map_query.AtKey key set_query.Size)))))) = refl
+query-back (Second (Second (Second (Second (First map_query.Keys))))) = refl
+query-back (Second (Second (Second (Second (Second (First (map_query.AtKey key log_query.Read))))))) = refl
+query-back (Second (Second (Second (Second (Second (First (map_query.AtKey key log_query.Length))))))) = refl
+query-back (Second (Second (Second (Second (Second (First map_query.Keys)))))) = refl
+query-back (Second (Second (Second (Second (Second (Second (map_query.AtKey key queue_query.Peek))))))) = refl
+query-back (Second (Second (Second (Second (Second (Second (map_query.AtKey key queue_query.Items))))))) = refl
+query-back (Second (Second (Second (Second (Second (Second (map_query.AtKey key queue_query.Length))))))) = refl
+query-back (Second (Second (Second (Second (Second (Second map_query.Keys)))))) = refl
+
+-- the reply of a plain form
+abbrev took_reply : Option (Kept (List ℕ)) → QueueReply
+took_reply None = Nothing
+took_reply (Some kept) = Took kept
+
+abbrev pub doc_reply : PlainReply → DocReply
+doc_reply reply.Counter = at_counters tt
+doc_reply reply.Flag = at_flags tt
+doc_reply reply.Lww = at_lasts tt
+doc_reply reply.Multi = at_multis tt
+doc_reply reply.Set = at_sets tt
+doc_reply reply.Log = at_logs tt
+doc_reply reply.QueueEnqueued = at_queues Enqueued
+doc_reply (reply.QueueTook first) = at_queues (took_reply first)
+
+pub reply-there : (d : DocReply) → doc_reply (plain_reply d) ≡ d
+reply-there (First r) = refl
+reply-there (Second (First r)) = refl
+reply-there (Second (Second (First r))) = refl
+reply-there (Second (Second (Second (First r)))) = refl
+reply-there (Second (Second (Second (Second (First r))))) = refl
+reply-there (Second (Second (Second (Second (Second (First r)))))) = refl
+reply-there (Second (Second (Second (Second (Second (Second Enqueued)))))) = refl
+reply-there (Second (Second (Second (Second (Second (Second Nothing)))))) = refl
+reply-there (Second (Second (Second (Second (Second (Second (Took kept))))))) = refl
+
+took-back : (first : Option (Kept (List ℕ))) → plain_reply (doc_reply (reply.QueueTook first)) ≡ reply.QueueTook first
+took-back None = refl
+took-back (Some kept) = refl
+
+pub reply-back : (a : PlainReply) → plain_reply (doc_reply a) ≡ a
+reply-back reply.Counter = refl
+reply-back reply.Flag = refl
+reply-back reply.Lww = refl
+reply-back reply.Multi = refl
+reply-back reply.Set = refl
+reply-back reply.Log = refl
+reply-back reply.QueueEnqueued = refl
+reply-back (reply.QueueTook first) = took-back first
+
+-- the answer of a plain form
+abbrev keys_answer : Kind → List (List ℕ) → DocAnswer
+keys_answer kind.Counter keys = at_counters (OnKeys keys)
+keys_answer kind.Flag keys = at_flags (OnKeys keys)
+keys_answer kind.Lww keys = at_lasts (OnKeys keys)
+keys_answer kind.Multi keys = at_multis (OnKeys keys)
+keys_answer kind.Set keys = at_sets (OnKeys keys)
+keys_answer kind.Log keys = at_logs (OnKeys keys)
+keys_answer kind.Queue keys = at_queues (OnKeys keys)
+
+abbrev pub doc_answer : PlainAnswer → DocAnswer
+doc_answer (answer.CounterValue n) = at_counters (OnValue n)
+doc_answer (answer.FlagIsOn b) = at_flags (OnValue b)
+doc_answer (answer.LwwGet payload) = at_lasts (OnValue payload)
+doc_answer (answer.MultiValues payloads) = at_multis (OnValue payloads)
+doc_answer (answer.SetContains b) = at_sets (OnValue (IsIn b))
+doc_answer (answer.SetMembers members) = at_sets (OnValue (All members))
+doc_answer (answer.SetSize n) = at_sets (OnValue (Count n))
+doc_answer (answer.LogRead entries) = at_logs (OnValue (log_answer.OnEntries entries))
+doc_answer (answer.LogLength n) = at_logs (OnValue (log_answer.OnLength n))
+doc_answer (answer.QueuePeek first) = at_queues (OnValue (queue_answer.OnFirst first))
+doc_answer (answer.QueueItems items) = at_queues (OnValue (queue_answer.OnItems items))
+doc_answer (answer.QueueLength n) = at_queues (OnValue (queue_answer.OnLength n))
+doc_answer (answer.Keys k keys) = keys_answer k keys
+
+pub answer-there : (d : DocAnswer) → doc_answer (plain_answer d) ≡ d
+answer-there (First (OnValue n)) = refl
+answer-there (First (OnKeys keys)) = refl
+answer-there (Second (First (OnValue b))) = refl
+answer-there (Second (First (OnKeys keys))) = refl
+answer-there (Second (Second (First (OnValue payload)))) = refl
+answer-there (Second (Second (First (OnKeys keys)))) = refl
+answer-there (Second (Second (Second (First (OnValue payloads))))) = refl
+answer-there (Second (Second (Second (First (OnKeys keys))))) = refl
+answer-there (Second (Second (Second (Second (First (OnValue (IsIn b))))))) = refl
+answer-there (Second (Second (Second (Second (First (OnValue (All members))))))) = refl
+answer-there (Second (Second (Second (Second (First (OnValue (Count n))))))) = refl
+answer-there (Second (Second (Second (Second (First (OnKeys keys)))))) = refl
+answer-there (Second (Second (Second (Second (Second (First (OnValue (log_answer.OnEntries entries)))))))) = refl
+answer-there (Second (Second (Second (Second (Second (First (OnValue (log_answer.OnLength n)))))))) = refl
+answer-there (Second (Second (Second (Second (Second (First (OnKeys keys))))))) = refl
+answer-there (Second (Second (Second (Second (Second (Second (OnValue (queue_answer.OnFirst first)))))))) = refl
+answer-there (Second (Second (Second (Second (Second (Second (OnValue (queue_answer.OnItems items)))))))) = refl
+answer-there (Second (Second (Second (Second (Second (Second (OnValue (queue_answer.OnLength n)))))))) = refl
+answer-there (Second (Second (Second (Second (Second (Second (OnKeys keys))))))) = refl
+
+keys-back : (k : Kind) (keys : List (List ℕ)) → plain_answer (keys_answer k keys) ≡ answer.Keys k keys
+keys-back kind.Counter keys = refl
+keys-back kind.Flag keys = refl
+keys-back kind.Lww keys = refl
+keys-back kind.Multi keys = refl
+keys-back kind.Set keys = refl
+keys-back kind.Log keys = refl
+keys-back kind.Queue keys = refl
+
+pub answer-back : (a : PlainAnswer) → plain_answer (doc_answer a) ≡ a
+answer-back (answer.CounterValue n) = refl
+answer-back (answer.FlagIsOn b) = refl
+answer-back (answer.LwwGet payload) = refl
+answer-back (answer.MultiValues payloads) = refl
+answer-back (answer.SetContains b) = refl
+answer-back (answer.SetMembers members) = refl
+answer-back (answer.SetSize n) = refl
+answer-back (answer.LogRead entries) = refl
+answer-back (answer.LogLength n) = refl
+answer-back (answer.QueuePeek first) = refl
+answer-back (answer.QueueItems items) = refl
+answer-back (answer.QueueLength n) = refl
+answer-back (answer.Keys k keys) = keys-back k keys

@@ -1,0 +1,3 @@
+pub mod Sides
+pub mod Forms
+pub mod Document

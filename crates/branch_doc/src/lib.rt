@@ -1,0 +1,16 @@
+//! The typed document of the store: a map for each of seven mergeable types, and the plain forms of its operations,
+//! queries, replies and answers.
+#![tactic(auto)]
+
+pub mod doc;
+pub mod forms;
+pub mod laws;
+pub mod plain;
+mod sides;
+
+pub use doc::{Doc, DocAnswer, DocOp, DocQuery, DocReply};
+pub use forms::{answer, op, query, reply};
+pub use plain::{Kind, PlainAnswer, PlainOp, PlainQuery, PlainReply};
+
+#[cfg(test)]
+mod tests;

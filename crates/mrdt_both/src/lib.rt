@@ -1,0 +1,11 @@
+//! The product of two types that merge: what is said of a side is what its type says over the operations on that
+//! side.
+#![tactic(auto)]
+
+pub mod both;
+pub mod laws;
+
+pub use both::{Both, Side};
+
+#[cfg(test)]
+mod tests;
