@@ -1,0 +1,4 @@
+pub mod Bridge
+pub mod Noted
+pub mod Settled
+pub mod Shadow
