@@ -1,0 +1,11 @@
+//! Addresses: 32 bytes that stand for any bytes.
+//!
+//! An address is one fixed function of the bytes. Nothing says that different bytes have different addresses.
+#![tactic(auto)]
+
+pub mod address;
+
+pub use address::{Address, Sha256Address, WeakAddress};
+
+#[cfg(test)]
+mod tests;

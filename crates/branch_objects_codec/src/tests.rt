@@ -1,0 +1,182 @@
+use crate::{Action, Object};
+use mrdt_model::{Bytes, Listing, Memory, Unread};
+use std::alloc::Global;
+
+// The value `ab`.
+const VALUE: &[u8] = b"\x01\x00\x00\x00\x00\x00\x00\x00\x02ab";
+
+// The root commit, with the value at the address of 32 letters `v`.
+const ROOT: &[u8] = b"\
+\x02\x00\x00\x00\x00\x00\x00\x00\x35\
+\x00\x00\x00\x00\x00\x00\x00\x00\
+\x00\x00\x00\x00\
+\x00\x00\x00\x00\x00\x00\x00\x00\
+vvvvvvvvvvvvvvvvvvvvvvvvvvvvvvvv\
+\x00";
+
+// On branch 3 and at clock 258, above `p`, the operation `op` that replied `r`.
+const OPERATION: &[u8] = b"\
+\x02\x00\x00\x00\x00\x00\x00\x00\x68\
+\x00\x00\x00\x00\x00\x00\x00\x01\
+pppppppppppppppppppppppppppppppp\
+\x00\x00\x00\x03\
+\x00\x00\x00\x00\x00\x00\x01\x02\
+vvvvvvvvvvvvvvvvvvvvvvvvvvvvvvvv\
+\x01\
+\x00\x00\x00\x00\x00\x00\x00\x02op\
+\x00\x00\x00\x00\x00\x00\x00\x01r";
+
+// On branch 1 and at clock 2, the merge of `p` and `q`.
+const MERGE: &[u8] = b"\
+\x02\x00\x00\x00\x00\x00\x00\x00\x75\
+\x00\x00\x00\x00\x00\x00\x00\x02\
+pppppppppppppppppppppppppppppppp\
+qqqqqqqqqqqqqqqqqqqqqqqqqqqqqqqq\
+\x00\x00\x00\x01\
+\x00\x00\x00\x00\x00\x00\x00\x02\
+vvvvvvvvvvvvvvvvvvvvvvvvvvvvvvvv\
+\x02";
+
+// A root with a parent, and a merge of one.
+const ROOT_WITH_PARENT: &[u8] = b"\
+\x02\x00\x00\x00\x00\x00\x00\x00\x55\
+\x00\x00\x00\x00\x00\x00\x00\x01\
+pppppppppppppppppppppppppppppppp\
+\x00\x00\x00\x00\
+\x00\x00\x00\x00\x00\x00\x00\x00\
+vvvvvvvvvvvvvvvvvvvvvvvvvvvvvvvv\
+\x00";
+
+const MERGE_OF_ONE: &[u8] = b"\
+\x02\x00\x00\x00\x00\x00\x00\x00\x55\
+\x00\x00\x00\x00\x00\x00\x00\x01\
+pppppppppppppppppppppppppppppppp\
+\x00\x00\x00\x01\
+\x00\x00\x00\x00\x00\x00\x00\x02\
+vvvvvvvvvvvvvvvvvvvvvvvvvvvvvvvv\
+\x02";
+
+fn commit(
+    alloc: Global,
+    parents: &[[u8; 32]],
+    branch: u32,
+    clock: u64,
+    action: Action,
+) -> Result<Object, Memory> {
+    Ok(Object::Commit {
+        parents: Listing::from_vec(Vec::from_slice(alloc, parents)?),
+        branch,
+        clock,
+        value: [b'v'; 32],
+        action,
+    })
+}
+
+fn root(alloc: Global) -> Result<Object, Memory> {
+    commit(alloc, &[], 0, 0, Action::Root)
+}
+
+fn operation(alloc: Global, op: &[u8], reply: &[u8]) -> Result<Object, Memory> {
+    let action = Action::Operation {
+        op: Bytes::from_slice(alloc, op)?,
+        reply: Bytes::from_slice(alloc, reply)?,
+    };
+    commit(alloc, &[[b'p'; 32]], 3, 258, action)
+}
+
+fn merge(alloc: Global) -> Result<Object, Memory> {
+    commit(alloc, &[[b'p'; 32], [b'q'; 32]], 1, 2, Action::Merge)
+}
+
+fn value(alloc: Global, bytes: &[u8]) -> Result<Object, Memory> {
+    Ok(Object::Value(Bytes::from_slice(alloc, bytes)?))
+}
+
+fn spelled(alloc: Global, object: &Object) -> Result<Vec<u8>, Memory> {
+    let mut out = Vec::new(alloc);
+    object.put(&mut out)?;
+    Ok(out)
+}
+
+// The bytes, read as an object and spelled again.
+fn again(alloc: Global, bytes: &[u8]) -> Result<Vec<u8>, Unread> {
+    Ok(spelled(alloc, &Object::get(alloc, bytes)?)?)
+}
+
+fn is_none(alloc: Global, bytes: &[u8]) -> bool {
+    matches!(Object::get(alloc, bytes), Err(Unread::NotCanonical))
+}
+
+#[test]
+fn objects_are_spelled(rt: HostRuntime) {
+    let alloc = rt.alloc();
+    let text = spelled(alloc, &value(alloc, b"ab").expect(&rt, "a value")).expect(&rt, "bytes");
+    assert!(rt; text.as_slice() == VALUE);
+    let text = spelled(alloc, &root(alloc).expect(&rt, "a root")).expect(&rt, "bytes");
+    assert!(rt; text.as_slice() == ROOT);
+    let object = operation(alloc, b"op", b"r").expect(&rt, "an operation");
+    let text = spelled(alloc, &object).expect(&rt, "bytes");
+    assert!(rt; text.as_slice() == OPERATION);
+    let text = spelled(alloc, &merge(alloc).expect(&rt, "a merge")).expect(&rt, "bytes");
+    assert!(rt; text.as_slice() == MERGE);
+}
+
+#[test]
+fn objects_have_their_lengths(rt: HostRuntime) {
+    let alloc = rt.alloc();
+    let initial = value(alloc, &[0; 104]).expect(&rt, "a value");
+    assert!(rt; spelled(alloc, &initial).expect(&rt, "bytes").len() == 113);
+    let first = root(alloc).expect(&rt, "a root");
+    assert!(rt; spelled(alloc, &first).expect(&rt, "bytes").len() == 62);
+    let both = merge(alloc).expect(&rt, "a merge");
+    assert!(rt; spelled(alloc, &both).expect(&rt, "bytes").len() == 126);
+    let add = operation(alloc, &[1; 21], b"\x01").expect(&rt, "an operation");
+    assert!(rt; spelled(alloc, &add).expect(&rt, "bytes").len() == 132);
+}
+
+#[test]
+fn an_object_is_written_behind_what_is_there(rt: HostRuntime) {
+    let mut out = Vec::from_slice(rt.alloc(), b"old").expect(&rt, "bytes");
+    assert!(rt;
+        value(rt.alloc(), b"ab")
+            .expect(&rt, "a value")
+            .put(&mut out)
+            .is_ok()
+    );
+    assert!(rt; out.as_slice() == b"old\x01\x00\x00\x00\x00\x00\x00\x00\x02ab".as_slice());
+}
+
+#[test]
+fn objects_are_read(rt: HostRuntime) {
+    let alloc = rt.alloc();
+    for bytes in [VALUE, ROOT, OPERATION, MERGE] {
+        assert!(rt; again(alloc, bytes).expect(&rt, "an object").as_slice() == bytes);
+    }
+    let object = Object::get(alloc, OPERATION).expect(&rt, "an operation");
+    let Object::Commit {
+        parents,
+        branch,
+        clock,
+        value,
+        action: Action::Operation { op, reply },
+    } = &object
+    else {
+        assert!(rt; false, "an operation");
+        return;
+    };
+    assert!(rt; parents.as_slice() == [[b'p'; 32]].as_slice());
+    assert!(rt; *branch == 3 && *clock == 258 && *value == [b'v'; 32]);
+    assert!(rt; op.as_slice() == b"op".as_slice() && reply.as_slice() == b"r".as_slice());
+}
+
+#[test]
+fn other_bytes_are_no_object(rt: HostRuntime) {
+    let alloc = rt.alloc();
+    assert!(rt; is_none(alloc, b""));
+    assert!(rt; is_none(alloc, b"\x01\x00\x00\x00\x00\x00\x00\x00\x02a"));
+    assert!(rt; is_none(alloc, b"\x01\x00\x00\x00\x00\x00\x00\x00\x02abc"));
+    assert!(rt; is_none(alloc, b"\x03\x00\x00\x00\x00\x00\x00\x00\x02ab"));
+    assert!(rt; is_none(alloc, &MERGE[..125]));
+    assert!(rt; is_none(alloc, ROOT_WITH_PARENT));
+    assert!(rt; is_none(alloc, MERGE_OF_ONE));
+}
