@@ -1,0 +1,10 @@
+pub mod Blocks
+pub mod Bytes
+pub mod Create
+pub mod Headings
+pub mod Padding
+pub mod Put
+pub mod Readings
+pub mod Records
+pub mod Spelled
+pub mod Whole

@@ -1,0 +1,6 @@
+pub mod Blocks
+pub mod Format
+pub mod Heads
+pub mod Headings
+pub mod Journals
+pub mod Reading
