@@ -1,0 +1,15 @@
+-- What a crash may leave of the objects' file.
+use Rattle.std.specs.Prelude.{◌≡◌, ℕ, List, length, take}
+use Rattle.branch_disk.specs.Disk.{Files}
+
+-- the file begins with this text
+abbrev pub Begins : List ℕ → List ℕ → Type 0
+Begins text file = take (length text) file ≡ text
+
+-- the objects of each of these files begin with this text
+abbrev pub AllBegin : List ℕ → (Files → Type 0) → Type 0
+AllBegin text images = (c : Files) → images c → Begins text c.objects
+
+-- the objects still begin with this text, and the heads stay
+abbrev pub Grows : List ℕ → Files → Files → Type 0
+Grows text old new = Begins text new.objects × (new.heads ≡ old.heads)
