@@ -1,10 +1,14 @@
 -- The texts of replies.
-use Rattle.std.specs.Prelude.{ℕ, ℤ, List, [], ◌∷◌, ◌++◌, codes, decimal, length}
+use Rattle.std.specs.Prelude.{ℕ, Bool, Option, None, Some, List, [], ◌∷◌, ◌++◌, codes, decimal, length, if◌then◌else◌}
 use Rattle.std.specs.Fmt.{signed_decimal}
 use Rattle.std.specs.List.{flat_map}
 use Rattle.mrdt_model.specs.declared.time.Time.{Time}
-use Rattle.mrdt_map.specs.declared.map.MapAnswer.{MapAnswer}
-use Rattle.mrdt_map.specs.declared.map.MapAnswer.TheVariants.{OnValue, OnKeys}
+use Rattle.live_set.specs.declared.kept.Kept.{Kept}
+use Rattle.branch_doc.specs.declared.plain.PlainReply.{PlainReply}
+use Rattle.branch_doc.specs.declared.plain.PlainReply.TheVariants as reply
+use Rattle.branch_doc.specs.declared.plain.PlainAnswer.{PlainAnswer}
+use Rattle.branch_doc.specs.declared.plain.PlainAnswer.TheVariants.{CounterValue, FlagIsOn, LwwGet, MultiValues, SetContains, SetMembers, SetSize, LogRead, LogLength, QueuePeek, QueueItems, QueueLength, Keys}
+use Rattle.branch_doc.specs.Forms.{DocReply, DocAnswer, plain_reply, plain_answer}
 use Rattle.branch_script.specs.declared.step.LineRefusal.{LineRefusal}
 use Rattle.branch_script.specs.declared.step.LineRefusal.TheVariants.{Syntax, BadName, BadNumber, Memory}
 use Rattle.branch_history.specs.Steps.{Refusal, UnknownBranch, NameTaken, Stale, Exhausted, FullCommits, FullBranches, FullMoves, ValueTooLarge, ManyBases, Outcome, Sees, Forked, Landed, Merged, Forwarded, Same, Answered, Refused}
@@ -21,9 +25,39 @@ time_text t = decimal t.clock ++ codes "." ++ decimal t.origin
 abbrev pub items_text : List (List ℕ) → List ℕ
 items_text items = codes "[" ++ decimal (length items) ++ codes "]" ++ flat_map (λ item. codes " " ++ item) items
 
-abbrev pub answer_text : MapAnswer ℤ → List ℕ
-answer_text (OnValue value) = signed_decimal value
-answer_text (OnKeys keys) = items_text keys
+-- a time, and what was put then
+abbrev pub entry_text : Kept (List ℕ) → List ℕ
+entry_text entry = time_text entry.time ++ codes " " ++ entry.payload
+
+-- `[count]`, then each entry after a space
+abbrev pub entries_text : List (Kept (List ℕ)) → List ℕ
+entries_text entries = codes "[" ++ decimal (length entries) ++ codes "]" ++ flat_map (λ entry. codes " " ++ entry_text entry) entries
+
+-- the one that there is, or none
+abbrev pub at_most_one : {X : Type 0} → Option X → List X
+at_most_one None = []
+at_most_one (Some x) = x ∷ []
+
+abbrev pub answer_text : PlainAnswer → List ℕ
+answer_text (CounterValue value) = signed_decimal value
+answer_text (FlagIsOn is_on) = if is_on then codes "on" else codes "off"
+answer_text (LwwGet payload) = items_text (at_most_one payload)
+answer_text (MultiValues payloads) = items_text payloads
+answer_text (SetContains is_in) = if is_in then codes "yes" else codes "no"
+answer_text (SetMembers members) = items_text members
+answer_text (SetSize size) = decimal size
+answer_text (LogRead entries) = entries_text entries
+answer_text (LogLength count) = decimal count
+answer_text (QueuePeek first) = entries_text (at_most_one first)
+answer_text (QueueItems entries) = entries_text entries
+answer_text (QueueLength count) = decimal count
+answer_text (Keys kind keys) = items_text keys
+
+-- what the reply to an operation adds to its text: a Dequeue says what it took
+abbrev pub reply_text : PlainReply → List ℕ
+reply_text (reply.QueueTook None) = codes " took nothing"
+reply_text (reply.QueueTook (Some entry)) = codes " took " ++ entry_text entry
+reply_text other = []
 
 -- a refusal, of a step on the branch of this name
 abbrev pub refusal_text : List ℕ → Refusal → List ℕ
@@ -43,8 +77,8 @@ sees_text session branch head = session ++ codes " sees " ++ branch ++ codes " a
 abbrev pub forked_text : List ℕ → ℕ → ℕ → List ℕ
 forked_text branch number head = codes "forked " ++ branch ++ codes " as " ++ decimal number ++ codes " at #" ++ decimal head
 
-abbrev pub landed_text : ℕ → Time → List ℕ
-landed_text commit time = codes "landed #" ++ decimal commit ++ codes " at " ++ time_text time
+abbrev pub landed_text : ℕ → Time → PlainReply → List ℕ
+landed_text commit time said = codes "landed #" ++ decimal commit ++ codes " at " ++ time_text time ++ reply_text said
 
 abbrev pub merged_text : ℕ → List ℕ
 merged_text commit = codes "merged #" ++ decimal commit
@@ -56,14 +90,14 @@ abbrev pub same_text : List ℕ
 same_text = codes "same"
 
 -- an outcome, for a session and a branch of these names; a fork's branch is the new one
-abbrev pub outcome_text : {R : Type 0} → List ℕ → List ℕ → Outcome (MapAnswer ℤ) R → List ℕ
+abbrev pub outcome_text : List ℕ → List ℕ → Outcome DocAnswer DocReply → List ℕ
 outcome_text session branch (Sees number head) = sees_text session branch head
 outcome_text session branch (Forked number head) = forked_text branch number head
-outcome_text session branch (Landed commit time reply) = landed_text commit time
+outcome_text session branch (Landed commit time said) = landed_text commit time (plain_reply said)
 outcome_text session branch (Merged commit) = merged_text commit
 outcome_text session branch (Forwarded commit) = forward_text commit
 outcome_text session branch Same = same_text
-outcome_text session branch (Answered answer) = answer_text answer
+outcome_text session branch (Answered answer) = answer_text (plain_answer answer)
 outcome_text session branch (Refused refusal) = refusal_text branch refusal
 
 -- a line that is no step; of want of memory nothing is told

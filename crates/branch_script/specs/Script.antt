@@ -1,54 +1,77 @@
 -- What a line of a script says.
-use Rattle.std.specs.Prelude.{◌≡◌, ℕ, ℤ, Bool, ◌&&◌, bytes_eq, codes, Option, Some, None, Result, Ok, Err, List, [], ◌∷◌, if◌then◌else◌}
-use Rattle.mrdt_counter.specs.declared.counter.CounterOp.TheVariants.{Add}
-use Rattle.mrdt_counter.specs.declared.counter.CounterQuery.TheVariants.{Value}
-use Rattle.mrdt_map.specs.declared.map.MapQuery.TheVariants.{AtKey, Keys}
+use Rattle.std.specs.Prelude.{◌≡◌, ℕ, Bool, ◌&&◌, bytes_eq, codes, Option, Some, None, Result, Ok, Err, List, [], ◌∷◌, if◌then◌else◌}
+use Rattle.branch_doc.specs.declared.plain.Kind.{Kind}
+use Rattle.branch_doc.specs.declared.plain.PlainOp.{PlainOp}
+use Rattle.branch_doc.specs.declared.plain.PlainQuery.TheVariants.{Keys}
 use Rattle.branch_names.specs.Names.{is_name}
 use Rattle.branch_script.specs.declared.step.Step.{Step}
 use Rattle.branch_script.specs.declared.step.Step.TheVariants.{Look, Fork, Merge, Do, Ask}
 use Rattle.branch_script.specs.declared.step.LineRefusal.{LineRefusal}
-use Rattle.branch_script.specs.declared.step.LineRefusal.TheVariants.{Syntax, BadName, BadNumber, Memory}
+use Rattle.branch_script.specs.declared.step.LineRefusal.TheVariants.{Syntax, BadName, Memory}
 use Rattle.branch_script.specs.Lines.{words_of, is_silent, is_plain}
-use Rattle.branch_script.specs.Numbers.{integer_of}
+use Rattle.branch_script.specs.Tables.{behind, kind_named, operations_at_key, operations_with_word, queries_at_key, queries_with_word}
 
 -- whether a word of a line is this keyword
 abbrev pub is : List ℕ → List ℕ → Bool
 is keyword word = bytes_eq word keyword
 
--- this step, where the words are names
+-- the step of what was found in a table; a line for which there is nothing fits no form
+abbrev pub fits : {A : Type 0} → Option A → (A → Result Step LineRefusal) → Result Step LineRefusal
+fits None step = Err Syntax
+fits (Some found) step = step found
+
+-- this step, where the word is a name
 abbrev pub named : List ℕ → Result Step LineRefusal → Result Step LineRefusal
 named word step = if is_name word then step else Err BadName
 
--- an amount added to the counter at a key
-abbrev pub add_step : List ℕ → List ℕ → Option ℤ → Result Step LineRefusal
-add_step session key None = Err BadNumber
-add_step session key (Some amount) = Ok (Do session (record { key = key; operation = Add amount }))
+-- a session does an operation, where its number is one
+abbrev pub do_step : List ℕ → Result PlainOp LineRefusal → Result Step LineRefusal
+do_step session (Err refusal) = Err refusal
+do_step session (Ok op) = Ok (Do session op)
 
 -- `look SESSION BRANCH`, `fork NEW BRANCH`, `merge SESSION BRANCH`
 abbrev pub three_words : List ℕ → List ℕ → List ℕ → Result Step LineRefusal
 three_words verb a b =
-    if is (codes "look") verb then named a (named b (Ok (Look a b)))
-    else if is (codes "fork") verb then named a (named b (Ok (Fork a b)))
-    else if is (codes "merge") verb then named a (named b (Ok (Merge a b)))
-    else Err Syntax
+    fits (behind verb ((codes "look", Look a b) ∷ (codes "fork", Fork a b) ∷ (codes "merge", Merge a b) ∷ []))
+    (λ step. named a (named b (Ok step)))
 
--- `ask BRANCH counter keys`
+-- `ask BRANCH KIND keys`
 abbrev pub four_words : List ℕ → List ℕ → List ℕ → List ℕ → Result Step LineRefusal
 four_words verb branch kind query =
-    if is (codes "ask") verb && is (codes "counter") kind && is (codes "keys") query
-    then named branch (Ok (Ask branch Keys)) else Err Syntax
+    if is (codes "ask") verb && is (codes "keys") query
+    then fits (kind_named kind) (λ kind. named branch (Ok (Ask branch (Keys kind)))) else Err Syntax
 
--- `ask BRANCH counter KEY value`
+-- `do SESSION KIND KEY OPERATION`
+abbrev pub do_at_key : List ℕ → Kind → List ℕ → List ℕ → Result Step LineRefusal
+do_at_key session kind key operation =
+    fits (behind operation (operations_at_key kind key)) (λ op. named session (Ok (Do session op)))
+
+-- `ask BRANCH KIND KEY QUERY`
+abbrev pub ask_at_key : List ℕ → Kind → List ℕ → List ℕ → Result Step LineRefusal
+ask_at_key branch kind key query =
+    fits (behind query (queries_at_key kind key)) (λ found. named branch (Ok (Ask branch found)))
+
+-- `do SESSION KIND KEY OPERATION WORD`
+abbrev pub do_with_word : List ℕ → Kind → List ℕ → List ℕ → List ℕ → Result Step LineRefusal
+do_with_word session kind key operation word =
+    fits (behind operation (operations_with_word kind key word)) (λ op. named session (do_step session op))
+
+-- `ask BRANCH KIND KEY QUERY WORD`
+abbrev pub ask_with_word : List ℕ → Kind → List ℕ → List ℕ → List ℕ → Result Step LineRefusal
+ask_with_word branch kind key query word =
+    fits (behind query (queries_with_word kind key word)) (λ found. named branch (Ok (Ask branch found)))
+
 abbrev pub five_words : List ℕ → List ℕ → List ℕ → List ℕ → List ℕ → Result Step LineRefusal
-five_words verb branch kind key query =
-    if is (codes "ask") verb && is (codes "counter") kind && is (codes "value") query
-    then named branch (Ok (Ask branch (AtKey key Value))) else Err Syntax
+five_words verb name kind key last =
+    if is (codes "do") verb then fits (kind_named kind) (λ kind. do_at_key name kind key last)
+    else if is (codes "ask") verb then fits (kind_named kind) (λ kind. ask_at_key name kind key last)
+    else Err Syntax
 
--- `do SESSION counter KEY add INT`
 abbrev pub six_words : List ℕ → List ℕ → List ℕ → List ℕ → List ℕ → List ℕ → Result Step LineRefusal
-six_words verb session kind key operation amount =
-    if is (codes "do") verb && is (codes "counter") kind && is (codes "add") operation
-    then named session (add_step session key (integer_of amount)) else Err Syntax
+six_words verb name kind key last word =
+    if is (codes "do") verb then fits (kind_named kind) (λ kind. do_with_word name kind key last word)
+    else if is (codes "ask") verb then fits (kind_named kind) (λ kind. ask_with_word name kind key last word)
+    else Err Syntax
 
 -- the step of a line's words: a line that fits no form is refused first, then a bad name, then a bad number
 abbrev pub words_step : List (List ℕ) → Result Step LineRefusal

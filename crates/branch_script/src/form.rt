@@ -1,13 +1,14 @@
 // The forms of a line.
 ghost use Rattle.std.specs.Prelude.{◌≡◌, map, Ok, IfOk, IfErr};
-ghost use Rattle.branch_script.specs.Script.{three_words, four_words, five_words, six_words, words_step, step_of, IsRefusedAs, IsLineRefusedAs};
+ghost use Rattle.branch_script.specs.Script.{three_words, four_words, do_at_key, ask_at_key, do_with_word, ask_with_word, five_words, six_words, words_step, step_of, IsRefusedAs, IsLineRefusedAs};
 
-use crate::numbers::integer;
 use crate::step::{LineRefusal, Step};
+use crate::tables::{
+    kind_named, operation_at_key, operation_with_word, query_at_key, query_with_word,
+};
 use crate::words::{plain, silent, words};
+use branch_doc::{Kind, PlainQuery};
 use branch_names::Name;
-use mrdt_counter::{CounterOp, CounterQuery};
-use mrdt_map::{MapQuery, OnKey};
 use mrdt_model::Bytes;
 use std::alloc::Global;
 
@@ -34,63 +35,129 @@ fn three_words(verb: &[u8], first: &[u8], second: &[u8]) -> Result<Step, LineRef
 fn four_words(verb: &[u8], branch: &[u8], kind: &[u8], query: &[u8]) -> Result<Step, LineRefusal>
     ensures { result ≡ four_words verb.now branch.now kind.now query.now }
 {
-    if verb != b"ask".as_slice() || kind != b"counter".as_slice() || query != b"keys".as_slice() {
+    if verb != b"ask".as_slice() || query != b"keys".as_slice() {
         return Err(LineRefusal::Syntax);
     }
+    let Some(kind) = kind_named(kind) else {
+        return Err(LineRefusal::Syntax);
+    };
     Ok(Step::Ask {
         branch: Name::read(branch)?,
-        query: MapQuery::Keys,
+        query: PlainQuery::Keys(kind),
     })
+}
+
+fn do_at_key(
+    alloc: Global,
+    session: &[u8],
+    kind: Kind,
+    key: &[u8],
+    operation: &[u8],
+) -> Result<Step, LineRefusal>
+    ensures ok { IfOk result (λ step. do_at_key session.now kind key.now operation.now ≡ Ok step) }
+    ensures err { IfErr result (IsRefusedAs (do_at_key session.now kind key.now operation.now)) }
+{
+    let key = Bytes::from_slice(alloc, key)?;
+    let Some(op) = operation_at_key(kind, operation, key) else {
+        return Err(LineRefusal::Syntax);
+    };
+    let session = Name::read(session)?;
+    Ok(Step::Do { session, op })
+}
+
+fn ask_at_key(
+    alloc: Global,
+    branch: &[u8],
+    kind: Kind,
+    key: &[u8],
+    query: &[u8],
+) -> Result<Step, LineRefusal>
+    ensures ok { IfOk result (λ step. ask_at_key branch.now kind key.now query.now ≡ Ok step) }
+    ensures err { IfErr result (IsRefusedAs (ask_at_key branch.now kind key.now query.now)) }
+{
+    let key = Bytes::from_slice(alloc, key)?;
+    let Some(query) = query_at_key(kind, query, key) else {
+        return Err(LineRefusal::Syntax);
+    };
+    let branch = Name::read(branch)?;
+    Ok(Step::Ask { branch, query })
+}
+
+fn do_with_word(
+    alloc: Global,
+    session: &[u8],
+    kind: Kind,
+    key: &[u8],
+    operation: &[u8],
+    word: &[u8],
+) -> Result<Step, LineRefusal>
+    ensures ok { IfOk result (λ step. do_with_word session.now kind key.now operation.now word.now ≡ Ok step) }
+    ensures err { IfErr result (IsRefusedAs (do_with_word session.now kind key.now operation.now word.now)) }
+{
+    let key = Bytes::from_slice(alloc, key)?;
+    let word = Bytes::from_slice(alloc, word)?;
+    let Some(op) = operation_with_word(kind, operation, key, word) else {
+        return Err(LineRefusal::Syntax);
+    };
+    let session = Name::read(session)?;
+    Ok(Step::Do { session, op: op? })
+}
+
+fn ask_with_word(
+    alloc: Global,
+    branch: &[u8],
+    kind: Kind,
+    key: &[u8],
+    query: &[u8],
+    word: &[u8],
+) -> Result<Step, LineRefusal>
+    ensures ok { IfOk result (λ step. ask_with_word branch.now kind key.now query.now word.now ≡ Ok step) }
+    ensures err { IfErr result (IsRefusedAs (ask_with_word branch.now kind key.now query.now word.now)) }
+{
+    let key = Bytes::from_slice(alloc, key)?;
+    let word = Bytes::from_slice(alloc, word)?;
+    let Some(query) = query_with_word(kind, query, key, word) else {
+        return Err(LineRefusal::Syntax);
+    };
+    let branch = Name::read(branch)?;
+    Ok(Step::Ask { branch, query })
 }
 
 fn five_words(
     alloc: Global,
     verb: &[u8],
-    branch: &[u8],
+    name: &[u8],
     kind: &[u8],
     key: &[u8],
-    query: &[u8],
+    last: &[u8],
 ) -> Result<Step, LineRefusal>
-    ensures ok { IfOk result (λ step. five_words verb.now branch.now kind.now key.now query.now ≡ Ok step) }
-    ensures err { IfErr result (IsRefusedAs (five_words verb.now branch.now kind.now key.now query.now)) }
+    ensures ok { IfOk result (λ step. five_words verb.now name.now kind.now key.now last.now ≡ Ok step) }
+    ensures err { IfErr result (IsRefusedAs (five_words verb.now name.now kind.now key.now last.now)) }
 {
-    if verb != b"ask".as_slice() || kind != b"counter".as_slice() || query != b"value".as_slice() {
-        return Err(LineRefusal::Syntax);
+    match (verb, kind_named(kind)) {
+        (b"do", Some(kind)) => do_at_key(alloc, name, kind, key, last),
+        (b"ask", Some(kind)) => ask_at_key(alloc, name, kind, key, last),
+        _ => Err(LineRefusal::Syntax),
     }
-    let branch = Name::read(branch)?;
-    let key = Bytes::from_slice(alloc, key)?;
-    Ok(Step::Ask {
-        branch,
-        query: MapQuery::AtKey(key, CounterQuery::Value),
-    })
 }
 
 fn six_words(
     alloc: Global,
     verb: &[u8],
-    session: &[u8],
+    name: &[u8],
     kind: &[u8],
     key: &[u8],
-    operation: &[u8],
-    amount: &[u8],
+    last: &[u8],
+    word: &[u8],
 ) -> Result<Step, LineRefusal>
-    ensures ok { IfOk result (λ step. six_words verb.now session.now kind.now key.now operation.now amount.now ≡ Ok step) }
-    ensures err { IfErr result (IsRefusedAs (six_words verb.now session.now kind.now key.now operation.now amount.now)) }
+    ensures ok { IfOk result (λ step. six_words verb.now name.now kind.now key.now last.now word.now ≡ Ok step) }
+    ensures err { IfErr result (IsRefusedAs (six_words verb.now name.now kind.now key.now last.now word.now)) }
 {
-    if verb != b"do".as_slice() || kind != b"counter".as_slice() || operation != b"add".as_slice() {
-        return Err(LineRefusal::Syntax);
+    match (verb, kind_named(kind)) {
+        (b"do", Some(kind)) => do_with_word(alloc, name, kind, key, last, word),
+        (b"ask", Some(kind)) => ask_with_word(alloc, name, kind, key, last, word),
+        _ => Err(LineRefusal::Syntax),
     }
-    let session = Name::read(session)?;
-    let Some(amount) = integer(amount) else {
-        return Err(LineRefusal::BadNumber);
-    };
-    Ok(Step::Do {
-        session,
-        op: OnKey {
-            key: Bytes::from_slice(alloc, key)?,
-            operation: CounterOp::Add(amount),
-        },
-    })
 }
 
 // The step of a line's words.
@@ -101,9 +168,9 @@ fn fit_words(alloc: Global, words: &[&[u8]]) -> Result<Step, LineRefusal>
     match words {
         [verb, first, second] => three_words(verb, first, second),
         [verb, branch, kind, query] => four_words(verb, branch, kind, query),
-        [verb, branch, kind, key, query] => five_words(alloc, verb, branch, kind, key, query),
-        [verb, session, kind, key, operation, amount] => {
-            six_words(alloc, verb, session, kind, key, operation, amount)
+        [verb, name, kind, key, last] => five_words(alloc, verb, name, kind, key, last),
+        [verb, name, kind, key, last, word] => {
+            six_words(alloc, verb, name, kind, key, last, word)
         }
         _ => Err(LineRefusal::Syntax),
     }

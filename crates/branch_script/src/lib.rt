@@ -4,6 +4,7 @@
 mod form;
 mod numbers;
 pub mod step;
+mod tables;
 #[cfg(test)]
 mod tests;
 mod words;

@@ -1,39 +1,23 @@
 // What a line of a script asks, and why a line asks nothing.
+use branch_doc::{PlainOp, PlainQuery};
 use branch_names::{BadName, Name};
-use mrdt_counter::{CounterOp, CounterQuery};
-use mrdt_map::{MapQuery, OnKey};
 use mrdt_model::Memory;
 use std::alloc::AllocError;
 use thiserror::Error;
 
-/// One step of a script, over a map of counters.
+/// One step of a script over the typed document.
 #[derive(Drop)]
 pub enum Step {
     /// A session looks at a branch.
-    Look {
-        session: Name,
-        branch: Name,
-    },
+    Look { session: Name, branch: Name },
     /// A new branch is forked from another.
-    Fork {
-        new: Name,
-        from: Name,
-    },
+    Fork { new: Name, from: Name },
     /// The head of a branch is merged into the branch that a session sees.
-    Merge {
-        session: Name,
-        branch: Name,
-    },
+    Merge { session: Name, branch: Name },
     /// A session lands an operation on the branch that it sees.
-    Do {
-        session: Name,
-        op: OnKey<CounterOp>,
-    },
+    Do { session: Name, op: PlainOp },
     /// A branch is asked at its head.
-    Ask {
-        branch: Name,
-        query: MapQuery<CounterQuery>,
-    },
+    Ask { branch: Name, query: PlainQuery },
 }
 
 /// Why a line of a script is no step.
