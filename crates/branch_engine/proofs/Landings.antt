@@ -17,17 +17,19 @@ use Rattle.store_core.specs.Views.{Work}
 use Rattle.store_core.specs.Views as work
 use Rattle.branch_print.specs.Texts.{outcome_text}
 use Rattle.branch_engine.specs.Sessions.{Sight}
-use Rattle.branch_engine.specs.Play.{Operation, Reply, Query, Answer, History, counters, sight_after}
+use Rattle.branch_doc.specs.Document.{document}
+use Rattle.branch_doc.specs.Forms.{DocOp, DocReply, DocQuery, DocAnswer}
+use Rattle.branch_engine.specs.Play.{History, sight_after}
 use Rattle.branch_engine.specs.Engines.{Core, Seen, kind_text}
 
 abbrev Outcome : Type 0
-Outcome = machine.Outcome Answer Reply
+Outcome = machine.Outcome DocAnswer DocReply
 
 abbrev Turn : Type 0
-Turn = machine.Turn Operation Reply Answer
+Turn = machine.Turn DocOp DocReply DocAnswer
 
 abbrev OneMove : Type 0
-OneMove = Move Operation Reply
+OneMove = Move DocOp DocReply
 
 abbrev pub sight_at : ℕ → ℕ → Sight
 sight_at b h = record { branch = b; head = h }
@@ -57,7 +59,7 @@ module _ (limits : Limits) (moves : History) (r : ℕ) (there : r < length (stor
   abbrev SeesNew : Outcome → OneMove → Type 0
   SeesNew outcome made = sight_after r outcome ≡ Some (sight_at r (head_of (store_of (moves ++ made ∷ [])).branches r))
 
-  operation_head : (op : Operation) (reply : Reply) → head_of (store_of (moves ++ move.Operation r op reply ∷ [])).branches r ≡ length (store_of moves).commits
+  operation_head : (op : DocOp) (reply : DocReply) → head_of (store_of (moves ++ move.Operation r op reply ∷ [])).branches r ≡ length (store_of moves).commits
   operation_head op reply = ap (λ s. head_of s.branches r) (store_of-more moves (move.Operation r op reply)) ∙ head_of-same (store_of moves).branches r (length (store_of moves).commits) there
 
   merge_head : (m : ℕ) → head_of (store_of (moves ++ move.Merge r m ∷ [])).branches r ≡ length (store_of moves).commits
@@ -66,38 +68,38 @@ module _ (limits : Limits) (moves : History) (r : ℕ) (there : r < length (stor
   forward_head : (m : ℕ) → head_of (store_of (moves ++ move.Forward r m ∷ [])).branches r ≡ m
   forward_head m = ap (λ s. head_of s.branches r) (store_of-more moves (move.Forward r m)) ∙ head_of-same (store_of moves).branches r m there
 
-  pub land-sees : (h : ℕ) (op : Operation) (outcome : Outcome) (made : OneMove) → turn counters limits moves (machine.Land r h op) ≡ makes made outcome → SeesNew outcome made
+  pub land-sees : (h : ℕ) (op : DocOp) (outcome : Outcome) (made : OneMove) → turn document limits moves (machine.Land r h op) ≡ makes made outcome → SeesNew outcome made
   unfolding turn
   land-sees h op outcome made is =
       let commits = (store_of moves).commits in
-      let e = event_made counters commits r h op in
-      made_twice SeesNew (operation_refusal counters limits commits r h op) (commit_refusal limits moves r h) (move.Operation r op e.reply) made (machine.Landed (length commits) e.time e.reply) outcome
+      let e = event_made document commits r h op in
+      made_twice SeesNew (operation_refusal document limits commits r h op) (commit_refusal limits moves r h) (move.Operation r op e.reply) made (machine.Landed (length commits) e.time e.reply) outcome
       (ap (λ n. Some (sight_at r n)) (sym (operation_head op e.reply))) is
 
-  pub merge-sees : (h m : ℕ) (outcome : Outcome) (made : OneMove) → turn counters limits moves (machine.Merge r h m) ≡ makes made outcome → SeesNew outcome made
+  pub merge-sees : (h m : ℕ) (outcome : Outcome) (made : OneMove) → turn document limits moves (machine.Merge r h m) ≡ makes made outcome → SeesNew outcome made
   unfolding turn
   merge-sees h m outcome made is =
       let commits = (store_of moves).commits in
-      made_either SeesNew _ _ (forward_refusal limits moves r h) (merge_refusal counters limits commits h m) (commit_refusal limits moves r h)
+      made_either SeesNew _ _ (forward_refusal limits moves r h) (merge_refusal document limits commits h m) (commit_refusal limits moves r h)
       (move.Merge r m) (move.Forward r m) made (machine.Merged (length commits)) (machine.Forwarded m) outcome
       (ap (λ n. Some (sight_at r n)) (sym (forward_head m))) (ap (λ n. Some (sight_at r n)) (sym (merge_head m))) is
 
-lands_step : (old : Core) (seen : Seen) (does : Work Operation Reply) (k : Kind Reply) → seen.branch < length (store_of old.history).branches
-    → turn counters old.limits old.history (step_of {Q = Query} seen does) ≡ makes (move_of seen.branch does) (outcome_of k)
+lands_step : (old : Core) (seen : Seen) (does : Work DocOp DocReply) (k : Kind DocReply) → seen.branch < length (store_of old.history).branches
+    → turn document old.limits old.history (step_of {Q = DocQuery} seen does) ≡ makes (move_of seen.branch does) (outcome_of k)
     → sight_after seen.branch (outcome_of k) ≡ Some (sight_at seen.branch (head_of (store_of (old.history ++ move_of seen.branch does ∷ [])).branches seen.branch))
 lands_step old seen (work.Operation op reply) k there is = land-sees old.limits old.history seen.branch there seen.head op (outcome_of k) (move.Operation seen.branch op reply) is
 lands_step old seen (work.Merge commit) k there is = merge-sees old.limits old.history seen.branch there seen.head commit (outcome_of k) (move.Merge seen.branch commit) is
 lands_step old seen (work.Forward commit) k there is = merge-sees old.limits old.history seen.branch there seen.head commit (outcome_of k) (move.Forward seen.branch commit) is
 
 -- after what was prepared has landed, its session sees the branch's new head
-pub lands-sees : (old new : Core) (seen : Seen) (does : Work Operation Reply) (k : Kind Reply) (moves : ℕ) → seen.branch < length (store_of old.history).branches
-    → Moves counters old new (step_of seen does) (move_of seen.branch does) (outcome_of k) moves
+pub lands-sees : (old new : Core) (seen : Seen) (does : Work DocOp DocReply) (k : Kind DocReply) (moves : ℕ) → seen.branch < length (store_of old.history).branches
+    → Moves document old new (step_of seen does) (move_of seen.branch does) (outcome_of k) moves
     → sight_after seen.branch (outcome_of k) ≡ Some (sight_at seen.branch (head_of (store_of new.history).branches seen.branch))
 lands-sees old new seen does k moves there m =
     lands_step old seen does k there m.turn_is ∙ ap (λ (c : Core). Some (sight_at seen.branch (head_of (store_of c.history).branches seen.branch))) (sym m.history)
 
 -- the text of what landed is that of the machine's outcome
-pub text-of_kind : (session branch : List ℕ) (k : Kind Reply) → kind_text k ≡ outcome_text session branch (outcome_of k)
+pub text-of_kind : (session branch : List ℕ) (k : Kind DocReply) → kind_text k ≡ outcome_text session branch (outcome_of k)
 text-of_kind session branch (kind.Operation commit time reply) = refl
 text-of_kind session branch (kind.Merged commit) = refl
 text-of_kind session branch (kind.Forward commit) = refl

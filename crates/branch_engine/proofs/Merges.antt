@@ -8,23 +8,24 @@ use Rattle.store_core.specs.Turns.{step_of}
 use Rattle.store_core.specs.Pairs.{seen_of, IsPaired, MergesAs, IsWorkOf}
 use Rattle.store_core.specs.Views.{PairView, PreparedView, Work}
 use Rattle.store_core.specs.Views as work
-use Rattle.branch_engine.specs.Play.{Operation, Reply, Query, Answer, counters}
+use Rattle.branch_doc.specs.Document.{document}
+use Rattle.branch_doc.specs.Forms.{DocOp, DocReply, DocQuery, DocAnswer}
 use Rattle.branch_engine.specs.Engines.{Core, Seen}
 use Rattle.branch_engine.proofs.Played.{prefix-self}
 
 abbrev pub Pair : Type 0
-Pair = PairView (Move Operation Reply)
+Pair = PairView (Move DocOp DocReply)
 
 -- on a branch, by one that sees a commit, the merge of another
-abbrev pub merge_of : ℕ → ℕ → ℕ → machine.Step Operation Query
+abbrev pub merge_of : ℕ → ℕ → ℕ → machine.Step DocOp DocQuery
 merge_of branch head other = machine.Merge branch head other
 
-work_step : (pair : Pair) (does : Work Operation Reply) → IsWorkOf counters pair does → step_of {Q = Query} (seen_of pair) does ≡ merge_of pair.branch pair.head pair.other
+work_step : (pair : Pair) (does : Work DocOp DocReply) → IsWorkOf document pair does → step_of {Q = DocQuery} (seen_of pair) does ≡ merge_of pair.branch pair.head pair.other
 work_step pair (work.Operation op reply) is = absurd is
 work_step pair (work.Merge commit) is = ap (λ n. merge_of pair.branch pair.head n) is.0
 work_step pair (work.Forward commit) is = ap (λ n. merge_of pair.branch pair.head n) is.0
 
-module _ (core : Core) (seen : Seen) (from : List ℕ) (pair : Pair) (paired : IsPaired counters core seen from pair) where
+module _ (core : Core) (seen : Seen) (from : List ℕ) (pair : Pair) (paired : IsPaired document core seen from pair) where
   pub pair-history : pair.history ≡ core.history
   pair-history = ap (λ (s : Seen). s.history) paired.look
 
@@ -41,11 +42,11 @@ module _ (core : Core) (seen : Seen) (from : List ℕ) (pair : Pair) (paired : I
   same_merge = ap (λ b. merge_of b pair.head pair.other) pair-branch ∙ ap (λ h. merge_of seen.branch h pair.other) pair-head
 
   -- the machine's turn that the pair was told, of the merge that a session asks for
-  pub pair-turn : (outcome : machine.Outcome Answer Reply) → MergesAs counters pair outcome → turn counters core.limits core.history (merge_of seen.branch seen.head pair.other) ≡ answers outcome
+  pub pair-turn : (outcome : machine.Outcome DocAnswer DocReply) → MergesAs document pair outcome → turn document core.limits core.history (merge_of seen.branch seen.head pair.other) ≡ answers outcome
   pair-turn outcome merges =
       let told = merges core.history (subst (λ h. IsPrefix h core.history) (sym pair-history) (prefix-self core.history)) in
-      subst (λ s. turn counters core.limits core.history s ≡ answers outcome) same_merge (subst (λ l. turn counters l core.history (merge_of pair.branch pair.head pair.other) ≡ answers outcome) pair-limits told)
+      subst (λ s. turn document core.limits core.history s ≡ answers outcome) same_merge (subst (λ l. turn document l core.history (merge_of pair.branch pair.head pair.other) ≡ answers outcome) pair-limits told)
 
   -- what was prepared is that merge
-  pub pair-work : (made : PreparedView Operation Reply) → made.seen ≡ seen_of pair → IsWorkOf counters pair made.work → step_of {Q = Query} made.seen made.work ≡ merge_of seen.branch seen.head pair.other
+  pub pair-work : (made : PreparedView DocOp DocReply) → made.seen ≡ seen_of pair → IsWorkOf document pair made.work → step_of {Q = DocQuery} made.seen made.work ≡ merge_of seen.branch seen.head pair.other
   pair-work made look is = ap (λ s. step_of s made.work) look ∙ work_step pair made.work is ∙ same_merge

@@ -13,7 +13,9 @@ use Rattle.branch_history.specs.Steps as machine
 use Rattle.branch_history.specs.Machine.{turn, answers}
 use Rattle.branch_history.proofs.Heads.{same_branch}
 use Rattle.branch_engine.specs.Sessions.{Sight}
-use Rattle.branch_engine.specs.Play.{Operation, Reply, Query, Answer, History, counters, Play, Told}
+use Rattle.branch_doc.specs.Document.{document}
+use Rattle.branch_doc.specs.Forms.{DocOp, DocReply, DocQuery, DocAnswer}
+use Rattle.branch_engine.specs.Play.{History, Play, Told}
 use Rattle.branch_engine.specs.Engines.{Core, Seen, EngineView, session_named, sight_of, AreLooksAt, Puts, Plays, IsAt}
 
 pub prefix-self : {A : Type 0} (xs : List A) → IsPrefix xs xs
@@ -55,17 +57,17 @@ pub looks-set : (core : Core) (old new : List (List ℕ × Seen)) (session : Lis
 looks-set core old new session seen (Ok done) looks puts kept at limits = looks-put core old new session seen looks puts at limits
 looks-set core old new session seen (Err memory) looks puts kept at limits = λ name s found. looks name s (sym (kept name) ∙ found)
 
-abbrev sees : ℕ → ℕ → machine.Outcome Answer Reply
+abbrev sees : ℕ → ℕ → machine.Outcome DocAnswer DocReply
 sees a b = machine.Sees a b
 
-abbrev refused : machine.Refusal → machine.Outcome Answer Reply
+abbrev refused : machine.Refusal → machine.Outcome DocAnswer DocReply
 refused refusal = machine.Refused refusal
 
 -- a look gives one branch and one head
-pub same-look : (a b c d : ℕ) → answers {O = Operation} {R = Reply} {A = Answer} (machine.Sees a b) ≡ answers (machine.Sees c d) → (a ≡ c) × (b ≡ d)
+pub same-look : (a b c d : ℕ) → answers {O = DocOp} {R = DocReply} {A = DocAnswer} (machine.Sees a b) ≡ answers (machine.Sees c d) → (a ≡ c) × (b ≡ d)
 same-look a b c d is = let o : sees a b ≡ sees c d = ap (λ t. t.outcome) is in (cc, cc)
 
-pub never-refused : (a b : ℕ) (refusal : machine.Refusal) → answers {O = Operation} {R = Reply} {A = Answer} (machine.Sees a b) ≡ answers (machine.Refused refusal) → ⊥
+pub never-refused : (a b : ℕ) (refusal : machine.Refusal) → answers {O = DocOp} {R = DocReply} {A = DocAnswer} (machine.Sees a b) ≡ answers (machine.Refused refusal) → ⊥
 never-refused a b refusal is = let o : sees a b ≡ refused refusal = ap (λ t. t.outcome) is in cc
 
 map_step : (t : Bool) (seen : Seen) (old : Option Seen) → option_map sight_of (cond t (Some seen) old) ≡ cond t (Some (sight_of seen)) (option_map sight_of old)
@@ -74,8 +76,8 @@ map_step false seen old = refl
 
 module _ (limits : Limits) (core : Core) (sessions : List (List ℕ × Seen)) (p : Play) (at : Plays limits core sessions p) where
   -- the machine's turn, over the play
-  pub turn-at : (step : machine.Step Operation Query) (t : machine.Turn Operation Reply Answer) → turn counters core.limits core.history step ≡ t → turn counters limits p.moves step ≡ t
-  turn-at step t is = ap (λ m. turn counters limits m step) (sym at.history) ∙ ap (λ l. turn counters l core.history step) (sym at.limits_are) ∙ is
+  pub turn-at : (step : machine.Step DocOp DocQuery) (t : machine.Turn DocOp DocReply DocAnswer) → turn document core.limits core.history step ≡ t → turn document limits p.moves step ≡ t
+  turn-at step t is = ap (λ m. turn document limits m step) (sym at.history) ∙ ap (λ l. turn document l core.history step) (sym at.limits_are) ∙ is
 
   -- after a move of the core
   pub plays-more : (new : Core) (made : History) → new.limits ≡ core.limits → new.history ≡ core.history ++ made → Plays limits new sessions (record { moves = p.moves ++ made; sessions = p.sessions })

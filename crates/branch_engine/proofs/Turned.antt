@@ -6,52 +6,56 @@ use Rattle.branch_history.specs.Machine.{turn, answers}
 use Rattle.branch_script.specs.declared.step.Step.TheVariants.{Look, Fork, Merge, Do, Ask}
 use Rattle.branch_print.specs.Texts.{outcome_text, unseen_text}
 use Rattle.branch_engine.specs.Sessions.{Sight, seen_by}
-use Rattle.branch_engine.specs.Play.{Operation, Reply, Query, Answer, Play, counters, told, turn_told, says, do_told, head_merged_told, merge_told, ask_told, step_told}
+use Rattle.branch_doc.specs.declared.plain.PlainOp.{PlainOp}
+use Rattle.branch_doc.specs.declared.plain.PlainQuery.{PlainQuery}
+use Rattle.branch_doc.specs.Document.{document}
+use Rattle.branch_doc.specs.Forms.{DocOp, DocReply, DocAnswer, doc_op, doc_query}
+use Rattle.branch_engine.specs.Play.{Play, told, turn_told, says, do_told, head_merged_told, merge_told, ask_told, step_told}
 
 module _ (limits : Limits) (p : Play) where
-  pub told-look : (session branch : List ℕ) (t : machine.Turn Operation Reply Answer) → turn counters limits p.moves (machine.Look branch) ≡ t → step_told limits p (Look session branch) ≡ told p session 0 branch t
+  pub told-look : (session branch : List ℕ) (t : machine.Turn DocOp DocReply DocAnswer) → turn document limits p.moves (machine.Look branch) ≡ t → step_told limits p (Look session branch) ≡ told p session 0 branch t
   unfolding step_told
   told-look session branch t is = ap (told p session 0 branch) is
 
-  pub told-fork : (new from : List ℕ) (t : machine.Turn Operation Reply Answer) → turn counters limits p.moves (machine.Fork new from) ≡ t → step_told limits p (Fork new from) ≡ told p [] 0 new t
+  pub told-fork : (new from : List ℕ) (t : machine.Turn DocOp DocReply DocAnswer) → turn document limits p.moves (machine.Fork new from) ≡ t → step_told limits p (Fork new from) ≡ told p [] 0 new t
   unfolding step_told
   told-fork new from t is = ap (told p [] 0 new) is
 
-  pub told-unseen : (session : List ℕ) (op : Operation) → seen_by p.sessions session ≡ None → step_told limits p (Do session op) ≡ says p (unseen_text session)
+  pub told-unseen : (session : List ℕ) (op : PlainOp) → seen_by p.sessions session ≡ None → step_told limits p (Do session op) ≡ says p (unseen_text session)
   unfolding step_told
-  told-unseen session op none = ap (do_told limits p session op) none
+  told-unseen session op none = ap (do_told limits p session (doc_op op)) none
 
-  pub told-do : (session : List ℕ) (op : Operation) (sight : Sight) → seen_by p.sessions session ≡ Some sight
-      → step_told limits p (Do session op) ≡ turn_told limits p session sight.branch (machine.Land sight.branch sight.head op)
+  pub told-do : (session : List ℕ) (op : PlainOp) (sight : Sight) → seen_by p.sessions session ≡ Some sight
+      → step_told limits p (Do session op) ≡ turn_told limits p session sight.branch (machine.Land sight.branch sight.head (doc_op op))
   unfolding step_told
-  told-do session op sight some = ap (do_told limits p session op) some
+  told-do session op sight some = ap (do_told limits p session (doc_op op)) some
 
   pub told-unmerged : (session from : List ℕ) → seen_by p.sessions session ≡ None → step_told limits p (Merge session from) ≡ says p (unseen_text session)
   unfolding step_told
   told-unmerged session from none = ap (merge_told limits p session from) none
 
   pub told-merge_unknown : (session from : List ℕ) (sight : Sight) (refusal : machine.Refusal) → seen_by p.sessions session ≡ Some sight
-      → turn counters limits p.moves (machine.Look from) ≡ answers (machine.Refused refusal)
-      → step_told limits p (Merge session from) ≡ says p (outcome_text {R = Reply} session from (machine.Refused refusal))
+      → turn document limits p.moves (machine.Look from) ≡ answers (machine.Refused refusal)
+      → step_told limits p (Merge session from) ≡ says p (outcome_text session from (machine.Refused refusal))
   unfolding step_told
   told-merge_unknown session from sight refusal some looks =
       ap (merge_told limits p session from) some ∙ ap (λ t. head_merged_told limits p session from sight t.outcome) looks
 
   pub told-merge : (session from : List ℕ) (sight : Sight) (number head : ℕ) → seen_by p.sessions session ≡ Some sight
-      → turn counters limits p.moves (machine.Look from) ≡ answers (machine.Sees number head)
+      → turn document limits p.moves (machine.Look from) ≡ answers (machine.Sees number head)
       → step_told limits p (Merge session from) ≡ turn_told limits p session sight.branch (machine.Merge sight.branch sight.head head)
   unfolding step_told
   told-merge session from sight number head some looks =
       ap (merge_told limits p session from) some ∙ ap (λ t. head_merged_told limits p session from sight t.outcome) looks
 
-  pub told-ask : (branch : List ℕ) (query : Query) (number head : ℕ) (answer : Answer) → turn counters limits p.moves (machine.Look branch) ≡ answers (machine.Sees number head)
-      → turn counters limits p.moves (machine.Ask head query) ≡ answers (machine.Answered answer)
-      → step_told limits p (Ask branch query) ≡ says p (outcome_text {R = Reply} [] branch (machine.Answered answer))
+  pub told-ask : (branch : List ℕ) (query : PlainQuery) (number head : ℕ) (answer : DocAnswer) → turn document limits p.moves (machine.Look branch) ≡ answers (machine.Sees number head)
+      → turn document limits p.moves (machine.Ask head (doc_query query)) ≡ answers (machine.Answered answer)
+      → step_told limits p (Ask branch query) ≡ says p (outcome_text [] branch (machine.Answered answer))
   unfolding step_told
   told-ask branch query number head answer looks is =
-      ap (λ t. ask_told limits p branch query t.outcome) looks ∙ ap (λ t. says p (outcome_text [] branch t.outcome)) is
+      ap (λ t. ask_told limits p branch (doc_query query) t.outcome) looks ∙ ap (λ t. says p (outcome_text [] branch t.outcome)) is
 
-  pub told-ask_refused : (branch : List ℕ) (query : Query) (refusal : machine.Refusal) → turn counters limits p.moves (machine.Look branch) ≡ answers (machine.Refused refusal)
-      → step_told limits p (Ask branch query) ≡ says p (outcome_text {R = Reply} [] branch (machine.Refused refusal))
+  pub told-ask_refused : (branch : List ℕ) (query : PlainQuery) (refusal : machine.Refusal) → turn document limits p.moves (machine.Look branch) ≡ answers (machine.Refused refusal)
+      → step_told limits p (Ask branch query) ≡ says p (outcome_text [] branch (machine.Refused refusal))
   unfolding step_told
-  told-ask_refused branch query refusal looks = ap (λ t. ask_told limits p branch query t.outcome) looks
+  told-ask_refused branch query refusal looks = ap (λ t. ask_told limits p branch (doc_query query) t.outcome) looks

@@ -15,14 +15,15 @@ use Rattle.store_core.specs.declared.answers.Kind.{Kind}
 use Rattle.store_core.specs.declared.answers.Kind.TheVariants as kind
 use Rattle.branch_print.specs.Texts.{landed_text, merged_text, forward_text}
 use Rattle.branch_engine.specs.Sessions.{Sight, seen_by}
-use Rattle.branch_engine.specs.Play.{Operation, Reply, Play, Told}
+use Rattle.branch_doc.specs.Forms.{DocOp, DocReply, plain_reply}
+use Rattle.branch_engine.specs.Play.{Play, Told}
 
 -- what a core and a look of the engine are
 abbrev pub Core : Type 0
-Core = CoreView (Move Operation Reply)
+Core = CoreView (Move DocOp DocReply)
 
 abbrev pub Seen : Type 0
-Seen = SeenView (Move Operation Reply)
+Seen = SeenView (Move DocOp DocReply)
 
 -- an engine: its core, and the look of each session by name
 pub record EngineView : Type 0 where
@@ -30,7 +31,7 @@ pub record EngineView : Type 0 where
   pub sessions : List (List ℕ × Seen)
 
 -- what the table of sessions has for a name
-abbrev pub session_named : List (List ℕ × Seen) → List ℕ → Option Seen
+abbrev pub session_named : {S : Type 0} → List (List ℕ × S) → List ℕ → Option S
 session_named entries name = lookup (λ other. is_eq (slice_cmp nat_cmp name other)) entries
 
 abbrev pub sight_of : Seen → Sight
@@ -41,7 +42,7 @@ abbrev pub AreLooksAt : Core → List (List ℕ × Seen) → Type 0
 AreLooksAt core sessions = (name : List ℕ) (seen : Seen) → session_named sessions name ≡ Some seen → IsPrefix seen.history core.history × (seen.limits ≡ core.limits)
 
 -- a session came to see this look, and the others see what they saw
-abbrev pub Puts : List (List ℕ × Seen) → List (List ℕ × Seen) → List ℕ → Seen → Type 0
+abbrev pub Puts : {S : Type 0} → List (List ℕ × S) → List (List ℕ × S) → List ℕ → S → Type 0
 Puts old new session seen = (name : List ℕ) → session_named new name ≡ (if is_eq (slice_cmp nat_cmp session name) then Some seen else session_named old name)
 
 -- a look at the head of this branch of a core
@@ -71,7 +72,7 @@ Tells told old new old_out new_out =
     (limits : Limits) (p : Play) → IsAt limits old p → IsAt limits new (told limits p).after × (new_out ≡ old_out ++ (told limits p).text)
 
 -- the text of what landed
-abbrev pub kind_text : {R : Type 0} → Kind R → List ℕ
-kind_text (kind.Operation commit time reply) = landed_text commit time
+abbrev pub kind_text : Kind DocReply → List ℕ
+kind_text (kind.Operation commit time reply) = landed_text commit time (plain_reply reply)
 kind_text (kind.Merged commit) = merged_text commit
 kind_text (kind.Forward commit) = forward_text commit

@@ -1,14 +1,8 @@
 -- The machine runs the lines of a script, with what each named session sees.
-use Rattle.std.specs.Prelude.{ℕ, ℤ, List, [], ◌∷◌, ◌++◌, Result, Ok, Err, Some, None}
+use Rattle.std.specs.Prelude.{ℕ, List, [], ◌∷◌, ◌++◌, Result, Ok, Err, Some, None}
 use Rattle.std.specs.declared.option.Option.{Option}
-use Rattle.mrdt_model.specs.Laws.{Meaning}
-use Rattle.mrdt_counter.specs.declared.counter.CounterOp.{CounterOp}
-use Rattle.mrdt_counter.specs.declared.counter.CounterQuery.{CounterQuery}
-use Rattle.mrdt_counter.specs.Counter.{counter_meaning}
-use Rattle.mrdt_map.specs.declared.map.OnKey.{OnKey}
-use Rattle.mrdt_map.specs.declared.map.MapQuery.{MapQuery}
-use Rattle.mrdt_map.specs.declared.map.MapAnswer.{MapAnswer}
-use Rattle.mrdt_map.specs.Keyed.{map_meaning}
+use Rattle.branch_doc.specs.Document.{document}
+use Rattle.branch_doc.specs.Forms.{DocOp, DocReply, DocQuery, DocAnswer, doc_op, doc_query}
 use Rattle.branch_names.specs.declared.limits.Limits.{Limits}
 use Rattle.branch_history.specs.declared.moves.Move.{Move}
 use Rattle.branch_names.specs.Heads.{name_of}
@@ -22,24 +16,8 @@ use Rattle.branch_script.specs.Script.{step_of}
 use Rattle.branch_print.specs.Texts.{outcome_text, line_refusal_text, unseen_text, line_end}
 use Rattle.branch_engine.specs.Sessions.{Sight, Session, seen_by}
 
-abbrev pub Operation : Type 0
-Operation = OnKey CounterOp
-
-abbrev pub Reply : Type 0
-Reply = Unit {0}
-
-abbrev pub Query : Type 0
-Query = MapQuery CounterQuery
-
-abbrev pub Answer : Type 0
-Answer = MapAnswer ℤ
-
 abbrev pub History : Type 0
-History = List (Move Operation Reply)
-
--- what a map of counters means
-abbrev pub counters : Meaning (List (List ℕ × ℤ)) Operation Reply Query Answer
-counters = map_meaning counter_meaning
+History = List (Move DocOp DocReply)
 
 -- the history so far, and what sessions came to see, the newest first
 pub record Play : Type 0 where
@@ -52,7 +30,7 @@ pub record Told : Type 0 where
   pub after : Play
 
 -- after a look, or a move of its own on the branch of this number, a session sees the head that it gave
-abbrev pub sight_after : ℕ → machine.Outcome Answer Reply → Option Sight
+abbrev pub sight_after : ℕ → machine.Outcome DocAnswer DocReply → Option Sight
 sight_after branch (machine.Sees number head) = Some (record { branch = number; head = head })
 sight_after branch (machine.Landed commit time reply) = Some (record { branch = branch; head = commit })
 sight_after branch (machine.Merged commit) = Some (record { branch = branch; head = commit })
@@ -69,42 +47,42 @@ abbrev pub says : Play → List ℕ → Told
 says p text = record { text = text ++ line_end; after = p }
 
 -- a turn of the machine for a session, on the branch of this number and name
-abbrev pub told : Play → List ℕ → ℕ → List ℕ → machine.Turn Operation Reply Answer → Told
+abbrev pub told : Play → List ℕ → ℕ → List ℕ → machine.Turn DocOp DocReply DocAnswer → Told
 told p session number branch t = record {
   text = outcome_text session branch t.outcome ++ line_end;
   after = record { moves = p.moves ++ t.made; sessions = with_sight p.sessions session (sight_after number t.outcome) };
 }
 
 -- a step of the machine for a session, on the branch of this number
-abbrev pub turn_told : Limits → Play → List ℕ → ℕ → machine.Step Operation Query → Told
-turn_told limits p session number step = told p session number (name_of (store_of p.moves).branches number) (turn counters limits p.moves step)
+abbrev pub turn_told : Limits → Play → List ℕ → ℕ → machine.Step DocOp DocQuery → Told
+turn_told limits p session number step = told p session number (name_of (store_of p.moves).branches number) (turn document limits p.moves step)
 
 -- an operation of a session, given what it sees
-abbrev pub do_told : Limits → Play → List ℕ → Operation → Option Sight → Told
+abbrev pub do_told : Limits → Play → List ℕ → DocOp → Option Sight → Told
 do_told limits p session op None = says p (unseen_text session)
 do_told limits p session op (Some sight) = turn_told limits p session sight.branch (machine.Land sight.branch sight.head op)
 
 -- a merge of the branch of this name into the one that a session sees, given the outcome of a look at the former: its head is merged
-abbrev pub head_merged_told : Limits → Play → List ℕ → List ℕ → Sight → machine.Outcome Answer Reply → Told
+abbrev pub head_merged_told : Limits → Play → List ℕ → List ℕ → Sight → machine.Outcome DocAnswer DocReply → Told
 head_merged_told limits p session from sight (machine.Sees number head) = turn_told limits p session sight.branch (machine.Merge sight.branch sight.head head)
 head_merged_told limits p session from sight outcome = says p (outcome_text session from outcome)
 
 -- and given what the session sees, if anything
 abbrev pub merge_told : Limits → Play → List ℕ → List ℕ → Option Sight → Told
 merge_told limits p session from None = says p (unseen_text session)
-merge_told limits p session from (Some sight) = head_merged_told limits p session from sight (turn counters limits p.moves (machine.Look from)).outcome
+merge_told limits p session from (Some sight) = head_merged_told limits p session from sight (turn document limits p.moves (machine.Look from)).outcome
 
 -- a query at a branch, given the outcome of a look at it: it is asked at the head
-abbrev pub ask_told : Limits → Play → List ℕ → Query → machine.Outcome Answer Reply → Told
-ask_told limits p branch query (machine.Sees number head) = says p (outcome_text [] branch (turn counters limits p.moves (machine.Ask head query)).outcome)
+abbrev pub ask_told : Limits → Play → List ℕ → DocQuery → machine.Outcome DocAnswer DocReply → Told
+ask_told limits p branch query (machine.Sees number head) = says p (outcome_text [] branch (turn document limits p.moves (machine.Ask head query)).outcome)
 ask_told limits p branch query outcome = says p (outcome_text [] branch outcome)
 
 unfoldable pub step_told : Limits → Play → Step → Told
-step_told limits p (Look session branch) = told p session 0 branch (turn counters limits p.moves (machine.Look branch))
-step_told limits p (Fork new from) = told p [] 0 new (turn counters limits p.moves (machine.Fork new from))
+step_told limits p (Look session branch) = told p session 0 branch (turn document limits p.moves (machine.Look branch))
+step_told limits p (Fork new from) = told p [] 0 new (turn document limits p.moves (machine.Fork new from))
 step_told limits p (Merge session from) = merge_told limits p session from (seen_by p.sessions session)
-step_told limits p (Do session op) = do_told limits p session op (seen_by p.sessions session)
-step_told limits p (Ask branch query) = ask_told limits p branch query (turn counters limits p.moves (machine.Look branch)).outcome
+step_told limits p (Do session op) = do_told limits p session (doc_op op) (seen_by p.sessions session)
+step_told limits p (Ask branch query) = ask_told limits p branch (doc_query query) (turn document limits p.moves (machine.Look branch)).outcome
 
 -- an empty line or a comment is not answered; another line is, also where it is no step
 abbrev pub read_told : Limits → Play → Result (Option Step) LineRefusal → Told

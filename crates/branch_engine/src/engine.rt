@@ -10,6 +10,7 @@ ghost use Rattle.branch_engine.specs.Engines.{IsAt, Tells, Puts, SeesHead, kind_
 ghost use Rattle.branch_engine.specs.Play.{begins, turn_told, step_told, line_told};
 ghost use Rattle.branch_script.specs.declared.step.Step.TheVariants as step;
 
+use branch_doc::{Doc, DocReply, PlainOp, PlainQuery};
 use branch_names::{Limits, Name};
 use branch_print::refusals::{
     put_bases, put_exhausted, put_full_branches, put_full_commits, put_full_moves,
@@ -19,8 +20,6 @@ use branch_print::replies::{
     put_answer, put_forked, put_forward, put_landed, put_merged, put_same, put_sees,
 };
 use branch_script::{LineRefusal, Step, read_line};
-use mrdt_counter::{Counter, CounterOp, CounterQuery};
-use mrdt_map::{Map, MapQuery, OnKey};
 use mrdt_model::Memory;
 use std::alloc::Global;
 use std::collections::BTreeMap;
@@ -30,16 +29,13 @@ use store_core::{
     PrepareRefusal, Prepared, Seen,
 };
 
-/// The value of a store's branch: counters by their keys.
-pub type Counters = Map<Counter>;
-
 /// A core, and what each session sees. Contracts see an `EngineView`: the core's view, and that of each
 /// session's look.
 #[derive(Drop)]
 pub struct Engine {
     alloc: Global,
-    core: Core<Counters>,
-    sessions: BTreeMap<Name, Seen<Counters>>,
+    core: Core<Doc>,
+    sessions: BTreeMap<Name, Seen<Doc>>,
 }
 
 impl Model for Engine {
@@ -53,10 +49,10 @@ impl Model for Engine {
 }
 
 // A session sees this from now on.
-fn set_session(
-    sessions: &mut BTreeMap<Name, Seen<Counters>>,
+fn set_session<S: Drop>(
+    sessions: &mut BTreeMap<Name, S>,
     session: &Name,
-    seen: Seen<Counters>,
+    seen: S,
 ) -> Result<(), Memory>
     ensures put { OnOk result (Puts sessions.old.entries sessions.new.entries session.now seen) }
     ensures kept { OnErr result ((name : List ℕ) → session_named sessions.new.entries name ≡ session_named sessions.old.entries name) }
@@ -68,13 +64,17 @@ fn set_session(
 }
 
 // What landed.
-fn put_kind(alloc: Global, out: &mut Vec<u8>, kind: &Kind<()>) -> Result<(), Memory>
-    ensures { OnOk result (out.new.items ≡ out.old.items ++ (kind_text kind.now ++ line_end)) }
+fn put_kind(alloc: Global, out: &mut Vec<u8>, kind: Kind<DocReply>) -> Result<(), Memory>
+    ensures { OnOk result (out.new.items ≡ out.old.items ++ (kind_text kind ++ line_end)) }
 {
     match kind {
-        Kind::Operation { commit, time, .. } => put_landed(alloc, out, *commit, *time),
-        Kind::Merged { commit } => put_merged(alloc, out, *commit),
-        Kind::Forward { commit } => put_forward(alloc, out, *commit),
+        Kind::Operation {
+            commit,
+            time,
+            reply,
+        } => put_landed(alloc, out, commit, time, &branch_doc::reply(reply)),
+        Kind::Merged { commit } => put_merged(alloc, out, commit),
+        Kind::Forward { commit } => put_forward(alloc, out, commit),
     }
 }
 
@@ -91,7 +91,7 @@ impl Engine {
     }
 
     // The session sees this from now on.
-    fn sees(&mut self, session: &Name, seen: Seen<Counters>) -> Result<(), Memory>
+    fn sees(&mut self, session: &Name, seen: Seen<Doc>) -> Result<(), Memory>
         requires history { IsPrefix seen.history self.old.core.history }
         requires limits { seen.limits ≡ self.old.core.limits }
         ensures core { self.new.core ≡ self.old.core }
@@ -146,37 +146,27 @@ impl Engine {
     }
 
     // A query is asked at the head of a branch.
-    fn ask(
-        &mut self,
-        out: &mut Vec<u8>,
-        branch: &Name,
-        query: &MapQuery<CounterQuery>,
-    ) -> Result<(), Memory>
-        ensures { OnOk result (Tells (λ limits p. step_told limits p (step.Ask branch.now query.now)) self.old self.new out.old.items out.new.items) }
+    fn ask(&mut self, out: &mut Vec<u8>, branch: &Name, query: PlainQuery) -> Result<(), Memory>
+        ensures { OnOk result (Tells (λ limits p. step_told limits p (step.Ask branch.now query)) self.old self.new out.old.items out.new.items) }
     {
         let seen = match self.core.look(branch) {
             Ok(seen) => seen,
             Err(LookRefusal::UnknownBranch { .. }) => return put_unknown(out, branch),
             Err(LookRefusal::Memory) => return Err(Memory),
         };
-        let answer = seen.ask(query)?;
-        put_answer(self.alloc, out, &answer)
+        let answer = seen.ask(&branch_doc::query(query))?;
+        put_answer(self.alloc, out, &branch_doc::answer(answer))
     }
 
     // A session lands an operation on the branch that it sees.
-    fn land(
-        &mut self,
-        out: &mut Vec<u8>,
-        session: &Name,
-        op: OnKey<CounterOp>,
-    ) -> Result<(), Memory>
+    fn land(&mut self, out: &mut Vec<u8>, session: &Name, op: PlainOp) -> Result<(), Memory>
         ensures { OnOk result (Tells (λ limits p. step_told limits p (step.Do session.now op)) self.old self.new out.old.items out.new.items) }
     {
         let Some(seen) = self.sessions.get(session) else {
             return put_unseen(out, session);
         };
         let branch = seen.branch();
-        match seen.prepare(op) {
+        match seen.prepare(branch_doc::op(op)) {
             Ok(prepared) => self.move_on(out, session, branch, prepared),
             Err(PrepareRefusal::Exhausted { clock }) => put_exhausted(self.alloc, out, clock),
             Err(PrepareRefusal::ValueTooLarge { length }) => put_too_large(self.alloc, out, length),
@@ -214,7 +204,7 @@ impl Engine {
         out: &mut Vec<u8>,
         session: &Name,
         branch: u32,
-        prepared: Prepared<Counters>,
+        prepared: Prepared<Doc>,
     ) -> Result<(), Memory>
         requires history { IsPrefix prepared.seen.history self.old.core.history }
         requires limits { prepared.seen.limits ≡ self.old.core.limits }
@@ -224,7 +214,7 @@ impl Engine {
     {
         match self.core.land(prepared) {
             Ok(landed) => {
-                put_kind(self.alloc, out, &landed.kind)?;
+                put_kind(self.alloc, out, landed.kind)?;
                 self.sees_head(session, branch)
             }
             Err(LandRefusal::Stale { newest }) => self.stale(out, branch, newest),
@@ -252,7 +242,7 @@ impl Engine {
             Step::Fork { new, from } => self.fork(out, &new, &from),
             Step::Merge { session, branch } => self.merge(out, &session, &branch),
             Step::Do { session, op } => self.land(out, &session, op),
-            Step::Ask { branch, query } => self.ask(out, &branch, &query),
+            Step::Ask { branch, query } => self.ask(out, &branch, query),
         }
     }
 

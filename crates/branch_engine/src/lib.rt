@@ -7,4 +7,4 @@ pub mod engine;
 #[cfg(test)]
 mod tests;
 
-pub use engine::{Counters, Engine};
+pub use engine::Engine;

@@ -111,3 +111,19 @@ fn a_merge_under_limits(rt: HostRuntime) -> Result<(), Fail> {
     assert_eq!(rt; text.as_slice(), expected);
     Ok(())
 }
+
+#[test]
+fn a_value_of_the_greatest_length(rt: HostRuntime) -> Result<(), Fail> {
+    let lines: [&[u8]; 2] = [b"look a main", b"do a counter hits add 5"];
+    let text = told(rt.alloc(), limited(&rt, 9, 9, 9, 161, 9), &lines)?;
+    assert_eq!(rt;
+        text.as_slice(),
+        b"a sees main at #0\nerror too large 162\n".as_slice()
+    );
+    let text = told(rt.alloc(), limited(&rt, 9, 9, 9, 162, 9), &lines)?;
+    assert_eq!(rt;
+        text.as_slice(),
+        b"a sees main at #0\nlanded #1 at 1.0\n".as_slice()
+    );
+    Ok(())
+}

@@ -69,6 +69,72 @@ fn scripts_and_their_replies(rt: HostRuntime) -> Result<(), Fail> {
 }
 
 #[test]
+fn every_kind_merges(rt: HostRuntime) -> Result<(), Fail> {
+    let rows: [(&[u8], &[u8]); 6] = [
+        (
+            b"fork p main\nfork q main\nlook a p\nlook b q\ndo a flag f enable\ndo a flag f disable\ndo b flag f enable\nmerge a q\nask p flag f on\ndo b flag f disable\nmerge a q\nask p flag f on\n",
+            b"forked p as 1 at #0\nforked q as 2 at #0\na sees p at #0\nb sees q at #0\nlanded #1 at 1.1\nlanded #2 at 2.1\nlanded #3 at 1.2\nmerged #4\non\nlanded #5 at 2.2\nmerged #6\noff\n",
+        ),
+        (
+            b"fork p main\nfork q main\nlook a p\nlook b q\ndo a set s add x\ndo b set s add x\nmerge a q\ndo b set s remove x\nmerge a q\nask p set s contains x\nask p set s members\nask q set s size\n",
+            b"forked p as 1 at #0\nforked q as 2 at #0\na sees p at #0\nb sees q at #0\nlanded #1 at 1.1\nlanded #2 at 1.2\nmerged #3\nlanded #4 at 2.2\nmerged #5\nyes\n[1] x\n0\n",
+        ),
+        (
+            b"look a main\ndo a queue j enqueue x\ndo a queue j enqueue y\nfork q main\ndo a queue j dequeue\nlook b q\ndo b queue j dequeue\nmerge a q\nask main queue j items\nask main queue j peek\nask main queue j length\n",
+            b"a sees main at #0\nlanded #1 at 1.0\nlanded #2 at 2.0\nforked q as 1 at #2\nlanded #3 at 3.0 took 1.0 x\nb sees q at #2\nlanded #4 at 3.1 took 1.0 x\nmerged #5\n[1] 2.0 y\n[1] 2.0 y\n1\n",
+        ),
+        (
+            b"fork l main\nfork r main\nlook a l\nlook b r\ndo a log g append u\ndo b log g append v\nmerge a r\nask l log g read\nask l log g length\nask l log keys\n",
+            b"forked l as 1 at #0\nforked r as 2 at #0\na sees l at #0\nb sees r at #0\nlanded #1 at 1.1\nlanded #2 at 1.2\nmerged #3\n[2] 1.2 v 1.1 u\n2\n[1] g\n",
+        ),
+        (
+            b"fork l main\nfork r main\nlook a l\nlook b r\ndo a lww k set u\ndo a multi k set u\ndo b lww k set v\ndo b multi k set v\nmerge a r\nask l lww k get\nask l multi k values\ndo a multi k set w\nask l multi k values\n",
+            b"forked l as 1 at #0\nforked r as 2 at #0\na sees l at #0\nb sees r at #0\nlanded #1 at 1.1\nlanded #2 at 2.1\nlanded #3 at 1.2\nlanded #4 at 2.2\nmerged #5\n[1] v\n[2] u v\nlanded #6 at 3.1\n[1] w\n",
+        ),
+        (
+            b"ask main lww c get\nask main queue c peek\nask main set c members\nask main flag c on\nlook a main\ndo a queue j dequeue\nask main queue keys\n",
+            b"[0]\n[0]\n[0]\noff\na sees main at #0\nlanded #1 at 1.0 took nothing\n[1] j\n",
+        ),
+    ];
+    for (input, output) in rows.iter() {
+        let (status, text) = played(rt.alloc(), input, &[], &[])?;
+        assert_eq!(rt; status, Status::Done);
+        assert_eq!(rt; text.as_slice(), *output);
+    }
+    Ok(())
+}
+
+#[test]
+fn hostile_lines(rt: HostRuntime) -> Result<(), Fail> {
+    let rows: [(&[u8], &[u8]); 9] = [
+        (b"look\ta main\n", b"error syntax\n"),
+        (b"look a main\x7f\n", b"error syntax\n"),
+        (b"look  a main\n", b"error syntax\n"),
+        (b"look a main \n", b"error syntax\n"),
+        (
+            b"look a abcdefghijklmnopqrstuvwxyz0123456\n",
+            b"error name\n",
+        ),
+        (
+            b"do a counter c add 9223372036854775808\n",
+            b"error number\n",
+        ),
+        (b"ask main set s contains\n", b"error syntax\n"),
+        (b"ask main tree keys\n", b"error syntax\n"),
+        (
+            b"look a main\ndo a log keys append keys\nask main log keys\nask main log keys length\n",
+            b"a sees main at #0\nlanded #1 at 1.0\n[1] keys\n1\n",
+        ),
+    ];
+    for (input, output) in rows.iter() {
+        let (status, text) = played(rt.alloc(), input, &[], &[])?;
+        assert_eq!(rt; status, Status::Done);
+        assert_eq!(rt; text.as_slice(), *output);
+    }
+    Ok(())
+}
+
+#[test]
 fn lines_and_their_length(rt: HostRuntime) -> Result<(), Fail> {
     let alloc = rt.alloc();
     let mut line = Vec::new(alloc);

@@ -4,7 +4,9 @@ use Rattle.branch_history.specs.Machine.{turn, answers}
 use Rattle.branch_history.specs.declared.moves.Move.TheVariants as move
 use Rattle.branch_print.specs.Texts.{refusal_text, forked_text, line_end}
 use Rattle.branch_script.specs.declared.step.Step.TheVariants as step
-use Rattle.branch_engine.specs.Play.{counters, step_told, Answer}
+use Rattle.branch_doc.specs.Document.{document}
+use Rattle.branch_doc.specs.Forms.{DocAnswer}
+use Rattle.branch_engine.specs.Play.{step_told}
 use Rattle.branch_engine.specs.Engines.{EngineView, Tells}
 use Rattle.branch_engine.proofs.Played.{on_ok}
 use Rattle.branch_engine.specs.Engines.{Core, Seen}
@@ -22,7 +24,7 @@ returns-in-Err-UnknownBranch c =
     let out = c.args.out.now.items in
     let out' = c.put_unknown.new.out.items in
     let refused = rw c.in-Err-UnknownBranch.field-0-is at c.in-Err-UnknownBranch.ensures.refused in
-    let is = subst (λ (v : EngineView). turn counters v.core.limits v.core.history (machine.Fork new from) ≡ answers {A = Answer} (machine.Refused (machine.UnknownBranch from))) c.self.view_is refused.1 in
+    let is = subst (λ (v : EngineView). turn document v.core.limits v.core.history (machine.Fork new from) ≡ answers {A = DocAnswer} (machine.Refused (machine.UnknownBranch from))) c.self.view_is refused.1 in
     let same : view_of c.fork.new.self c.self.inside.sessions.entries ≡ old = ap (λ k. view_of k c.self.inside.sessions.entries) c.in-Err-UnknownBranch.ensures.kept ∙ c.self.view_is in
     on_ok c.put_unknown.result (out' ≡ out ++ (refusal_text [] (machine.UnknownBranch from) ++ line_end)) (Tells (λ limits p. step_told limits p (step.Fork new from)) old (view_of c.fork.new.self c.self.inside.sessions.entries) out out') c.put_unknown.ensures
     (λ text. subst (λ v. Tells (λ limits p. step_told limits p (step.Fork new from)) old v out out') (sym same) (fork_refused old out out' new from (machine.UnknownBranch from) is text))
@@ -35,7 +37,7 @@ returns-in-Err-NameTaken c =
     let out = c.args.out.now.items in
     let out' = c.put_taken.new.out.items in
     let refused = rw c.in-Err-NameTaken.field-0-is at c.in-Err-NameTaken.ensures.refused in
-    let is = subst (λ (v : EngineView). turn counters v.core.limits v.core.history (machine.Fork new from) ≡ answers {A = Answer} (machine.Refused (machine.NameTaken c.in-Err-NameTaken.number))) c.self.view_is refused in
+    let is = subst (λ (v : EngineView). turn document v.core.limits v.core.history (machine.Fork new from) ≡ answers {A = DocAnswer} (machine.Refused (machine.NameTaken c.in-Err-NameTaken.number))) c.self.view_is refused in
     let same : view_of c.fork.new.self c.self.inside.sessions.entries ≡ old = ap (λ k. view_of k c.self.inside.sessions.entries) c.in-Err-NameTaken.ensures.kept ∙ c.self.view_is in
     on_ok c.put_taken.result (out' ≡ out ++ (refusal_text [] (machine.NameTaken c.in-Err-NameTaken.number) ++ line_end)) (Tells (λ limits p. step_told limits p (step.Fork new from)) old (view_of c.fork.new.self c.self.inside.sessions.entries) out out') c.put_taken.ensures
     (λ text. subst (λ v. Tells (λ limits p. step_told limits p (step.Fork new from)) old v out out') (sym same) (fork_refused old out out' new from (machine.NameTaken c.in-Err-NameTaken.number) is text))
@@ -48,7 +50,7 @@ returns-in-Err-FullBranches c =
     let out = c.args.out.now.items in
     let out' = c.put_full_branches.new.out.items in
     let refused = rw c.in-Err-FullBranches.field-0-is at c.in-Err-FullBranches.ensures.refused in
-    let is = subst (λ (v : EngineView). turn counters v.core.limits v.core.history (machine.Fork new from) ≡ answers {A = Answer} (machine.Refused (machine.FullBranches c.in-Err-FullBranches.count))) c.self.view_is refused in
+    let is = subst (λ (v : EngineView). turn document v.core.limits v.core.history (machine.Fork new from) ≡ answers {A = DocAnswer} (machine.Refused (machine.FullBranches c.in-Err-FullBranches.count))) c.self.view_is refused in
     let same : view_of c.fork.new.self c.self.inside.sessions.entries ≡ old = ap (λ k. view_of k c.self.inside.sessions.entries) c.in-Err-FullBranches.ensures.kept ∙ c.self.view_is in
     on_ok c.put_full_branches.result (out' ≡ out ++ (refusal_text [] (machine.FullBranches c.in-Err-FullBranches.count) ++ line_end)) (Tells (λ limits p. step_told limits p (step.Fork new from)) old (view_of c.fork.new.self c.self.inside.sessions.entries) out out') c.put_full_branches.ensures
     (λ text. subst (λ v. Tells (λ limits p. step_told limits p (step.Fork new from)) old v out out') (sym same) (fork_refused old out out' new from (machine.FullBranches c.in-Err-FullBranches.count) is text))
@@ -61,7 +63,7 @@ returns-in-Err-FullMoves c =
     let out = c.args.out.now.items in
     let out' = c.put_full_moves.new.out.items in
     let refused = rw c.in-Err-FullMoves.field-0-is at c.in-Err-FullMoves.ensures.refused in
-    let is = subst (λ (v : EngineView). turn counters v.core.limits v.core.history (machine.Fork new from) ≡ answers {A = Answer} (machine.Refused (machine.FullMoves c.in-Err-FullMoves.count))) c.self.view_is refused in
+    let is = subst (λ (v : EngineView). turn document v.core.limits v.core.history (machine.Fork new from) ≡ answers {A = DocAnswer} (machine.Refused (machine.FullMoves c.in-Err-FullMoves.count))) c.self.view_is refused in
     let same : view_of c.fork.new.self c.self.inside.sessions.entries ≡ old = ap (λ k. view_of k c.self.inside.sessions.entries) c.in-Err-FullMoves.ensures.kept ∙ c.self.view_is in
     on_ok c.put_full_moves.result (out' ≡ out ++ (refusal_text [] (machine.FullMoves c.in-Err-FullMoves.count) ++ line_end)) (Tells (λ limits p. step_told limits p (step.Fork new from)) old (view_of c.fork.new.self c.self.inside.sessions.entries) out out') c.put_full_moves.ensures
     (λ text. subst (λ v. Tells (λ limits p. step_told limits p (step.Fork new from)) old v out out') (sym same) (fork_refused old out out' new from (machine.FullMoves c.in-Err-FullMoves.count) is text))
@@ -76,7 +78,7 @@ returns c =
     let made = c.in-Ok.ensures.forked in
     let number = c.in-Ok.forked.number in
     let head = c.in-Ok.forked.head in
-    let is = subst (λ (v : EngineView). turn counters v.core.limits v.core.history (machine.Fork new from) ≡ fork_turn new number made.0 head) c.self.view_is made.1.turn_is in
+    let is = subst (λ (v : EngineView). turn document v.core.limits v.core.history (machine.Fork new from) ≡ fork_turn new number made.0 head) c.self.view_is made.1.turn_is in
     let grown = subst (λ (v : EngineView). c.fork.new.self ≡ record v.core { history = v.core.history ++ move.Fork new number made.0 ∷ [] }) c.self.view_is made.1.history in
     let sessions = ap (λ (v : EngineView). v.sessions) c.self.view_is in
     on_ok c.put_forked.result (out' ≡ out ++ (forked_text new number head ++ line_end)) (Tells (λ limits p. step_told limits p (step.Fork new from)) old (view_of c.fork.new.self c.self.inside.sessions.entries) out out') c.put_forked.ensures

@@ -6,7 +6,9 @@ use Rattle.branch_history.specs.Machine.{turn, answers}
 use Rattle.store_core.specs.Turns.{step_of}
 use Rattle.branch_print.specs.Texts.{refusal_text, unseen_text, same_text, line_end}
 use Rattle.branch_script.specs.declared.step.Step.TheVariants as step
-use Rattle.branch_engine.specs.Play.{counters, turn_told, step_told, Query, Answer}
+use Rattle.branch_doc.specs.Document.{document}
+use Rattle.branch_doc.specs.Forms.{DocQuery, DocAnswer}
+use Rattle.branch_engine.specs.Play.{turn_told, step_told}
 use Rattle.branch_engine.specs.Engines.{EngineView, Seen, Tells, session_named}
 use Rattle.branch_engine.proofs.Played.{on_ok, branch-stays, prefix-self}
 use Rattle.branch_engine.proofs.Merges.{merge_of, pair-history, pair-limits, pair-branch, pair-turn, pair-work}
@@ -42,7 +44,7 @@ returns-in-Err-UnknownBranch c =
     let found : session_named c.self.inside.sessions.entries session ≡ Some seen = sym c.in-Some.ensures.value in
     let there = subst (λ (v : EngineView). session_named v.sessions session ≡ Some seen) c.self.view_is found in
     let refused = (rw c.in-Err-UnknownBranch.field-0-is at c.in-Err-UnknownBranch.ensures.refused).1 in
-    let is = subst (λ (v : EngineView). turn counters v.core.limits v.core.history (machine.Look from) ≡ answers {A = Answer} (machine.Refused (machine.UnknownBranch from))) c.self.view_is refused in
+    let is = subst (λ (v : EngineView). turn document v.core.limits v.core.history (machine.Look from) ≡ answers {A = DocAnswer} (machine.Refused (machine.UnknownBranch from))) c.self.view_is refused in
     on_ok c.put_unknown.result (out' ≡ out ++ (refusal_text [] (machine.UnknownBranch from) ++ line_end)) (Tells (λ limits p. step_told limits p (step.Merge session from)) old old out out') c.put_unknown.ensures
     (λ text. merge_unknown old out session seen there out' from (machine.UnknownBranch from) is text)
 
@@ -61,8 +63,8 @@ returns-in-Ok-Same c =
     let there = subst (λ (v : EngineView). session_named v.sessions session ≡ Some seen) c.self.view_is found in
     let merge = merge_of seen.branch seen.head pair.other in
     let turns = pair-turn core seen from pair paired machine.Same (rw c.in-Ok-Same.field-0-is at c.in-Ok-Same.ensures.step) in
-    let is = subst (λ (v : EngineView). turn counters v.core.limits v.core.history merge ≡ answers {A = Answer} machine.Same) c.self.view_is turns in
-    let looks = subst (λ (v : EngineView). turn counters v.core.limits v.core.history (machine.Look from) ≡ answers {A = Answer} (machine.Sees paired.source pair.other)) c.self.view_is paired.other in
+    let is = subst (λ (v : EngineView). turn document v.core.limits v.core.history merge ≡ answers {A = DocAnswer} machine.Same) c.self.view_is turns in
+    let looks = subst (λ (v : EngineView). turn document v.core.limits v.core.history (machine.Look from) ≡ answers {A = DocAnswer} (machine.Sees paired.source pair.other)) c.self.view_is paired.other in
     on_ok c.put_same.result (out' ≡ out ++ (same_text ++ line_end)) (Tells (λ limits p. step_told limits p (step.Merge session from)) old old out out') c.put_same.ensures
     (λ text. merge_told_so old out session seen there old out' from paired.source pair.other looks (turn_stays old out out' session seen.branch merge machine.Same is refl text))
 
@@ -82,8 +84,8 @@ returns-in-Err-ManyBases c =
     let there = subst (λ (v : EngineView). session_named v.sessions session ≡ Some seen) c.self.view_is found in
     let merge = merge_of seen.branch seen.head pair.other in
     let turns = pair-turn core seen from pair paired refused (rw c.in-Err-ManyBases.field-0-is at c.in-Err-ManyBases.ensures.refused) in
-    let is = subst (λ (v : EngineView). turn counters v.core.limits v.core.history merge ≡ answers {A = Answer} refused) c.self.view_is turns in
-    let looks = subst (λ (v : EngineView). turn counters v.core.limits v.core.history (machine.Look from) ≡ answers {A = Answer} (machine.Sees paired.source pair.other)) c.self.view_is paired.other in
+    let is = subst (λ (v : EngineView). turn document v.core.limits v.core.history merge ≡ answers {A = DocAnswer} refused) c.self.view_is turns in
+    let looks = subst (λ (v : EngineView). turn document v.core.limits v.core.history (machine.Look from) ≡ answers {A = DocAnswer} (machine.Sees paired.source pair.other)) c.self.view_is paired.other in
     on_ok c.put_bases.result (out' ≡ out ++ (refusal_text [] (machine.ManyBases c.in-Err-ManyBases.count) ++ line_end)) (Tells (λ limits p. step_told limits p (step.Merge session from)) old old out out') c.put_bases.ensures
     (λ text. merge_told_so old out session seen there old out' from paired.source pair.other looks (turn_stays old out out' session seen.branch merge refused is refl text))
 
@@ -103,8 +105,8 @@ returns-in-Err-ValueTooLarge c =
     let there = subst (λ (v : EngineView). session_named v.sessions session ≡ Some seen) c.self.view_is found in
     let merge = merge_of seen.branch seen.head pair.other in
     let turns = pair-turn core seen from pair paired refused (rw c.in-Err-ValueTooLarge.field-0-is at c.in-Err-ValueTooLarge.ensures.refused) in
-    let is = subst (λ (v : EngineView). turn counters v.core.limits v.core.history merge ≡ answers {A = Answer} refused) c.self.view_is turns in
-    let looks = subst (λ (v : EngineView). turn counters v.core.limits v.core.history (machine.Look from) ≡ answers {A = Answer} (machine.Sees paired.source pair.other)) c.self.view_is paired.other in
+    let is = subst (λ (v : EngineView). turn document v.core.limits v.core.history merge ≡ answers {A = DocAnswer} refused) c.self.view_is turns in
+    let looks = subst (λ (v : EngineView). turn document v.core.limits v.core.history (machine.Look from) ≡ answers {A = DocAnswer} (machine.Sees paired.source pair.other)) c.self.view_is paired.other in
     on_ok c.put_too_large.result (out' ≡ out ++ (refusal_text [] (machine.ValueTooLarge c.in-Err-ValueTooLarge.length) ++ line_end)) (Tells (λ limits p. step_told limits p (step.Merge session from)) old old out out') c.put_too_large.ensures
     (λ text. merge_told_so old out session seen there old out' from paired.source pair.other looks (turn_stays old out out' session seen.branch merge refused is refl text))
 
@@ -156,8 +158,8 @@ returns-in-Ok-Land c =
     let there = subst (λ (v : EngineView). session_named v.sessions session ≡ Some seen) c.self.view_is found in
     let does = rw c.in-Ok-Land.field-0-is at c.in-Ok-Land.ensures.step in
     let work = pair-work core seen from pair paired made does.0 does.1 in
-    let looks = subst (λ (v : EngineView). turn counters v.core.limits v.core.history (machine.Look from) ≡ answers {A = Answer} (machine.Sees paired.source pair.other)) c.self.view_is paired.other in
-    on_ok c.move_on.result (Tells (λ limits p. turn_told limits p session branch (step_of {Q = Query} made.seen made.work)) old new out out') (Tells (λ limits p. step_told limits p (step.Merge session from)) old new out out') c.move_on.ensures
+    let looks = subst (λ (v : EngineView). turn document v.core.limits v.core.history (machine.Look from) ≡ answers {A = DocAnswer} (machine.Sees paired.source pair.other)) c.self.view_is paired.other in
+    on_ok c.move_on.result (Tells (λ limits p. turn_told limits p session branch (step_of {Q = DocQuery} made.seen made.work)) old new out out') (Tells (λ limits p. step_told limits p (step.Merge session from)) old new out out') c.move_on.ensures
     (λ tells. merge_told_so old out session seen there new out' from paired.source pair.other looks
     (subst (λ b. Tells (λ limits p. turn_told limits p session b (merge_of seen.branch seen.head pair.other)) old new out out') c.branch-branch.ensures.branch
     (subst (λ s. Tells (λ limits p. turn_told limits p session branch s) old new out out') work tells)))

@@ -6,15 +6,43 @@ use Rattle.branch_history.specs.Steps as machine
 use Rattle.branch_history.specs.Machine.{turn, answers}
 use Rattle.store_core.specs.Turns.{step_of, move_of}
 use Rattle.branch_print.specs.Texts.{refusal_text, line_end}
-use Rattle.branch_engine.specs.Play.{counters, turn_told, Query, Answer}
-use Rattle.branch_engine.specs.Engines.{EngineView, Core, Seen, Tells, SeesHead}
-use Rattle.branch_engine.proofs.Played.{on_ok, branch-stays}
+use Rattle.branch_doc.specs.Document.{document}
+use Rattle.branch_doc.specs.Forms.{DocQuery, DocAnswer}
+use Rattle.branch_engine.specs.Play.{turn_told}
+use Rattle.branch_engine.specs.Engines.{EngineView, Core, Seen, AreLooksAt, Tells, SeesHead}
+use Rattle.branch_engine.proofs.Played.{on_ok, branch-stays, looks-grow}
 use Rattle.branch_engine.proofs.Landings.{sight_at, lands-sees}
 use Rattle.branch_engine.proofs.Replies.{turn_stays, landed}
 use Rattle.branch_engine.proofs.engine.Engine.move_on.Goals as goal
 
 abbrev view_of : Core → List (List ℕ × Seen) → EngineView
 view_of core sessions = record { core = core; sessions = sessions }
+
+pub invariant_of-self : goal.invariant_of-self
+invariant_of-self c =
+    let made = c.args.prepared in
+    let history = c.in-Ok.ensures.landed.history in
+    looks-grow c.self.inside.core c.land.new.self c.self.inside.sessions.entries (move_of made.seen.branch made.work ∷ []) c.self.invariant
+    (ap (λ (k : Core). k.limits) history) (ap (λ (k : Core). k.history) history)
+
+pub invariant_of-self-in-Ok : goal.invariant_of-self-in-Ok
+invariant_of-self-in-Ok c =
+    let made = c.args.prepared in
+    let history = c.in-Ok.ensures.landed.history in
+    looks-grow c.self.inside.core c.land.new.self c.self.inside.sessions.entries (move_of made.seen.branch made.work ∷ []) c.self.invariant
+    (ap (λ (k : Core). k.limits) history) (ap (λ (k : Core). k.history) history)
+
+pub invariant_of-self-in-Err-Stale : goal.invariant_of-self-in-Err-Stale
+invariant_of-self-in-Err-Stale c = subst (λ (k : Core). AreLooksAt k c.self.inside.sessions.entries) (sym c.in-Err-Stale.ensures.kept) c.self.invariant
+
+pub invariant_of-self-in-Err-FullCommits : goal.invariant_of-self-in-Err-FullCommits
+invariant_of-self-in-Err-FullCommits c = subst (λ (k : Core). AreLooksAt k c.self.inside.sessions.entries) (sym c.in-Err-FullCommits.ensures.kept) c.self.invariant
+
+pub invariant_of-self-in-Err-FullMoves : goal.invariant_of-self-in-Err-FullMoves
+invariant_of-self-in-Err-FullMoves c = subst (λ (k : Core). AreLooksAt k c.self.inside.sessions.entries) (sym c.in-Err-FullMoves.ensures.kept) c.self.invariant
+
+pub invariant_of-self-in-Err-Memory : goal.invariant_of-self-in-Err-Memory
+invariant_of-self-in-Err-Memory c = subst (λ (k : Core). AreLooksAt k c.self.inside.sessions.entries) (sym c.in-Err-Memory.ensures.kept) c.self.invariant
 
 pub sees_head-requires : goal.sees_head-requires
 sees_head-requires c =
@@ -39,7 +67,7 @@ returns-in_ok-put_kind-in-Ok c =
     let session = c.args.session.now in
     let branch = c.args.branch in
     let made = c.args.prepared in
-    let step = step_of {Q = Query} made.seen made.work in
+    let step = step_of {Q = DocQuery} made.seen made.work in
     let out = c.args.out.now.items in
     let out' = c.put_kind.new.out.items in
     let k = c.land.new.self in
@@ -65,13 +93,13 @@ returns-in-Err-Stale c =
     let session = c.args.session.now in
     let branch = c.args.branch in
     let made = c.args.prepared in
-    let step = step_of {Q = Query} made.seen made.work in
+    let step = step_of {Q = DocQuery} made.seen made.work in
     let out = c.args.out.now.items in
     let out' = c.stale.new.out.items in
     let refusal = machine.Stale c.in-Err-Stale.newest in
     let refused = (rw c.in-Err-Stale.field-0-is at c.in-Err-Stale.ensures.refused).0 in
     let same : view_of c.land.new.self sessions ≡ old = ap (λ k. view_of k sessions) c.in-Err-Stale.ensures.kept ∙ c.self.view_is in
-    let is = subst (λ (v : EngineView). turn counters v.core.limits v.core.history step ≡ answers {A = Answer} (machine.Refused refusal)) c.self.view_is refused in
+    let is = subst (λ (v : EngineView). turn document v.core.limits v.core.history step ≡ answers {A = DocAnswer} (machine.Refused refusal)) c.self.view_is refused in
     on_ok c.stale.result (out' ≡ out ++ (refusal_text (name_of (store_of c.land.new.self.history).branches branch) refusal ++ line_end)) (Tells (λ limits p. turn_told limits p session branch step) old (view_of c.land.new.self sessions) out out') c.stale.ensures
     (λ text. subst (λ v. Tells (λ limits p. turn_told limits p session branch step) old v out out') (sym same)
     (turn_stays old out out' session branch step (machine.Refused refusal) is refl (text ∙ ap (λ (v : EngineView). out ++ (refusal_text (name_of (store_of v.core.history).branches branch) refusal ++ line_end)) same)))
@@ -83,13 +111,13 @@ returns-in-Err-FullCommits c =
     let session = c.args.session.now in
     let branch = c.args.branch in
     let made = c.args.prepared in
-    let step = step_of {Q = Query} made.seen made.work in
+    let step = step_of {Q = DocQuery} made.seen made.work in
     let out = c.args.out.now.items in
     let out' = c.put_full_commits.new.out.items in
     let refusal = machine.FullCommits c.in-Err-FullCommits.count in
     let refused = rw c.in-Err-FullCommits.field-0-is at c.in-Err-FullCommits.ensures.refused in
     let same : view_of c.land.new.self sessions ≡ old = ap (λ k. view_of k sessions) c.in-Err-FullCommits.ensures.kept ∙ c.self.view_is in
-    let is = subst (λ (v : EngineView). turn counters v.core.limits v.core.history step ≡ answers {A = Answer} (machine.Refused refusal)) c.self.view_is refused in
+    let is = subst (λ (v : EngineView). turn document v.core.limits v.core.history step ≡ answers {A = DocAnswer} (machine.Refused refusal)) c.self.view_is refused in
     on_ok c.put_full_commits.result (out' ≡ out ++ (refusal_text [] refusal ++ line_end)) (Tells (λ limits p. turn_told limits p session branch step) old (view_of c.land.new.self sessions) out out') c.put_full_commits.ensures
     (λ text. subst (λ v. Tells (λ limits p. turn_told limits p session branch step) old v out out') (sym same)
     (turn_stays old out out' session branch step (machine.Refused refusal) is refl text))
@@ -101,13 +129,13 @@ returns-in-Err-FullMoves c =
     let session = c.args.session.now in
     let branch = c.args.branch in
     let made = c.args.prepared in
-    let step = step_of {Q = Query} made.seen made.work in
+    let step = step_of {Q = DocQuery} made.seen made.work in
     let out = c.args.out.now.items in
     let out' = c.put_full_moves.new.out.items in
     let refusal = machine.FullMoves c.in-Err-FullMoves.count in
     let refused = rw c.in-Err-FullMoves.field-0-is at c.in-Err-FullMoves.ensures.refused in
     let same : view_of c.land.new.self sessions ≡ old = ap (λ k. view_of k sessions) c.in-Err-FullMoves.ensures.kept ∙ c.self.view_is in
-    let is = subst (λ (v : EngineView). turn counters v.core.limits v.core.history step ≡ answers {A = Answer} (machine.Refused refusal)) c.self.view_is refused in
+    let is = subst (λ (v : EngineView). turn document v.core.limits v.core.history step ≡ answers {A = DocAnswer} (machine.Refused refusal)) c.self.view_is refused in
     on_ok c.put_full_moves.result (out' ≡ out ++ (refusal_text [] refusal ++ line_end)) (Tells (λ limits p. turn_told limits p session branch step) old (view_of c.land.new.self sessions) out out') c.put_full_moves.ensures
     (λ text. subst (λ v. Tells (λ limits p. turn_told limits p session branch step) old v out out') (sym same)
     (turn_stays old out out' session branch step (machine.Refused refusal) is refl text))
