@@ -1,3 +1,5 @@
 pub mod TimeSets
 pub mod Parts
 pub mod Executions
+pub mod SameEvents
+pub mod Tables

@@ -11,6 +11,7 @@ pub mod bytes;
 pub mod errors;
 pub mod listing;
 pub mod mrdt;
+pub mod shared;
 #[cfg(test)]
 mod tests;
 pub mod time;
@@ -19,4 +20,5 @@ pub use bytes::Bytes;
 pub use errors::{Memory, Unread};
 pub use listing::Listing;
 pub use mrdt::Mrdt;
+pub use shared::Shared;
 pub use time::Time;

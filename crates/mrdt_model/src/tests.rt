@@ -1,5 +1,5 @@
 // Lists, on their happy paths.
-use crate::{Bytes, Listing, Time};
+use crate::{Bytes, Listing, Shared, Time};
 
 #[test]
 fn lists_hold_what_they_are_given(rt: HostRuntime) {
@@ -17,6 +17,24 @@ fn lists_hold_what_they_are_given(rt: HostRuntime) {
     let listing = Listing::from_vec(numbers);
     assert_eq!(rt; listing.as_slice().len(), 2);
     assert_eq!(rt; listing.into_vec().len(), 2);
+}
+
+#[test]
+fn values_are_shared(rt: HostRuntime) {
+    let Ok(word) = Bytes::from_slice(rt.alloc(), b"hits") else {
+        panic!(rt; "no memory");
+    };
+    let Ok(shared) = Shared::new(rt.alloc(), word) else {
+        panic!(rt; "no memory");
+    };
+    let Ok(again) = shared.copy() else {
+        panic!(rt; "no memory");
+    };
+    let Ok(third) = shared.clone() else {
+        panic!(rt; "no memory");
+    };
+    assert!(rt; again == third && again <= shared);
+    assert!(rt; third.get().as_slice() == b"hits".as_slice());
 }
 
 #[test]
