@@ -3,7 +3,7 @@
 //! An address is one fixed function of the bytes. Nothing says that different bytes have different addresses.
 #![tactic(auto)]
 
-pub mod address;
+mod address;
 
 pub use address::{Address, Sha256Address, WeakAddress};
 

@@ -2,13 +2,14 @@
 use Rattle.std.proofs.Common.{◌≡◌, ℕ, ◌+◌, ◌^◌, ◌<◌, ◌≤◌, List, ◌∷◌, ◌++◌, length, refl, ◌∙◌, ap, sym, append_assoc, arith, length-append}
 use Rattle.branch_wire.specs.Fields.{short_number, number, field, counted}
 use Rattle.branch_wire.specs.Reading.{HasLength, HasLength64, ReadsOneWay, AreCounted}
-use Rattle.branch_wire.specs.Objects.{Deed, CommitFields, deed_field, commit_body, parents_of}
-use Rattle.branch_wire.specs.Objects as wire
+use Rattle.branch_wire.specs.declared.action.Action.{Action}
+use Rattle.branch_wire.specs.declared.action.Action.TheVariants.{Root, Operation, Merge}
+use Rattle.branch_wire.specs.Objects.{CommitFields, action_field, commit_body, parent_count}
 use Rattle.branch_wire.proofs.Numbers.{same_parts, length-field}
 use Rattle.branch_wire.proofs.OneWay.{short_numbers, numbers, fields, pairs, pair_spelling, PairFits}
 use Rattle.branch_wire.proofs.Lists.{counted-one_way}
 use Rattle.branch_objects_codec.specs.Grammar.{IsCommit}
-use Rattle.branch_objects_codec.specs.Parts.{NoneAt, DeedFits}
+use Rattle.branch_objects_codec.specs.Parts.{NoneAt, ActionFits}
 
 abbrev pub own : List ℕ → List ℕ
 own address = address
@@ -20,22 +21,22 @@ addresses = record { one = λ x y a b p q is. same_parts x a y b (p ∙ sym q) i
 pub counted_addresses : ReadsOneWay (AreCounted (HasLength 32)) (counted own)
 counted_addresses = counted-one_way (HasLength 32) own addresses
 
-deed_one : (x y : Deed) (a b : List ℕ) → DeedFits x → DeedFits y → deed_field x ++ a ≡ deed_field y ++ b → (x ≡ y) × (a ≡ b)
-deed_one wire.Root wire.Root a b p q is = (refl, cc)
-deed_one wire.Root (wire.Operation o r) a b p q is = cc
-deed_one wire.Root wire.Merge a b p q is = cc
-deed_one (wire.Operation o r) wire.Root a b p q is = cc
-deed_one (wire.Operation o r) (wire.Operation o' r') a b p q is =
+action_one : (x y : Action) (a b : List ℕ) → ActionFits x → ActionFits y → action_field x ++ a ≡ action_field y ++ b → (x ≡ y) × (a ≡ b)
+action_one Root Root a b p q is = (refl, cc)
+action_one Root (Operation o r) a b p q is = cc
+action_one Root Merge a b p q is = cc
+action_one (Operation o r) Root a b p q is = cc
+action_one (Operation o r) (Operation o' r') a b p q is =
     let inner : (field o ++ field r) ++ a ≡ (field o' ++ field r') ++ b = cc in
     let both = (pairs HasLength64 HasLength64 field field fields fields).one (o, r) (o', r') a b p q inner in
-    (ap (λ (z : List ℕ × List ℕ). wire.Operation z.0 z.1) both.0, both.1)
-deed_one (wire.Operation o r) wire.Merge a b p q is = cc
-deed_one wire.Merge wire.Root a b p q is = cc
-deed_one wire.Merge (wire.Operation o r) a b p q is = cc
-deed_one wire.Merge wire.Merge a b p q is = (refl, cc)
+    (ap (λ (z : List ℕ × List ℕ). Operation z.0 z.1) both.0, both.1)
+action_one (Operation o r) Merge a b p q is = cc
+action_one Merge Root a b p q is = cc
+action_one Merge (Operation o r) a b p q is = cc
+action_one Merge Merge a b p q is = (refl, cc)
 
-pub deeds : ReadsOneWay DeedFits deed_field
-deeds = record { one = deed_one }
+pub actions : ReadsOneWay ActionFits action_field
+actions = record { one = action_one }
 
 module _ {X Y : Type 0} (fits : X → Type 0) (more : Y → Type 0) (f : X → List ℕ) (g : Y → List ℕ) where
   -- where the first field is not there, the two are not
@@ -62,7 +63,7 @@ abbrev pub Four : Type 0
 Four = Three × List ℕ
 
 abbrev pub Five : Type 0
-Five = Four × Deed
+Five = Four × Action
 
 abbrev pub IsShort : ℕ → Type 0
 IsShort n = n < 2 ^ 32
@@ -83,7 +84,7 @@ abbrev pub Four_fits : Four → Type 0
 Four_fits = PairFits Three_fits (HasLength 32)
 
 abbrev pub Five_fits : Five → Type 0
-Five_fits = PairFits Four_fits DeedFits
+Five_fits = PairFits Four_fits ActionFits
 
 abbrev pub one_spelling : List (List ℕ) → List ℕ
 one_spelling = counted own
@@ -98,7 +99,7 @@ abbrev pub four_spelling : Four → List ℕ
 four_spelling = pair_spelling three_spelling own
 
 abbrev pub five_spelling : Five → List ℕ
-five_spelling = pair_spelling four_spelling deed_field
+five_spelling = pair_spelling four_spelling action_field
 
 pub twos : ReadsOneWay Two_fits two_spelling
 twos = pairs One_fits IsShort one_spelling short_number counted_addresses short_numbers
@@ -110,39 +111,39 @@ pub fours : ReadsOneWay Four_fits four_spelling
 fours = pairs Three_fits (HasLength 32) three_spelling own threes addresses
 
 pub fives : ReadsOneWay Five_fits five_spelling
-fives = pairs Four_fits DeedFits four_spelling deed_field fours deeds
+fives = pairs Four_fits ActionFits four_spelling action_field fours actions
 
 abbrev pub five_of : CommitFields → Five
-five_of c = ((((c.parents, c.branch), c.clock), c.value), c.deed)
+five_of c = ((((c.parents, c.branch), c.clock), c.value), c.action)
 
 abbrev pub commit_of : Five → CommitFields
-commit_of p = record { parents = p.0.0.0.0; branch = p.0.0.0.1; clock = p.0.0.1; value = p.0.1; deed = p.1 }
+commit_of p = record { parents = p.0.0.0.0; branch = p.0.0.0.1; clock = p.0.0.1; value = p.0.1; action = p.1 }
 
 pub from_five : (c d : CommitFields) → five_of c ≡ five_of d → c ≡ d
 from_five c d is = ap commit_of is
 
-deed_short : (front : List ℕ) (d : Deed) → HasLength64 (front ++ deed_field d) → DeedFits d
-deed_short front wire.Root short = tt
-deed_short front (wire.Operation o r) short =
+action_short : (front : List ℕ) (d : Action) → HasLength64 (front ++ action_field d) → ActionFits d
+action_short front Root short = tt
+action_short front (Operation o r) short =
     let all : length (front ++ (1 ∷ (field o ++ field r))) ≡ length front + length (1 ∷ (field o ++ field r)) = length-append front (1 ∷ (field o ++ field r)) in
     let both : length (field o ++ field r) ≡ (8 + length o) + (8 + length r) = length-append (field o) (field r) ∙ ap (λ n. n + length (field r)) (length-field o) ∙ ap (λ n. (8 + length o) + n) (length-field r) in
     (omega (arith, all, both, short), omega (arith, all, both, short))
-deed_short front wire.Merge short = tt
+action_short front Merge short = tt
 
-few_parents : (d : Deed) → parents_of d ≤ 2
-few_parents wire.Root = omega arith
-few_parents (wire.Operation o r) = omega arith
-few_parents wire.Merge = omega arith
+few_parents : (d : Action) → parent_count d ≤ 2
+few_parents Root = omega arith
+few_parents (Operation o r) = omega arith
+few_parents Merge = omega arith
 
 -- a commit of the grammar is fields that fit
 pub five_fit : (c : CommitFields) → IsCommit c → Five_fits (five_of c)
-five_fit c good = (((((few, good.addresses), good.branch), good.clock), good.value), deed_short (four_spelling (((c.parents, c.branch), c.clock), c.value)) c.deed good.short)
+five_fit c good = (((((few, good.addresses), good.branch), good.clock), good.value), action_short (four_spelling (((c.parents, c.branch), c.clock), c.value)) c.action good.short)
   where
     few : length c.parents < 2 ^ 64
-    few = let count = good.count in let most = few_parents c.deed in omega (arith, count, most)
+    few = let count = good.count in let most = few_parents c.action in omega (arith, count, most)
 
 -- and fields that fit are one, where there are as many parents as it needs
-pub commit_fits : (c : CommitFields) → Five_fits (five_of c) → length c.parents ≡ parents_of c.deed → HasLength64 (commit_body c) → IsCommit c
+pub commit_fits : (c : CommitFields) → Five_fits (five_of c) → length c.parents ≡ parent_count c.action → HasLength64 (commit_body c) → IsCommit c
 commit_fits c fit count short = record {
   count = count;
   addresses = fit.0.0.0.0.1;

@@ -3,9 +3,10 @@ use Rattle.std.proofs.Common.{◌≡◌, ℕ, List, [], ◌++◌, ◌∙◌, sym
 use Rattle.std.proofs.lemmas.List.{append-nil}
 use Rattle.branch_wire.specs.Fields.{short_number, number, counted}
 use Rattle.branch_wire.specs.Reading.{HasLength, AreCounted}
-use Rattle.branch_wire.specs.Objects.{Deed, CommitFields, commit_body, deed_field}
+use Rattle.branch_wire.specs.declared.action.Action.{Action}
+use Rattle.branch_wire.specs.Objects.{CommitFields, commit_body, action_field}
 use Rattle.branch_objects_codec.specs.Grammar.{IsCommit}
-use Rattle.branch_objects_codec.specs.Parts.{NoneAt, DeedFits}
+use Rattle.branch_objects_codec.specs.Parts.{NoneAt, ActionFits}
 use Rattle.branch_objects_codec.proofs.Body
 
 -- no commit of the grammar has this body
@@ -16,7 +17,7 @@ no_five : (body : List ℕ) → NoneAt Body.Five_fits Body.five_spelling body �
 no_five body none c good is = none (Body.five_of c) [] (Body.five_fit c good) (is ∙ sym (append-nil (commit_body c)))
 
 no_four : (body : List ℕ) → NoneAt Body.Four_fits Body.four_spelling body → NoCommit body
-no_four body none = no_five body (Body.none-first Body.Four_fits DeedFits Body.four_spelling deed_field body none)
+no_four body none = no_five body (Body.none-first Body.Four_fits ActionFits Body.four_spelling action_field body none)
 
 no_three : (body : List ℕ) → NoneAt Body.Three_fits Body.three_spelling body → NoCommit body
 no_three body none = no_four body (Body.none-first Body.Three_fits (HasLength 32) Body.three_spelling Body.own body none)
@@ -49,15 +50,15 @@ module _ (body : List ℕ) (parents : List (List ℕ)) (m1 : List ℕ) (fit1 : A
         four : body ≡ Body.four_spelling (((parents, branch), clock), value) ++ m4
         four = Body.behind Body.Three_fits (HasLength 32) Body.three_spelling Body.own ((parents, branch), clock) value body m3 m4 three is4
 
-        pub no_deed : NoneAt DeedFits deed_field m4 → NoCommit body
-        no_deed none = no_five body (Body.none-second Body.Four_fits DeedFits Body.four_spelling deed_field Body.fours (((parents, branch), clock), value) body m4 (((fit1, fit2), fit3), fit4) four none)
+        pub no_action : NoneAt ActionFits action_field m4 → NoCommit body
+        no_action none = no_five body (Body.none-second Body.Four_fits ActionFits Body.four_spelling action_field Body.fours (((parents, branch), clock), value) body m4 (((fit1, fit2), fit3), fit4) four none)
 
-        module _ (deed : Deed) (m5 : List ℕ) (fit5 : DeedFits deed) (is5 : m4 ≡ deed_field deed ++ m5) where
+        module _ (action : Action) (m5 : List ℕ) (fit5 : ActionFits action) (is5 : m4 ≡ action_field action ++ m5) where
           abbrev read : CommitFields
-          read = record { parents = parents; branch = branch; clock = clock; value = value; deed = deed }
+          read = record { parents = parents; branch = branch; clock = clock; value = value; action = action }
 
           pub five : body ≡ commit_body read ++ m5
-          five = Body.behind Body.Four_fits DeedFits Body.four_spelling deed_field (((parents, branch), clock), value) deed body m4 m5 four is5
+          five = Body.behind Body.Four_fits ActionFits Body.four_spelling action_field (((parents, branch), clock), value) action body m4 m5 four is5
 
           pub fit : Body.Five_fits (Body.five_of read)
           fit = ((((fit1, fit2), fit3), fit4), fit5)

@@ -5,11 +5,13 @@
 #![tactic(auto)]
 
 pub mod laws;
-pub mod object;
+mod object;
 mod reading;
+mod tags;
 mod writing;
 
-pub use object::{Action, Object};
+pub use branch_wire::Action;
+pub use object::Object;
 
 #[cfg(test)]
 mod tests;

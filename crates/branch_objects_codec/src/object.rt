@@ -1,33 +1,16 @@
 // Values and commits.
-ghost use Rattle.std.specs.Prelude.{◌≡◌, ◌++◌, IfOk, OnOk, OnErr, IsErrOf};
+ghost use Rattle.std.specs.Prelude.{◌≡◌, ◌++◌, [], ℕ, List, IfOk, OnOk, OnErr, IsErrOf};
 ghost use Rattle.mrdt_model.specs.Spelled.{AppendsPart};
 ghost use Rattle.branch_objects_codec.specs.declared.object.Object.{Object as SpecObject};
-ghost use Rattle.branch_objects_codec.specs.Grammar.{object_bytes, IsObject};
+ghost use Rattle.branch_objects_codec.specs.Grammar.{object_bytes, HasFrame, IsObject};
+ghost use Rattle.branch_objects_codec.specs.Parts.{NoneAt};
 
-use crate::reading::{get_commit, get_frame};
+use crate::reading::{object_of, take_frame};
+use crate::tags::{COMMIT, VALUE};
 use crate::writing::{commit_bytes, put_frame};
+use branch_wire::{Action, Cursor};
 use mrdt_model::{Bytes, Listing, Memory, Unread};
 use std::alloc::Global;
-
-const VALUE: u8 = 1;
-
-const COMMIT: u8 = 2;
-
-/// What a commit does.
-#[derive(Drop)]
-pub enum Action {
-    /// It is the first of all, and has no parents.
-    Root,
-    /// It applies an operation to the value of its one parent.
-    Operation {
-        /// The spelling of the operation.
-        op: Bytes,
-        /// The spelling of its reply.
-        reply: Bytes,
-    },
-    /// It merges the values of its two parents.
-    Merge,
-}
 
 /// A value or a commit.
 #[derive(Drop)]
@@ -71,19 +54,42 @@ impl Object {
         }
     }
 
+    /// Takes the object at the front of the bytes, and leaves what stands behind it. `NotCanonical` comes exactly
+    /// where no object's bytes stand there. A refusal leaves all bytes.
+    ///
+    /// Where an object's kind, a length and that many bytes do not stand there, it is never `Memory`.
+    pub fn take(alloc: Global, cursor: &mut Cursor<'_>) -> Result<Object, Unread>
+        ensures known { IfOk result IsObject }
+        ensures spelled { IfOk result (λ object. cursor.old ≡ object_bytes object ++ cursor.new) }
+        ensures equal { IfOk result (λ object. (other : SpecObject) (rest : List ℕ) → IsObject other → cursor.old ≡ object_bytes other ++ rest → (object ≡ other) × (cursor.new ≡ rest)) }
+        ensures outside { IsErrOf result Unread.NotCanonical → NoneAt IsObject object_bytes cursor.old }
+        ensures memory { IsErrOf result Unread.Memory → (rest : List ℕ) × HasFrame cursor.old rest }
+        ensures refused { OnErr result (cursor.new ≡ cursor.old) }
+    {
+        let mut ahead = Cursor::new(cursor.as_slice());
+        let (kind, body) = take_frame(&mut ahead)?;
+        let object = object_of(alloc, kind, body)?;
+        *cursor = ahead;
+        Ok(object)
+    }
+
     /// Reads the object whose spelling is the whole of the bytes. `NotCanonical` comes exactly where they are
     /// the spelling of none.
+    ///
+    /// Where they are not an object's kind, a length and that many bytes, it is never `Memory`.
     pub fn get(alloc: Global, bytes: &[u8]) -> Result<Object, Unread>
         ensures known { IfOk result IsObject }
         ensures spelled { IfOk result (λ object. bytes.now ≡ object_bytes object) }
         ensures equal { IfOk result (λ object. (other : SpecObject) → IsObject other → bytes.now ≡ object_bytes other → object ≡ other) }
         ensures outside { IsErrOf result Unread.NotCanonical → (object : SpecObject) → IsObject object → bytes.now ≡ object_bytes object → ⊥ }
+        ensures memory { IsErrOf result Unread.Memory → HasFrame bytes.now [] }
     {
-        let (kind, body) = get_frame(bytes)?;
-        match kind {
-            VALUE => Ok(Object::Value(Bytes::from_slice(alloc, body)?)),
-            COMMIT => get_commit(alloc, body),
-            _ => Err(Unread::NotCanonical),
+        let mut cursor = Cursor::new(bytes);
+        let (kind, body) = take_frame(&mut cursor)?;
+        if cursor.is_at_end() {
+            object_of(alloc, kind, body)
+        } else {
+            Err(Unread::NotCanonical)
         }
     }
 }

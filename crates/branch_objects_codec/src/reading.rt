@@ -1,29 +1,41 @@
 // The parts of an object's bytes, taken from the front of a slice.
-ghost use Rattle.std.specs.Prelude.{◌≡◌, ◌++◌, ◌∷◌, [], ℕ, List, IfOk, OnOk, OnErr, IsErrOf};
+ghost use Rattle.std.specs.Prelude.{◌≡◌, ◌++◌, ◌∷◌, ℕ, List, IfOk, OnErr, IsErrOf};
 ghost use Rattle.branch_wire.specs.Fields.{field, counted};
 ghost use Rattle.branch_wire.specs.Reading.{HasLength, HasLength64, AreCounted};
-ghost use Rattle.branch_wire.specs.Objects.{CommitFields, commit_body, deed_field, parents_of};
-ghost use Rattle.branch_objects_codec.specs.Grammar.{deed_of, object_bytes, IsCommit, IsObject};
-ghost use Rattle.branch_objects_codec.specs.Parts.{DeedFits, NoneAt};
+ghost use Rattle.branch_wire.specs.Objects.{CommitFields, commit_body, action_field, parent_count};
+ghost use Rattle.branch_objects_codec.specs.declared.object.Object.{Object as SpecObject};
+ghost use Rattle.branch_objects_codec.specs.Grammar.{object_bytes, IsCommit, IsKind, IsObject};
+ghost use Rattle.branch_objects_codec.specs.Parts.{ActionFits, NoneAt};
 
-use crate::object::{Action, Object};
-use branch_wire::{Cursor, Short};
-use mrdt_model::{Bytes, Listing, Memory, Unread};
+use crate::object::Object;
+use crate::tags::{COMMIT, MERGE, OPERATION, ROOT, VALUE};
+use branch_wire::{Action, Cursor, Short, push_address};
+use mrdt_model::{Bytes, Listing, Unread};
 use std::alloc::Global;
 
-// The kind, and the body, where nothing stands behind.
-pub(crate) fn get_frame(bytes: &[u8]) -> Result<(u8, &[u8]), Unread>
-    ensures ok { IfOk result (λ frame. bytes.now ≡ frame.0 ∷ field frame.1.now) }
+// Takes a kind, the length of a body, and the body.
+pub(crate) fn take_frame<'a>(cursor: &mut Cursor<'a>) -> Result<(u8, &'a [u8]), Short>
+    ensures ok { IfOk result (λ frame. cursor.old ≡ frame.0 ∷ field frame.1.now ++ cursor.new) }
     ensures short { IfOk result (λ frame. HasLength64 frame.1.now) }
-    ensures outside { OnErr result ((kind : ℕ) (body : List ℕ) → HasLength64 body → bytes.now ≡ kind ∷ field body → ⊥) }
+    ensures outside { OnErr result ((kind : ℕ) (body rest : List ℕ) → HasLength64 body → cursor.old ≡ kind ∷ field body ++ rest → ⊥) }
 {
-    let mut cursor = Cursor::new(bytes);
     let kind = cursor.take_u8()?;
     let body = cursor.take_bytes()?;
-    if cursor.is_at_end() {
-        Ok((kind, body))
-    } else {
-        Err(Unread::NotCanonical)
+    Ok((kind, body))
+}
+
+// The object of this kind with this body.
+pub(crate) fn object_of(alloc: Global, kind: u8, body: &[u8]) -> Result<Object, Unread>
+    requires { HasLength64 body.now }
+    ensures known { IfOk result IsObject }
+    ensures spelled { IfOk result (λ object. object_bytes object ≡ kind ∷ field body.now) }
+    ensures outside { IsErrOf result Unread.NotCanonical → (object : SpecObject) → IsObject object → object_bytes object ≡ kind ∷ field body.now → ⊥ }
+    ensures memory { IsErrOf result Unread.Memory → IsKind kind }
+{
+    match kind {
+        VALUE => Ok(Object::Value(Bytes::from_slice(alloc, body)?)),
+        COMMIT => get_commit(alloc, body),
+        _ => Err(Unread::NotCanonical),
     }
 }
 
@@ -38,13 +50,6 @@ fn take_address(cursor: &mut Cursor<'_>) -> Result<[u8; 32], Short>
     Ok(address)
 }
 
-// Puts an address behind the others.
-fn push(addresses: &mut Vec<[u8; 32]>, address: [u8; 32]) -> Result<(), Memory>
-    ensures { OnOk result (addresses.new.items ≡ addresses.old.items ++ address ∷ []) }
-{
-    Ok(addresses.push(address)?)
-}
-
 // Takes a count, and that many addresses.
 fn take_addresses(alloc: Global, cursor: &mut Cursor<'_>) -> Result<Listing<[u8; 32]>, Unread>
     ensures fits { IfOk result (AreCounted (HasLength 32)) }
@@ -55,44 +60,45 @@ fn take_addresses(alloc: Global, cursor: &mut Cursor<'_>) -> Result<Listing<[u8;
     let mut addresses = Vec::new(alloc);
     for _index in 0..count {
         let address = take_address(cursor)?;
-        push(&mut addresses, address)?;
+        push_address(address, &mut addresses)?;
     }
     Ok(Listing::from_vec(addresses))
 }
 
 // Takes what a commit does.
 fn take_action(alloc: Global, cursor: &mut Cursor<'_>) -> Result<Action, Unread>
-    ensures fits { IfOk result (λ action. DeedFits (deed_of action)) }
-    ensures ok { IfOk result (λ action. cursor.old ≡ deed_field (deed_of action) ++ cursor.new) }
-    ensures outside { IsErrOf result Unread.NotCanonical → NoneAt DeedFits deed_field cursor.old }
+    ensures fits { IfOk result ActionFits }
+    ensures ok { IfOk result (λ action. cursor.old ≡ action_field action ++ cursor.new) }
+    ensures outside { IsErrOf result Unread.NotCanonical → NoneAt ActionFits action_field cursor.old }
 {
     match cursor.take_u8()? {
-        0 => Ok(Action::Root),
-        1 => {
-            let op = Bytes::from_slice(alloc, cursor.take_bytes()?)?;
-            let reply = Bytes::from_slice(alloc, cursor.take_bytes()?)?;
-            Ok(Action::Operation { op, reply })
+        ROOT => Ok(Action::Root),
+        OPERATION => {
+            let op = cursor.take_bytes()?;
+            let reply = cursor.take_bytes()?;
+            Ok(Action::Operation {
+                op: Bytes::from_slice(alloc, op)?,
+                reply: Bytes::from_slice(alloc, reply)?,
+            })
         }
-        2 => Ok(Action::Merge),
+        MERGE => Ok(Action::Merge),
         _ => Err(Unread::NotCanonical),
     }
 }
 
-impl Action {
-    // How many parents a commit has that does this.
-    fn parents(&self) -> usize
-        ensures { result ≡ parents_of (deed_of self.now) }
-    {
-        match self {
-            Action::Root => 0,
-            Action::Operation { .. } => 1,
-            Action::Merge => 2,
-        }
+// How many parents a commit has that does this.
+fn parents_for(action: &Action) -> usize
+    ensures { result ≡ parent_count action.now }
+{
+    match action {
+        Action::Root => 0,
+        Action::Operation { .. } => 1,
+        Action::Merge => 2,
     }
 }
 
 // The commit whose fields are the whole of the body.
-pub(crate) fn get_commit(alloc: Global, body: &[u8]) -> Result<Object, Unread>
+fn get_commit(alloc: Global, body: &[u8]) -> Result<Object, Unread>
     requires { HasLength64 body.now }
     ensures known { IfOk result IsObject }
     ensures spelled { IfOk result (λ object. object_bytes object ≡ 2 ∷ field body.now) }
@@ -104,7 +110,7 @@ pub(crate) fn get_commit(alloc: Global, body: &[u8]) -> Result<Object, Unread>
     let clock = cursor.take_u64()?;
     let value = take_address(&mut cursor)?;
     let action = take_action(alloc, &mut cursor)?;
-    if cursor.is_at_end() && parents.as_slice().len() == action.parents() {
+    if cursor.is_at_end() && parents.as_slice().len() == parents_for(&action) {
         Ok(Object::Commit {
             parents,
             branch,

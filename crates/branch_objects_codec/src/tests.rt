@@ -1,4 +1,5 @@
 use crate::{Action, Object};
+use branch_wire::Cursor;
 use mrdt_model::{Bytes, Listing, Memory, Unread};
 use std::alloc::Global;
 
@@ -46,6 +47,15 @@ pppppppppppppppppppppppppppppppp\
 \x00\x00\x00\x00\x00\x00\x00\x00\
 vvvvvvvvvvvvvvvvvvvvvvvvvvvvvvvv\
 \x00";
+
+// The root commit with another byte for what it does.
+const OTHER_ACTION: &[u8] = b"\
+\x02\x00\x00\x00\x00\x00\x00\x00\x35\
+\x00\x00\x00\x00\x00\x00\x00\x00\
+\x00\x00\x00\x00\
+\x00\x00\x00\x00\x00\x00\x00\x00\
+vvvvvvvvvvvvvvvvvvvvvvvvvvvvvvvv\
+\x03";
 
 const MERGE_OF_ONE: &[u8] = b"\
 \x02\x00\x00\x00\x00\x00\x00\x00\x55\
@@ -121,29 +131,24 @@ fn objects_are_spelled(rt: HostRuntime) {
     assert!(rt; text.as_slice() == MERGE);
 }
 
-#[test]
-fn objects_have_their_lengths(rt: HostRuntime) {
-    let alloc = rt.alloc();
-    let initial = value(alloc, &[0; 104]).expect(&rt, "a value");
-    assert!(rt; spelled(alloc, &initial).expect(&rt, "bytes").len() == 113);
-    let first = root(alloc).expect(&rt, "a root");
-    assert!(rt; spelled(alloc, &first).expect(&rt, "bytes").len() == 62);
-    let both = merge(alloc).expect(&rt, "a merge");
-    assert!(rt; spelled(alloc, &both).expect(&rt, "bytes").len() == 126);
-    let add = operation(alloc, &[1; 21], b"\x01").expect(&rt, "an operation");
-    assert!(rt; spelled(alloc, &add).expect(&rt, "bytes").len() == 132);
+// How many bytes are left behind the object at the front; none where there is no object, and all are left then.
+fn left_behind(alloc: Global, bytes: &[u8]) -> Option<usize> {
+    let mut cursor = Cursor::new(bytes);
+    match Object::take(alloc, &mut cursor) {
+        Ok(_) => Some(cursor.take_rest().len()),
+        Err(_) if cursor.take_rest() == bytes => None,
+        Err(_) => Some(bytes.len() + 1),
+    }
 }
 
 #[test]
-fn an_object_is_written_behind_what_is_there(rt: HostRuntime) {
-    let mut out = Vec::from_slice(rt.alloc(), b"old").expect(&rt, "bytes");
-    assert!(rt;
-        value(rt.alloc(), b"ab")
-            .expect(&rt, "a value")
-            .put(&mut out)
-            .is_ok()
-    );
-    assert!(rt; out.as_slice() == b"old\x01\x00\x00\x00\x00\x00\x00\x00\x02ab".as_slice());
+fn an_object_is_taken_off_the_front(rt: HostRuntime) {
+    let alloc = rt.alloc();
+    let mut both = Vec::from_slice(alloc, VALUE).expect(&rt, "bytes");
+    both.extend_from_slice(MERGE).expect(&rt, "bytes");
+    assert!(rt; left_behind(alloc, &both) == Some(126));
+    assert!(rt; left_behind(alloc, &both[11..]) == Some(0));
+    assert!(rt; left_behind(alloc, &both[12..]) == None);
 }
 
 #[test]
@@ -171,12 +176,16 @@ fn objects_are_read(rt: HostRuntime) {
 
 #[test]
 fn other_bytes_are_no_object(rt: HostRuntime) {
-    let alloc = rt.alloc();
-    assert!(rt; is_none(alloc, b""));
-    assert!(rt; is_none(alloc, b"\x01\x00\x00\x00\x00\x00\x00\x00\x02a"));
-    assert!(rt; is_none(alloc, b"\x01\x00\x00\x00\x00\x00\x00\x00\x02abc"));
-    assert!(rt; is_none(alloc, b"\x03\x00\x00\x00\x00\x00\x00\x00\x02ab"));
-    assert!(rt; is_none(alloc, &MERGE[..125]));
-    assert!(rt; is_none(alloc, ROOT_WITH_PARENT));
-    assert!(rt; is_none(alloc, MERGE_OF_ONE));
+    for bytes in [
+        b"".as_slice(),
+        b"\x01\x00\x00\x00\x00\x00\x00\x00\x02a",
+        b"\x01\x00\x00\x00\x00\x00\x00\x00\x02abc",
+        b"\x03\x00\x00\x00\x00\x00\x00\x00\x02ab",
+        &MERGE[..125],
+        ROOT_WITH_PARENT,
+        MERGE_OF_ONE,
+        OTHER_ACTION,
+    ] {
+        assert!(rt; is_none(rt.alloc(), bytes));
+    }
 }

@@ -2,11 +2,11 @@
 ghost use Rattle.std.specs.Prelude.{◌≡◌, ◌++◌, ◌∷◌, IfOk, OnOk, OnErr};
 ghost use Rattle.mrdt_model.specs.Spelled.{AppendsPart};
 ghost use Rattle.branch_wire.specs.Fields.{field, counted};
-ghost use Rattle.branch_wire.specs.Objects.{commit_body, deed_field};
-ghost use Rattle.branch_objects_codec.specs.Grammar.{deed_of, fields_of};
+ghost use Rattle.branch_wire.specs.Objects.{commit_body, action_field};
+ghost use Rattle.branch_objects_codec.specs.Grammar.{fields_of};
 
-use crate::object::Action;
-use branch_wire::{put_bytes, put_u32, put_u64};
+use crate::tags::{MERGE, OPERATION, ROOT};
+use branch_wire::{Action, put_bytes, put_u32, put_u64};
 use mrdt_model::{Listing, Memory};
 use std::alloc::Global;
 
@@ -32,16 +32,16 @@ fn put_addresses(addresses: &[[u8; 32]], out: &mut Vec<u8>) -> Result<(), Memory
 
 // Writes what a commit does.
 fn put_action(action: &Action, out: &mut Vec<u8>) -> Result<(), Memory>
-    ensures { OnOk result (out.new.items ≡ out.old.items ++ deed_field (deed_of action.now)) }
+    ensures { OnOk result (out.new.items ≡ out.old.items ++ action_field action.now) }
 {
     match action {
-        Action::Root => Ok(out.push(0)?),
+        Action::Root => Ok(out.push(ROOT)?),
         Action::Operation { op, reply } => {
-            out.push(1)?;
+            out.push(OPERATION)?;
             put_bytes(op.as_slice(), out)?;
             put_bytes(reply.as_slice(), out)
         }
-        Action::Merge => Ok(out.push(2)?),
+        Action::Merge => Ok(out.push(MERGE)?),
     }
 }
 

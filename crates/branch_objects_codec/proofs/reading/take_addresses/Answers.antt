@@ -8,7 +8,7 @@ use Rattle.branch_objects_codec.proofs.reading.take_addresses.Goals as goal
 
 pub loop-index-preserved : goal.loop-index-preserved
 loop-index-preserved c =
-    taken-more c.take_u64.new.self c.loop-index.cursor c.take_address.new.cursor c.loop-index._index c.loop-index.addresses.items c.push.new.addresses.items c.in_ok-address.address c.loop-index.invariant c.in_ok-address.ensures.size c.in_ok-address.ensures.ok c.in_ok-push.ensures
+    taken-more c.take_u64.new.self c.loop-index.cursor c.take_address.new.cursor c.loop-index._index c.loop-index.addresses.items c.push_address.new.list.items c.in_ok-address.address c.loop-index.invariant c.in_ok-address.ensures.size c.in_ok-address.ensures.ok c.in_ok-push_address.ensures.ok
 
 pub returns-in_err-address-clause-outside : goal.returns-in_err-address-clause-outside
 returns-in_err-address-clause-outside c error all rest fit is =
