@@ -4,7 +4,7 @@ use Rattle.branch_disk.specs.declared.part.Part.{Part}
 use Rattle.branch_disk.specs.declared.part.Part.TheVariants.{Objects, Heads}
 use Rattle.branch_disk.specs.Disk.{Files, bytes_of, OnPart, Torn, After}
 use Rattle.branch_disk.specs.Image.{Patch, Held, IsImage, IsImageOf, IsSound, written, half_written, synced}
-use Rattle.branch_disk.specs.ImageLaws.{image_before, torn_image, sound-synced, sure_alone}
+use Rattle.branch_disk.proofs.ImageLaws.{image_before, torn_image, sound-synced, sure_alone}
 use Rattle.branch_disk.specs.History.{on_part}
 use Rattle.branch_disk.specs.Fill.{kept_of}
 

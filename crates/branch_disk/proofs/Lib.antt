@@ -1,4 +1,7 @@
 pub mod Bridge
+pub mod FillLaws
+pub mod ImageLaws
+pub mod Lines
 pub mod Noted
 pub mod Settled
-pub mod Shadow
+pub mod Replayed

@@ -17,9 +17,13 @@ abbrev pub OnPart : Part → (List ℕ → List ℕ → Type 0) → Files → Fi
 OnPart Objects step old new = step old.objects new.objects × (new.heads ≡ old.heads)
 OnPart Heads step old new = step old.heads new.heads × (new.objects ≡ old.objects)
 
+-- old with these bytes at this place
+abbrev pub put : ℕ → List ℕ → List ℕ → List ℕ
+put at bytes old = take at old ++ bytes ++ drop (at + length bytes) old
+
 -- new is old with these bytes at this place
 abbrev pub Holds : ℕ → List ℕ → List ℕ → List ℕ → Type 0
-Holds at bytes old new = new ≡ take at old ++ bytes ++ drop (at + length bytes) old
+Holds at bytes old new = new ≡ put at bytes old
 
 -- after a write of n bytes that a crash cuts short: any bytes in the range and past the old end, the same elsewhere
 pub record Torn (at n : ℕ) (old new : List ℕ) : Type 0 where

@@ -1,5 +1,7 @@
 -- The calls that a disk in memory has done, and what it holds after them.
-use Rattle.std.specs.Prelude.{◌≡◌, ◌⊎◌, ℕ, ◌+◌, ◌-◌, ◌^◌, ◌≤◌, min, Bool, true, false, List, [], ◌∷◌, ◌++◌, length, take, Result, Ok, Err}
+use Rattle.std.specs.Prelude.{◌≡◌, ◌⊎◌, ℕ, ◌+◌, ◌≤◌, Bool, true, false, List, [], ◌∷◌, ◌++◌, length, take, Result, Ok, Err}
+use Rattle.branch_io.specs.declared.faults.Faults.{Faults}
+use Rattle.branch_io.specs.Counts.{capped, IsNextListed}
 use Rattle.branch_disk.specs.declared.part.Part.{Part}
 use Rattle.branch_disk.specs.declared.part.Part.TheVariants.{Objects, Heads}
 use Rattle.branch_disk.specs.declared.call.What.{What}
@@ -36,16 +38,13 @@ replay held (call ∷ calls) = replay (after_what call.what call.failed held) ca
 abbrev pub WasLeft : Held → List Call → ℕ → Files → Type 0
 WasLeft first calls t c = (k : ℕ) × (t ≤ k) × (k ≤ length calls) × IsImageOf (replay first (take k calls)) c
 
--- a count of faults, which stops at its last value
-abbrev pub capped : ℕ → ℕ
-capped n = min n (2 ^ 64 - 1)
-
--- A call is noted, and it goes through or fails; or there is no room for it, which is counted, and it fails.
-abbrev pub IsNoted : What → Result (Unit {0}) DiskFailed → List Call → List Call → ℕ → ℕ → Type 0
-IsNoted what result old new refused refused' =
-    (result ≡ Ok tt × (new ≡ old ++ (record { what = what; failed = false }) ∷ []) × (refused' ≡ refused))
-    ⊎ (result ≡ Err (record {}) × (new ≡ old ++ (record { what = what; failed = true }) ∷ []) × (refused' ≡ refused))
-    ⊎ (result ≡ Err (record {}) × (new ≡ old) × (refused' ≡ capped (refused + 1)))
+-- A call is noted, and goes through, or fails because it is listed; or there is no room to note it, which is counted,
+-- and it fails.
+abbrev pub IsNoted : What → Result (Unit {0}) DiskFailed → List Call → List Call → Faults → Faults → Type 0
+IsNoted what result old new faults faults' =
+    (result ≡ Ok tt × (new ≡ old ++ (record { what = what; failed = false }) ∷ []) × (faults'.refused ≡ faults.refused))
+    ⊎ (result ≡ Err (record {}) × (new ≡ old ++ (record { what = what; failed = true }) ∷ []) × IsNextListed faults × (faults'.refused ≡ faults.refused))
+    ⊎ (result ≡ Err (record {}) × (new ≡ old) × (faults'.refused ≡ capped (faults.refused + 1)))
 
 -- these files are what reads give of what is held, and one of its images
 pub record IsKeptAs (held : Held) (files : Files) : Type 0 where
@@ -54,7 +53,7 @@ pub record IsKeptAs (held : Held) (files : Files) : Type 0 where
   pub sound_objects : IsSound held.objects
   pub sound_heads : IsSound held.heads
 
--- the files with other bytes in one part
-abbrev pub with_part : Part → List ℕ → Files → Files
-with_part Objects bytes files = record { objects = bytes; heads = files.heads }
-with_part Heads bytes files = record { objects = files.objects; heads = bytes }
+-- of two things, one for each part, that for this one
+abbrev pub chosen : {A : Type 0} → Part → A → A → A
+chosen Objects objects heads = objects
+chosen Heads objects heads = heads

@@ -1,10 +1,9 @@
 pub mod Disk
+pub mod Edge
 pub mod Fill
-pub mod FillLaws
 pub mod History
 pub mod HistoryLaws
 pub mod Image
-pub mod ImageLaws
 pub mod Memory
 pub mod MemoryLaws
 pub mod Moments

@@ -1,7 +1,7 @@
 // A disk of two parts: what a read gives, and what a crash may leave.
-ghost use Rattle.std.specs.Prelude.{◌≡◌, ◌+◌, ◌-◌, ◌^◌, ◌≤◌, Option, Some, ℕ, length, take, drop, IfOk, OnOk, OnErr};
+ghost use Rattle.std.specs.Prelude.{◌≡◌, ◌+◌, ◌-◌, ◌^◌, ◌≤◌, Option, Some, ℕ, length, take, drop, IfOk, OnOk};
 ghost use Rattle.std.specs.Option.{ForSome};
-ghost use Rattle.branch_io.specs.Causes.{Rose};
+ghost use Rattle.branch_io.specs.Causes.{HasCause};
 ghost use Rattle.branch_disk.specs.Disk.{Files, bytes_of, OnPart, Holds, Torn, After, Tells, IsSure, LeavesOnly};
 
 use crate::Part;
@@ -16,7 +16,8 @@ pub struct DiskFailed;
 ///
 /// A crash may leave any of the disk's images: with what was sure at the last sync of each part, and any bytes
 /// in the ranges that were written since. A disk may tell what it holds; of one that tells nothing, no image
-/// is told either. Each call fails only where the count of faults rose in it, or stands at its last value.
+/// is told either. Each call fails only where the count of faults rose in it, or stands at its last value, and
+/// that count stays where a call goes through.
 pub trait Disk {
     // The bytes that reads give, where the disk tells them.
     ghost contents: { Self → Option Files };
@@ -38,8 +39,7 @@ pub trait Disk {
         ensures told { IfOk result (λ n. ForSome (contents self.old) (λ f. n ≡ length (bytes_of part f))) }
         ensures same { contents self.new ≡ contents self.old }
         ensures moments { LeavesOnly moment left_since self.old self.new (may_leave self.old) }
-        ensures count { faults self.old ≤ faults self.new }
-        ensures cause { OnErr result (Rose (faults self.old) (faults self.new)) };
+        ensures cause { HasCause (faults self.old) (faults self.new) result };
 
     /// Fills the buffer with the bytes of a part from a place on.
     fn read(&mut self, part: Part, at: u64, buf: &mut [u8]) -> Result<(), DiskFailed>
@@ -47,8 +47,7 @@ pub trait Disk {
         ensures told { OnOk result (ForSome (contents self.old) (λ f. buf.new ≡ take (length buf.old) (drop at (bytes_of part f)))) }
         ensures same { contents self.new ≡ contents self.old }
         ensures moments { LeavesOnly moment left_since self.old self.new (may_leave self.old) }
-        ensures count { faults self.old ≤ faults self.new }
-        ensures cause { OnErr result (Rose (faults self.old) (faults self.new)) };
+        ensures cause { HasCause (faults self.old) (faults self.new) result };
 
     /// Writes over what is there, and past the end. Until a sync of that part, a crash may leave any bytes in the
     /// range. After a failed write, reads too may give any bytes there.
@@ -58,16 +57,14 @@ pub trait Disk {
         ensures written { OnOk result (Tells (OnPart part (Holds at bytes.now)) (contents self.old) (contents self.new)) }
         ensures torn { Tells (OnPart part (Torn at (length bytes.now))) (contents self.old) (contents self.new) }
         ensures moments { LeavesOnly moment left_since self.old self.new (After (OnPart part (Torn at (length bytes.now))) (may_leave self.old)) }
-        ensures count { faults self.old ≤ faults self.new }
-        ensures cause { OnErr result (Rose (faults self.old) (faults self.new)) };
+        ensures cause { HasCause (faults self.old) (faults self.new) result };
 
     /// After it, a crash leaves of that part what a read gives.
     fn sync(&mut self, part: Part) -> Result<(), DiskFailed>
         ensures durable { OnOk result (IsSure part (contents self.old) (may_leave self.new)) }
         ensures same { contents self.new ≡ contents self.old }
         ensures moments { LeavesOnly moment left_since self.old self.new (may_leave self.old) }
-        ensures count { faults self.old ≤ faults self.new }
-        ensures cause { OnErr result (Rose (faults self.old) (faults self.new)) };
+        ensures cause { HasCause (faults self.old) (faults self.new) result };
 
     // This moment is one of those since an earlier one.
     ghost counts_now: { (disk : Self) (t : ℕ) (c : Files) → t ≤ moment disk → may_leave disk c → left_since disk t c };

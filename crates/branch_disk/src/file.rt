@@ -1,6 +1,8 @@
 // A disk over two files: the edge where nothing is known but the count of faults.
-ghost use Rattle.std.specs.Prelude.{◌≡◌, ◌-◌, ◌+◌, ◌^◌, ◌≤◌, None, OnErr, min};
-ghost use Rattle.branch_io.specs.Causes.{Rose};
+ghost use Rattle.std.specs.Prelude.{◌≡◌, ◌-◌, ◌+◌, None, Some, Ok, Err, IsErr, IsSome, IfSome, IfOk, OnOk, length};
+ghost use Rattle.std.specs.Io.KnownBytes.{Consumes, Appends};
+ghost use Rattle.branch_io.specs.Causes.{HasCause};
+ghost use Rattle.branch_disk.specs.Edge.{FromPlace, OnFile};
 
 use crate::{Disk, DiskFailed, Part};
 use std::fs::{OpenFile, OpenOptions};
@@ -27,37 +29,63 @@ struct Opened<F> {
     heads: F,
 }
 
-// What is done to an open file.
-#[derive(Drop)]
-enum Job<'a> {
-    Length,
-    Read(u64, &'a mut [u8]),
-    Write(u64, &'a [u8]),
-    Sync,
+// How long a file is.
+fn length_of<F: Seek>(file: &mut F) -> io::Result<u64>
+    ensures { IfSome (F.stream_position file.old) (λ _. IfSome (F.stream_bytes file.old) (λ xs. IfOk result (λ n. n ≡ length xs))) }
+{
+    file.seek(SeekFrom::End(0))
 }
 
-// Does it, and says how long the file is where that was asked.
-fn done_to<F: Read + Write + Seek + OpenFile>(file: &mut F, job: Job<'_>) -> io::Result<u64> {
-    match job {
-        Job::Length => return file.seek(SeekFrom::End(0)),
-        Job::Read(at, buf) => {
-            file.seek(SeekFrom::Start(at))?;
-            file.read_exact(buf)?;
-        }
-        Job::Write(at, bytes) => {
-            file.seek(SeekFrom::Start(at))?;
-            file.write_all(bytes)?;
-        }
-        Job::Sync => file.sync_all()?,
-    }
-    Ok(0)
+// Fills the buffer from a place on.
+fn read_at<F: Seek + Read>(file: &mut F, at: u64, buf: &mut [u8]) -> io::Result<()>
+    ensures { OnOk result (FromPlace F.stream_position at (λ old new. Consumes (F.remaining old) (F.remaining new) buf.new) file.old file.new) }
+{
+    file.seek(SeekFrom::Start(at))?;
+    file.read_exact(buf)
+}
+
+// Writes all these bytes from a place on.
+fn put_at<F: Seek + Write>(file: &mut F, at: u64, bytes: &[u8]) -> io::Result<()>
+    ensures { OnOk result (FromPlace F.stream_position at (λ old new. Appends (F.contents old) (F.contents new) bytes.now) file.old file.new) }
+{
+    file.seek(SeekFrom::Start(at))?;
+    file.write_all(bytes)
 }
 
 impl<F: Read + Write + Seek + OpenFile> Opened<F> {
-    fn done(&mut self, part: Part, job: Job<'_>) -> io::Result<u64> {
+    fn length(&mut self, part: Part) -> io::Result<u64>
+        ensures { OnFile part (λ old new. IfSome (F.stream_position old) (λ _. IfSome (F.stream_bytes old) (λ xs. IfOk result (λ n. n ≡ length xs)))) self.old self.new }
+    {
         match part {
-            Part::Objects => done_to(&mut self.objects, job),
-            Part::Heads => done_to(&mut self.heads, job),
+            Part::Objects => length_of(&mut self.objects),
+            Part::Heads => length_of(&mut self.heads),
+        }
+    }
+
+    fn read(&mut self, part: Part, at: u64, buf: &mut [u8]) -> io::Result<()>
+        ensures { OnFile part (λ old new. OnOk result (FromPlace F.stream_position at (λ mid end. Consumes (F.remaining mid) (F.remaining end) buf.new) old new)) self.old self.new }
+    {
+        match part {
+            Part::Objects => read_at(&mut self.objects, at, buf),
+            Part::Heads => read_at(&mut self.heads, at, buf),
+        }
+    }
+
+    fn write(&mut self, part: Part, at: u64, bytes: &[u8]) -> io::Result<()>
+        ensures { OnFile part (λ old new. OnOk result (FromPlace F.stream_position at (λ mid end. Appends (F.contents mid) (F.contents end) bytes.now) old new)) self.old self.new }
+    {
+        match part {
+            Part::Objects => put_at(&mut self.objects, at, bytes),
+            Part::Heads => put_at(&mut self.heads, at, bytes),
+        }
+    }
+
+    fn sync(&mut self, part: Part) -> io::Result<()>
+        ensures { self.new ≡ self.old }
+    {
+        match part {
+            Part::Objects => self.objects.sync_all(),
+            Part::Heads => self.heads.sync_all(),
         }
     }
 }
@@ -73,25 +101,23 @@ fn open<R: Files>(rt: &R, path: &String, ending: &str) -> io::Result<R::File> {
     how.open(rt, name)
 }
 
-fn done_over<R: Files>(
-    rt: &R,
-    path: &String,
-    files: &mut Option<Opened<R::File>>,
-    part: Part,
-    job: Job<'_>,
-) -> io::Result<u64> {
-    match files {
-        Some(opened) => opened.done(part, job),
-        None => {
-            let mut opened = Opened {
-                objects: open(rt, path, ".objects")?,
-                heads: open(rt, path, ".heads")?,
-            };
-            let answer = opened.done(part, job);
-            *files = Some(opened);
-            answer
-        }
+// Opens both files.
+fn open_both<R: Files>(rt: &R, path: &String) -> io::Result<Opened<R::File>> {
+    Ok(Opened {
+        objects: open(rt, path, ".objects")?,
+        heads: open(rt, path, ".heads")?,
+    })
+}
+
+// Opens both files where they are not open yet.
+fn ready<R: Files>(rt: &R, path: &String, files: &mut Option<Opened<R::File>>) -> io::Result<()>
+    ensures open { OnOk result (IsSome files.new) }
+    ensures same { IsSome files.old → files.new ≡ files.old }
+{
+    if files.is_none() {
+        *files = Some(open_both(rt, path)?);
     }
+    Ok(())
 }
 
 impl<R: Files + Drop> FileDisk<R> {
@@ -106,18 +132,19 @@ impl<R: Files + Drop> FileDisk<R> {
             faults: 0,
         }
     }
+}
 
-    // Does it to a part, and counts an error.
-    fn call(&mut self, part: Part, job: Job<'_>) -> Result<u64, DiskFailed>
-        ensures count { self.old.faults ≤ self.new.faults }
-        ensures cause { OnErr result (Rose self.old.faults self.new.faults) }
-    {
-        match done_over(&self.rt, &self.path, &mut self.files, part, job) {
-            Ok(count) => Ok(count),
-            Err(_) => {
-                self.faults = self.faults.saturating_add(1);
-                Err(DiskFailed)
-            }
+// Counts an error.
+fn counted<T: Drop>(faults: &mut u64, done: io::Result<T>) -> Result<T, DiskFailed>
+    ensures cause { HasCause faults.old faults.new result }
+    ensures value { IfOk done (λ value. result ≡ Ok value) }
+    ensures failed { IsErr done → IsErr result }
+{
+    match done {
+        Ok(value) => Ok(value),
+        Err(_) => {
+            *faults = faults.saturating_add(1);
+            Err(DiskFailed)
         }
     }
 }
@@ -142,21 +169,46 @@ impl<R: Files + Drop> Disk for FileDisk<R> {
     ghost told = { λ d c now. absurd now };
 
     fn length(&mut self, part: Part) -> Result<u64, DiskFailed> {
-        self.call(part, Job::Length)
+        counted(
+            &mut self.faults,
+            ready(&self.rt, &self.path, &mut self.files),
+        )?;
+        match &mut self.files {
+            Some(files) => counted(&mut self.faults, files.length(part)),
+            None => unreachable!(),
+        }
     }
 
     fn read(&mut self, part: Part, at: u64, buf: &mut [u8]) -> Result<(), DiskFailed> {
-        self.call(part, Job::Read(at, buf))?;
-        Ok(())
+        counted(
+            &mut self.faults,
+            ready(&self.rt, &self.path, &mut self.files),
+        )?;
+        match &mut self.files {
+            Some(files) => counted(&mut self.faults, files.read(part, at, buf)),
+            None => unreachable!(),
+        }
     }
 
     fn write_at(&mut self, part: Part, at: u64, bytes: &[u8]) -> Result<(), DiskFailed> {
-        self.call(part, Job::Write(at, bytes))?;
-        Ok(())
+        counted(
+            &mut self.faults,
+            ready(&self.rt, &self.path, &mut self.files),
+        )?;
+        match &mut self.files {
+            Some(files) => counted(&mut self.faults, files.write(part, at, bytes)),
+            None => unreachable!(),
+        }
     }
 
     fn sync(&mut self, part: Part) -> Result<(), DiskFailed> {
-        self.call(part, Job::Sync)?;
-        Ok(())
+        counted(
+            &mut self.faults,
+            ready(&self.rt, &self.path, &mut self.files),
+        )?;
+        match &mut self.files {
+            Some(files) => counted(&mut self.faults, files.sync(part)),
+            None => unreachable!(),
+        }
     }
 }

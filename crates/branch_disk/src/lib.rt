@@ -10,9 +10,13 @@ mod call;
 mod disk;
 mod file;
 mod fill;
+mod image;
 pub mod laws;
 mod memory;
 mod part;
+mod patch;
+#[cfg(test)]
+mod shaky;
 #[cfg(test)]
 mod tests;
 mod whole;

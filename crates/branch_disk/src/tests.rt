@@ -1,8 +1,11 @@
 // What crashes leave of a disk in memory, calls that fail, and a disk over two files.
+use crate::shaky::Shaky;
 use crate::{Disk, DiskFailed, FileDisk, Fill, MemoryDisk, Part, ReadRefused, read_whole, settle};
 use mrdt_model::Memory;
 use std::alloc::Global;
+use std::cell::Cell;
 use std::fs;
+use std::rt::Files;
 use std::test::Fail;
 
 // The heads of a disk that a crash left.
@@ -77,11 +80,26 @@ fn a_settled_disk_leaves_what_it_reads(rt: HostRuntime) -> Result<(), Fail> {
     let mut full = MemoryDisk::new(vec![in rt.alloc(); 2]?);
     let refused = read_whole(rt.alloc(), &mut full, Part::Objects);
     assert!(rt; matches!(refused, Err(ReadRefused::DiskFault)));
+    crosses_threads(&full);
     Ok(())
 }
 
+#[test]
+fn the_objects_are_settled_first(rt: HostRuntime) -> Result<(), Fail> {
+    let mut disk = MemoryDisk::new(vec![in rt.alloc(); 4]?);
+    assert_eq!(rt; disk.write_at(Part::Objects, 0, b"ob"), Ok(()));
+    assert_eq!(rt; disk.write_at(Part::Heads, 0, b"he"), Ok(()));
+    assert_eq!(rt; settle(&mut disk), Err(DiskFailed));
+    let mut left = disk.image(4, Fill::Old).map_err(|_| ReadRefused::Memory)?;
+    assert!(rt; read_whole(rt.alloc(), &mut left, Part::Objects)?.as_slice() == b"ob".as_slice());
+    assert_eq!(rt; left.length(Part::Heads), Ok(0));
+    Ok(())
+}
+
+fn crosses_threads<T: Send + Sync>(_value: &T) {}
+
 // Writes to both parts of a disk that tells nothing, and syncs them.
-fn store(disk: &mut FileDisk<&HostRuntime>) -> Result<(), DiskFailed> {
+fn store<R: Files + Drop>(disk: &mut FileDisk<R>) -> Result<(), DiskFailed> {
     disk.write_at(Part::Objects, 0, b"objects")?;
     disk.write_at(Part::Heads, 0, b"heads")?;
     disk.write_at(Part::Heads, 4, b"ing")?;
@@ -97,19 +115,34 @@ fn files_hold_what_was_written(rt: HostRuntime) -> Result<(), Fail> {
     let mut disk = FileDisk::new(&rt, path.clone()?);
     assert_eq!(rt; disk.length(Part::Heads), Ok(0));
     assert_eq!(rt; store(&mut disk), Ok(()));
+    let files = [
+        ("branch_disk_files/store.objects", b"objects".as_slice()),
+        ("branch_disk_files/store.heads", b"heading".as_slice()),
+    ];
+    for (name, bytes) in &files {
+        assert!(rt; fs::read(&rt, *name)?.as_slice() == *bytes, "{}", name);
+    }
+    crosses_threads(&disk);
     drop(disk);
-    assert!(rt;
-        fs::read(&rt, "branch_disk_files/store.objects")?.as_slice() == b"objects".as_slice()
-    );
     let mut again = FileDisk::new(&rt, path);
     assert_eq!(rt; again.length(Part::Heads), Ok(7));
-    assert!(rt;
-        read_whole(rt.alloc(), &mut again, Part::Heads)?.as_slice() == b"heading".as_slice()
-    );
-    let mut beyond = [0; 3];
-    assert_eq!(rt; again.read(Part::Heads, 5, &mut beyond), Err(DiskFailed));
+    let mut middle = [0; 4];
+    assert_eq!(rt; again.read(Part::Heads, 2, &mut middle), Ok(()));
+    assert_eq!(rt; middle, *b"adin");
+    assert_eq!(rt; again.read(Part::Heads, 5, &mut middle), Err(DiskFailed));
     let mut nowhere = FileDisk::new(&rt, "branch_disk_files/none/store".to_string(rt.alloc())?);
     assert_eq!(rt; nowhere.sync(Part::Objects), Err(DiskFailed));
     fs::remove_dir_all(&rt, folder)?;
+    Ok(())
+}
+
+#[test]
+fn a_sync_is_asked_for_once(rt: HostRuntime) -> Result<(), Fail> {
+    let syncs = Cell::new(0);
+    let mut disk = FileDisk::new(Shaky { syncs: &syncs }, "store".to_string(rt.alloc())?);
+    assert_eq!(rt; disk.sync(Part::Heads), Err(DiskFailed));
+    assert_eq!(rt; syncs.get(), 1);
+    assert_eq!(rt; disk.sync(Part::Heads), Ok(()));
+    assert_eq!(rt; syncs.get(), 2);
     Ok(())
 }

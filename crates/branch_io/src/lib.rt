@@ -5,13 +5,15 @@
 //! of faults of that source or sink rose in the call, or stands at its last value, 2^64 - 1.
 #![tactic(auto)]
 
-pub mod memory;
-pub mod sink;
-pub mod source;
-pub mod standard;
+mod faults;
+mod memory;
+mod sink;
+mod source;
+mod standard;
 #[cfg(test)]
 mod tests;
 
+pub use faults::Faults;
 pub use memory::{MemorySink, MemorySource};
 pub use sink::{Sink, SinkFailed};
 pub use source::{Source, SourceFailed};

@@ -1,31 +1,8 @@
 // A source and a sink over memory. The calls that fail are listed by their numbers, from 1.
-ghost use Rattle.std.specs.Prelude.{◌≡◌, ◌+◌, ◌<◌, ◌≤◌, [], Some, MatchBool, drop, vec_len};
-ghost use Rattle.branch_io.specs.Counts.{failed_calls};
+ghost use Rattle.std.specs.Prelude.{◌≡◌, ◌<◌, ◌≤◌, [], Some, vec_len};
+ghost use Rattle.branch_io.specs.Counts.{failed_calls, IsNew};
 
-use crate::{Sink, SinkFailed, Source, SourceFailed};
-
-// The numbers of the calls that fail, and how many calls were made.
-#[derive(Drop)]
-struct Calls {
-    failing: Vec<u64>,
-    made: u64,
-}
-
-impl Calls {
-    // Counts a call, and says whether it is one that fails. Past the last number none does.
-    #[tactic(auto, using(crate::proofs::Calls::failed_calls_listed, crate::proofs::Calls::failed_calls_other))]
-    fn fails(&mut self) -> bool
-        ensures counted { MatchBool result
-            (failed_calls self.old.failing.items self.old.made + 1 ≤ failed_calls self.new.failing.items self.new.made)
-            (failed_calls self.new.failing.items self.new.made ≡ failed_calls self.old.failing.items self.old.made) }
-    {
-        if self.made == u64::MAX {
-            return false;
-        }
-        self.made += 1;
-        self.failing.contains(&self.made)
-    }
-}
+use crate::{Faults, Sink, SinkFailed, Source, SourceFailed};
 
 /// A source of bytes in memory, of which listed calls fail.
 #[derive(Drop)]
@@ -33,36 +10,57 @@ pub struct MemorySource {
     bytes: Vec<u8>,
     at: usize,
     piece: usize,
-    calls: Calls,
+    faults: Faults,
     ghost within: { at ≤ vec_len bytes },
     ghost gives: { 0 < piece },
 }
 
 impl MemorySource {
+    ghost use Rattle.branch_io.specs.Memory.{piece_of, source_faults};
+
     /// A source of these bytes, of which one call gives `piece` at most. `failing` has the numbers, from 1, of
     /// the calls that fail.
     pub fn new(bytes: Vec<u8>, piece: usize, failing: Vec<u64>) -> MemorySource
         requires { 0 < piece }
         ensures left { ⟦<MemorySource as Source>⟧.left result ≡ Some bytes.items }
+        ensures piece { piece_of result ≡ piece }
+        ensures calls { IsNew failing.items (source_faults result) }
         ensures faults { ⟦<MemorySource as Source>⟧.faults result ≡ failed_calls failing.items 0 }
     {
         MemorySource {
             bytes,
             at: 0,
             piece,
-            calls: Calls { failing, made: 0 },
+            faults: Faults::new(failing),
         }
     }
 }
 
 impl Source for MemorySource {
-    ghost left = { λ s. Some (drop s.at s.bytes.items) };
+    ghost use Rattle.std.specs.Prelude.{◌≡◌, ◌<◌, Some, min, length, drop, IfOk, OnErr};
+    ghost use Rattle.std.specs.Io.{ReadsAtMost};
+    ghost use Rattle.std.specs.Io.KnownBytes.{ReadConsumes};
+    ghost use Rattle.branch_io.specs.Causes.{HasCause};
+    ghost use Rattle.branch_io.specs.Counts.{fault_count, FailsAsListed};
+    ghost use Rattle.branch_io.specs.Memory.{rest_of, piece_of, source_faults};
 
-    ghost faults = { λ s. failed_calls s.calls.failing.items s.calls.made };
+    ghost left = { λ s. Some (rest_of s) };
+
+    ghost faults = { λ s. fault_count (source_faults s) };
 
     #[tactic(auto, using(crate::proofs::Calls::next_bytes))]
-    fn take(&mut self, buf: &mut [u8]) -> Result<usize, SourceFailed> {
-        if self.calls.fails() {
+    fn take(&mut self, buf: &mut [u8]) -> Result<usize, SourceFailed>
+        requires { 0 < length buf.old }
+        ensures bound { ReadsAtMost result buf.new }
+        ensures bytes { ReadConsumes (Some (rest_of self.old)) (Some (rest_of self.new)) result buf.new }
+        ensures cause { HasCause (fault_count (source_faults self.old)) (fault_count (source_faults self.new)) result }
+        ensures calls { FailsAsListed (source_faults self.old) (source_faults self.new) result }
+        ensures count { IfOk result (λ n. n ≡ min (min (length (rest_of self.old)) (piece_of self.old)) (length buf.old)) }
+        ensures behind { IfOk result (λ n. drop n buf.new ≡ drop n buf.old) }
+        ensures untouched { OnErr result (buf.new ≡ buf.old) }
+        ensures piece { piece_of self.new ≡ piece_of self.old }
+    {
+        if self.faults.fails() {
             return Err(SourceFailed);
         }
         let rest = self.bytes.len() - self.at;
@@ -78,20 +76,21 @@ impl Source for MemorySource {
 #[derive(Drop)]
 pub struct MemorySink {
     bytes: Vec<u8>,
-    calls: Calls,
-    refused: u64,
+    faults: Faults,
 }
 
 impl MemorySink {
+    ghost use Rattle.branch_io.specs.Memory.{sink_faults};
+
     /// A sink that holds nothing. `failing` has the numbers, from 1, of the calls that fail.
     pub fn new(failing: Vec<u64>) -> MemorySink
         ensures given { ⟦<MemorySink as Sink>⟧.given result ≡ Some [] }
+        ensures calls { IsNew failing.items (sink_faults result) }
         ensures faults { ⟦<MemorySink as Sink>⟧.faults result ≡ failed_calls failing.items 0 }
     {
         MemorySink {
             bytes: Vec::new(*failing.allocator()),
-            calls: Calls { failing, made: 0 },
-            refused: 0,
+            faults: Faults::new(failing),
         }
     }
 
@@ -104,25 +103,43 @@ impl MemorySink {
 }
 
 impl Sink for MemorySink {
-    ghost given = { λ s. Some s.bytes.items };
+    ghost use Rattle.std.specs.Prelude.{◌≡◌, ◌<◌, Some, length, IfOk, OnErr};
+    ghost use Rattle.std.specs.Io.{WritesAtMost};
+    ghost use Rattle.std.specs.Io.KnownBytes.{WriteAppends, Keeps};
+    ghost use Rattle.branch_io.specs.Causes.{HasCause};
+    ghost use Rattle.branch_io.specs.Counts.{fault_count, FailsAsListed, FailsWithoutRoom};
+    ghost use Rattle.branch_io.specs.Memory.{bytes_of, sink_faults};
 
-    ghost faults = { λ s. failed_calls s.calls.failing.items s.calls.made + s.refused };
+    ghost given = { λ s. Some (bytes_of s) };
 
-    fn give(&mut self, bytes: &[u8]) -> Result<usize, SinkFailed> {
-        if self.calls.fails() {
+    ghost faults = { λ s. fault_count (sink_faults s) };
+
+    fn give(&mut self, bytes: &[u8]) -> Result<usize, SinkFailed>
+        ensures bound { WritesAtMost result bytes.now }
+        ensures some { IfOk result (λ count. 0 < length bytes.now → 0 < count) }
+        ensures bytes { WriteAppends (Some (bytes_of self.old)) (Some (bytes_of self.new)) result bytes.now }
+        ensures cause { HasCause (fault_count (sink_faults self.old)) (fault_count (sink_faults self.new)) result }
+        ensures calls { FailsWithoutRoom (sink_faults self.old) (sink_faults self.new) result }
+        ensures count { IfOk result (λ n. n ≡ length bytes.now) }
+    {
+        if self.faults.fails() {
             return Err(SinkFailed);
         }
         match self.bytes.extend_from_slice(bytes) {
             Ok(()) => Ok(bytes.len()),
             Err(_) => {
-                self.refused = self.refused.saturating_add(1);
+                self.faults.refuse();
                 Err(SinkFailed)
             }
         }
     }
 
-    fn finish(&mut self) -> Result<(), SinkFailed> {
-        if self.calls.fails() {
+    fn finish(&mut self) -> Result<(), SinkFailed>
+        ensures bytes { Keeps (Some (bytes_of self.old)) (Some (bytes_of self.new)) }
+        ensures cause { HasCause (fault_count (sink_faults self.old)) (fault_count (sink_faults self.new)) result }
+        ensures calls { FailsAsListed (sink_faults self.old) (sink_faults self.new) result }
+    {
+        if self.faults.fails() {
             return Err(SinkFailed);
         }
         Ok(())

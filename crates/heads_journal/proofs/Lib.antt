@@ -2,9 +2,11 @@ pub mod Blocks
 pub mod Bytes
 pub mod Create
 pub mod Headings
+pub mod Limited
 pub mod Padding
 pub mod Put
 pub mod Readings
 pub mod Records
 pub mod Spelled
+pub mod Torn
 pub mod Whole

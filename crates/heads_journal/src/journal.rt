@@ -1,7 +1,7 @@
 // The journal: its device calls, and what a crash leaves at each of them.
 ghost use Rattle.std.specs.Prelude.{◌≡◌, ◌⊎◌, ◌↔◌, ◌+◌, ◌*◌, ◌-◌, ◌^◌, ◌≤◌, ◌<◌, ◌++◌, ◌∷◌, [], ℕ, List, length, Ok, Err, IfOk, OnOk, OnErr, true, false};
-ghost use Rattle.branch_io.specs.Causes.{Rose};
-ghost use Rattle.branch_disk.specs.Disk.{Files, After, LeavesOnly};
+ghost use Rattle.branch_io.specs.Causes.{HasCause, HasCauseOf};
+ghost use Rattle.branch_disk.specs.Disk.{Files, After, Holds, LeavesOnly, OnPart, Tells, Torn};
 ghost use Rattle.branch_names.specs.declared.limits.Limits.{Limits as SpecLimits};
 ghost use Rattle.heads_journal.specs.declared.record.Record.{Record as SpecRecord};
 ghost use Rattle.heads_journal.specs.Format.{record_fields, Fits};
@@ -9,18 +9,11 @@ ghost use Rattle.heads_journal.specs.Heads.{ShutAt, Rests, Spell, IsBeforeOrAfte
 ghost use Rattle.heads_journal.specs.Blocks.{Gains, Gained};
 
 use crate::Record;
+use crate::block::{OPEN, SHUT};
 use crate::header::header_block;
 use branch_disk::{Disk, DiskFailed, Part};
 use branch_names::Limits;
 use thiserror::Error;
-
-/// Why a journal was not made.
-#[derive(Clone, Copy, Debug, PartialEq, Eq, Error)]
-pub enum CreateRefused {
-    /// The disk failed.
-    #[error("the disk failed")]
-    DiskFault,
-}
 
 /// Why a record was not acknowledged.
 #[derive(Clone, Copy, Debug, PartialEq, Eq, Error)]
@@ -46,27 +39,14 @@ fn put_block<D: Disk>(disk: &mut D, place: u64, block: &[u8; 64]) -> Result<(), 
     requires end { place + 65 ≤ 2 ^ 63 - 1 }
     ensures any_moment { LeavesOnly D.moment D.left_since disk.old disk.new (After (Gains place block.now) (D.may_leave disk.old)) }
     ensures acknowledged { OnOk result ((c : Files) → D.may_leave disk.new c → After (Gained place block.now) (D.may_leave disk.old) c) }
-    ensures count { D.faults disk.old ≤ D.faults disk.new }
-    ensures cause { OnErr result (Rose (D.faults disk.old) (D.faults disk.new)) }
+    ensures written { OnOk result (Tells (OnPart Part.Heads (Holds place (1 ∷ block.now))) (D.contents disk.old) (D.contents disk.new)) }
+    ensures torn { Tells (OnPart Part.Heads (Torn place 65)) (D.contents disk.old) (D.contents disk.new) }
+    ensures cause { HasCause (D.faults disk.old) (D.faults disk.new) result }
 {
     disk.write_at(Part::Heads, place + 1, block)?;
     disk.sync(Part::Heads)?;
-    disk.write_at(Part::Heads, place, &[1])?;
+    disk.write_at(Part::Heads, place, &[OPEN])?;
     disk.sync(Part::Heads)
-}
-
-// Makes a closed gate in an empty file, and opens it before the header.
-fn put_header<D: Disk>(disk: &mut D, limits: Limits) -> Result<(), DiskFailed>
-    requires empty { (c : Files) → D.may_leave disk.old c → c.heads ≡ [] }
-    ensures any_moment { LeavesOnly D.moment D.left_since disk.old disk.new
-        (λ c. (IsNoStore c.heads ⊎ Rests (heads_text limits []) c.heads) × After SameObjects (D.may_leave disk.old) c) }
-    ensures created { OnOk result (Spell limits [] (D.may_leave disk.new)) }
-    ensures count { D.faults disk.old ≤ D.faults disk.new }
-    ensures cause { OnErr result (Rose (D.faults disk.old) (D.faults disk.new)) }
-{
-    disk.write_at(Part::Heads, 0, &[0])?;
-    disk.sync(Part::Heads)?;
-    put_block(disk, 0, &header_block(limits))
 }
 
 impl Journal {
@@ -83,27 +63,29 @@ impl Journal {
         }
     }
 
-    /// Writes the header of these limits to an empty heads file, in six device calls. It takes no memory. At every
-    /// moment a crash leaves no store there, or the header and no record; after `Ok`, the latter.
-    pub fn create<D: Disk>(disk: &mut D, limits: Limits) -> Result<Journal, CreateRefused>
-        requires empty { (c : Files) → D.may_leave disk.old c → c.heads ≡ [] }
-        ensures any_moment { LeavesOnly D.moment D.left_since disk.old disk.new
-            (λ c. (IsNoStore c.heads ⊎ Rests (heads_text limits []) c.heads) × After SameObjects (D.may_leave disk.old) c) }
+    /// Writes the header of these limits to the heads file, over what it has there, in six device calls: a closed
+    /// gate, a sync, the header behind it, a sync, the gate, a sync. It takes no memory. Where the file was empty, a
+    /// crash at any moment leaves no store there, or the header and no record; after `Ok`, the latter.
+    pub fn create<D: Disk>(disk: &mut D, limits: Limits) -> Result<Journal, DiskFailed>
+        ensures any_moment { ((c : Files) → D.may_leave disk.old c → c.heads ≡ [])
+            → LeavesOnly D.moment D.left_since disk.old disk.new (λ c. (IsNoStore c.heads ⊎ Rests (heads_text limits []) c.heads) × After SameObjects (D.may_leave disk.old) c) }
         ensures created { OnOk result (Spell limits [] (D.may_leave disk.new)) }
+        ensures written { OnOk result (Tells (OnPart Part.Heads (Holds 0 (heads_text limits [] ++ 0 ∷ []))) (D.contents disk.old) (D.contents disk.new)) }
+        ensures torn { Tells (OnPart Part.Heads (Torn 0 65)) (D.contents disk.old) (D.contents disk.new) }
         ensures working { IfOk result (λ journal. (has_failed journal ≡ false) × (count_of journal ≡ 0)) }
         ensures shut { IfOk result (λ journal. IsShut journal (D.may_leave disk.new)) }
         ensures long { length (heads_text limits []) ≡ 64 }
-        ensures count { D.faults disk.old ≤ D.faults disk.new }
-        ensures cause { OnErr result (Rose (D.faults disk.old) (D.faults disk.new)) }
+        ensures cause { HasCause (D.faults disk.old) (D.faults disk.new) result }
     {
-        match put_header(disk, limits) {
-            Ok(()) => Ok(Journal::of(0)),
-            Err(DiskFailed) => Err(CreateRefused::DiskFault),
-        }
+        disk.write_at(Part::Heads, 0, &[SHUT])?;
+        disk.sync(Part::Heads)?;
+        put_block(disk, 0, &header_block(limits))?;
+        Ok(Journal::of(0))
     }
 
     /// Adds a record, in four device calls: 64 bytes behind the last gate, a sync, the gate, a sync. It takes no
     /// memory. At every moment a crash leaves the records before, or those and the new one; after `Ok`, the latter.
+    /// A call of the disk that failed is not tried again.
     pub fn append<D: Disk>(&mut self, disk: &mut D, added: &Record) -> Result<(), AppendRefused>
         requires room { count_of self.old < 2 ^ 48 }
         requires shut { has_failed self.old ≡ false → IsShut self.old (D.may_leave disk.old) }
@@ -115,14 +97,15 @@ impl Journal {
         ensures long { OnOk result ((limits : SpecLimits) (records : List SpecRecord) → length (heads_text limits records) ≡ next_place self.old
             → length (heads_text limits (records ++ added.now ∷ [])) ≡ next_place self.new) }
         ensures shut { OnOk result (IsShut self.new (D.may_leave disk.new)) }
+        ensures written { OnOk result (Tells (OnPart Part.Heads (Holds (next_place self.old) (1 ∷ (record_fields added.now ++ 0 ∷ [])))) (D.contents disk.old) (D.contents disk.new)) }
+        ensures torn { has_failed self.old ≡ false → Tells (OnPart Part.Heads (Torn (next_place self.old) 65)) (D.contents disk.old) (D.contents disk.new) }
         ensures fits { has_failed self.old ≡ false → Fits added.now }
         ensures counted { OnOk result (count_of self.new ≡ count_of self.old + 1) }
         ensures kept { OnErr result (count_of self.new ≡ count_of self.old) }
         ensures failed { (result ≡ Err AppendRefused.Failed) ↔ (has_failed self.old ≡ true) }
         ensures unchanged { has_failed self.old ≡ true → disk.new ≡ disk.old }
         ensures fails { (has_failed self.new ≡ false) ↔ (result ≡ Ok tt) }
-        ensures count { D.faults disk.old ≤ D.faults disk.new }
-        ensures cause { result ≡ Err AppendRefused.DiskFault → Rose (D.faults disk.old) (D.faults disk.new) }
+        ensures cause { HasCauseOf AppendRefused.DiskFault (D.faults disk.old) (D.faults disk.new) result }
     {
         if self.failed {
             return Err(AppendRefused::Failed);

@@ -16,6 +16,6 @@ mod record;
 #[cfg(test)]
 mod tests;
 
-pub use journal::{AppendRefused, CreateRefused, Journal};
+pub use journal::{AppendRefused, Journal};
 pub use reading::{ReadAllRefused, Stop, read_all};
 pub use record::Record;

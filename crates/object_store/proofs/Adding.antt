@@ -8,8 +8,9 @@ use Rattle.std.proofs.lemmas.List.{append-nil}
 use Rattle.object_store.specs.declared.shelf.Found.{Found}
 use Rattle.object_store.specs.declared.errors.PutRefused.{PutRefused}
 use Rattle.object_store.specs.declared.errors.PutRefused.TheVariants.{Collision, DiskFault, Memory}
-use Rattle.object_store.specs.Shelves.{found_in, IsClash, IsCollision}
-use Rattle.object_store.specs.Stored.{Stored, same, has_address, first_with, clash, collision, fresh}
+use Rattle.object_store.specs.Shelves.{found_in, IsClash}
+use Rattle.object_store.specs.Refusals.{Refuses}
+use Rattle.branch_wire.specs.StoredObjects.{Stored, same, has_address, first_with, clash, collision, fresh}
 use Rattle.object_store.proofs.Finding.{find-both, found-none, found-some, same-eq, same-refl}
 
 module _ {X : Type 0} where
@@ -124,14 +125,14 @@ free-step address stored new xs x is free =
     at true e = ap (λ (ts : Stored). collision address ts xs) (append-nil stored) ∙ sym (collision-same address (stored ++ x ∷ []) stored xs (λ y. clash-listed address x y stored e))
     at false e = refl
 
-pub collides-step : (address : List ℕ → List ℕ) (stored xs : Stored) (x : List ℕ) (e : PutRefused) → IsClash address stored x e → IsCollision address stored (x ∷ xs) e
+pub collides-step : (address : List ℕ → List ℕ) (stored xs : Stored) (x : List ℕ) (e : PutRefused) → IsClash address stored x e → Refuses address stored (x ∷ xs) e
 collides-step address stored xs x (Collision a y z) clashes =
     (collision-step address stored xs x ∙ ap (λ o. collides_with address o x (collision address (stored ++ x ∷ []) xs)) clashes.0 ∙ ap (λ (w : List ℕ). Some (y, w)) (sym clashes.1), clashes.2 ∙ ap address (sym clashes.1))
-collides-step address stored xs x DiskFault clashes = clashes
+collides-step address stored xs x DiskFault clashes = absurd clashes
 collides-step address stored xs x Memory clashes = tt
 
 -- a refusal, by what is the same
-pub collides-same : (address : List ℕ → List ℕ) (s t xs ys : Stored) (e : PutRefused) → collision address s xs ≡ collision address t ys → IsCollision address s xs e → IsCollision address t ys e
+pub collides-same : (address : List ℕ → List ℕ) (s t xs ys : Stored) (e : PutRefused) → collision address s xs ≡ collision address t ys → Refuses address s xs e → Refuses address t ys e
 collides-same address s t xs ys (Collision a y z) is collides = (sym is ∙ collides.0, collides.1)
-collides-same address s t xs ys DiskFault is collides = collides
+collides-same address s t xs ys DiskFault is collides = sym is ∙ collides
 collides-same address s t xs ys Memory is collides = tt

@@ -8,7 +8,7 @@ use Rattle.std.proofs.Math.Seq.{get_or-append_seam, take-append_seam, drop-appen
 use Rattle.object_store.specs.declared.shelf.Found.{Found}
 use Rattle.object_store.specs.declared.shelf.Place.{Place}
 use Rattle.object_store.specs.declared.shelf.Shelf.{Shelf}
-use Rattle.object_store.specs.Stored.{Stored, same, has_address, header, file_of}
+use Rattle.branch_wire.specs.StoredObjects.{Stored, same, has_address, header, file_of}
 use Rattle.object_store.specs.Shelves.{number_of, differs, found_in, cut, texts_of, entry_at, texts, IsNoted, Noted, IsShelf, Keeps}
 use Rattle.object_store.proofs.Finding.{number-push, number-within, entry, same-eq, same-refl}
 

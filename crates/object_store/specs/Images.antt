@@ -1,10 +1,7 @@
 -- What a crash may leave of the objects' file.
-use Rattle.std.specs.Prelude.{◌≡◌, ℕ, List, length, take}
+use Rattle.std.specs.Prelude.{◌≡◌, ℕ, List}
 use Rattle.branch_disk.specs.Disk.{Files}
-
--- the file begins with this text
-abbrev pub Begins : List ℕ → List ℕ → Type 0
-Begins text file = take (length text) file ≡ text
+use Rattle.branch_wire.specs.StoredObjects.{Begins}
 
 -- the objects of each of these files begin with this text
 abbrev pub AllBegin : List ℕ → (Files → Type 0) → Type 0

@@ -7,7 +7,8 @@ use Rattle.object_store.specs.declared.shelf.Found.{Found}
 use Rattle.object_store.specs.declared.shelf.Shelf.{Shelf}
 use Rattle.object_store.specs.declared.errors.PutRefused.{PutRefused}
 use Rattle.object_store.specs.declared.errors.PutRefused.TheVariants.{Collision, DiskFault, Memory}
-use Rattle.object_store.specs.Stored.{Stored, IsText, same, has_address, file_of, clash, collision}
+use Rattle.branch_wire.specs.StoredObjects.{Stored, same, has_address, file_of, clash}
+use Rattle.object_store.specs.Stored.{IsText}
 
 -- the object at a place
 abbrev pub cut : List ℕ → Place → List ℕ
@@ -66,9 +67,3 @@ abbrev pub IsClash : (List ℕ → List ℕ) → Stored → List ℕ → PutRefu
 IsClash address stored x (Collision a y z) = (clash address x stored ≡ Some y) × (z ≡ x) × (a ≡ address x)
 IsClash address stored x DiskFault = ⊥
 IsClash address stored x Memory = Unit {0}
-
--- the refusal names the first object of a list that clashes, where it does not want memory
-abbrev pub IsCollision : (List ℕ → List ℕ) → Stored → Stored → PutRefused → Type 0
-IsCollision address stored xs (Collision a y x) = (collision address stored xs ≡ Some (y, x)) × (a ≡ address x)
-IsCollision address stored xs DiskFault = ⊥
-IsCollision address stored xs Memory = Unit {0}

@@ -1,13 +1,14 @@
 // The stored objects.
-ghost use Rattle.std.specs.Prelude.{◌≡◌, ◌≤◌, ◌++◌, ◌∷◌, [], List, ℕ, None, Err, map, length, IfOk, IfErr, OnOk, OnErr};
-ghost use Rattle.std.specs.List.{AllByRecursion};
+ghost use Rattle.std.specs.Prelude.{◌≡◌, ◌++◌, ◌∷◌, [], List, ℕ, None, Err, map, length, IfOk, IfErr, OnOk, OnErr};
+ghost use Rattle.std.specs.List.{AllByRecursion, concat};
 ghost use Rattle.std.specs.Option.{option_copied};
-ghost use Rattle.branch_io.specs.Causes.{Rose};
-ghost use Rattle.branch_disk.specs.Disk.{After, LeavesOnly, OnPart, Torn};
+ghost use Rattle.branch_io.specs.Causes.{HasCauseOf};
+ghost use Rattle.branch_disk.specs.Disk.{After, Holds, LeavesOnly, OnPart, Tells, Torn};
 ghost use Rattle.branch_objects_codec.specs.Grammar.{object_bytes};
-ghost use Rattle.object_store.specs.Stored.{Stored, IsFile, IsText, collision, file_of, first_with, fresh};
+ghost use Rattle.branch_wire.specs.StoredObjects.{Stored, collision, file_of, first_with, fresh};
+ghost use Rattle.object_store.specs.Stored.{IsFile, IsText};
 ghost use Rattle.object_store.specs.Images.{AllBegin, Grows};
-ghost use Rattle.object_store.specs.Refusals.{IsUntouched, Refuses};
+ghost use Rattle.object_store.specs.Refusals.{LeavesAsBefore, Refuses};
 
 use crate::errors::{CreateRefused, PutRefused};
 use crate::region::{write_first, write_region};
@@ -50,9 +51,10 @@ impl<A: Address> Objects<A> {
         ensures holds { IfOk result (λ objects. objects ≡ object_bytes value.now ∷ object_bytes root.now ∷ []) }
         ensures any_moment { LeavesOnly D.moment D.left_since disk.old disk.new (After (OnPart Part.Objects (Torn 0 (length (file_of (object_bytes value.now ∷ object_bytes root.now ∷ []))))) (D.may_leave disk.old)) }
         ensures acknowledged { IfOk result (λ objects. AllBegin (file_of objects) (D.may_leave disk.new)) }
+        ensures written { OnOk result (Tells (OnPart Part.Objects (Holds 0 (file_of (object_bytes value.now ∷ object_bytes root.now ∷ [])))) (D.contents disk.old) (D.contents disk.new)) }
+        ensures torn { result ≡ Err CreateRefused.DiskFault → Tells (OnPart Part.Objects (Torn 0 (length (file_of (object_bytes value.now ∷ object_bytes root.now ∷ []))))) (D.contents disk.old) (D.contents disk.new) }
         ensures memory { result ≡ Err CreateRefused.Memory → disk.new ≡ disk.old }
-        ensures count { D.faults disk.old ≤ D.faults disk.new }
-        ensures cause { result ≡ Err CreateRefused.DiskFault → Rose (D.faults disk.old) (D.faults disk.new) }
+        ensures cause { HasCauseOf CreateRefused.DiskFault (D.faults disk.old) (D.faults disk.new) result }
     {
         let shelf = Shelf::of_two::<A>(alloc, value, root)?;
         write_first(disk, &shelf.text)?;
@@ -76,6 +78,13 @@ impl<A: Address> Objects<A> {
         })
     }
 
+    /// How many bytes the file of these objects has.
+    pub fn end(&self) -> u64
+        ensures { result ≡ length (file_of self.now) }
+    {
+        self.shelf.text.len() as u64
+    }
+
     /// The bytes of the first object with an address; `None` exactly where none has it.
     pub fn get(&self, address: &[u8; 32]) -> Option<&[u8]>
         ensures { option_copied result ≡ first_with A.address address.now self.now }
@@ -84,7 +93,7 @@ impl<A: Address> Objects<A> {
     }
 
     /// Stores those of the objects that are not stored, and equal no earlier one of the list, and says the
-    /// addresses of all. It is one write behind the stored objects, and one sync.
+    /// addresses of all. It is one write behind the stored objects, and one sync, and neither is tried again.
     ///
     /// `Collision` comes exactly for the first object that has the address of a stored one, or of an earlier one
     /// of the list, with other bytes; `stored` is the first such. Then nothing is written. After a refusal it
@@ -99,22 +108,23 @@ impl<A: Address> Objects<A> {
         ensures addresses { IfOk result (λ addresses. addresses ≡ map (λ o. A.address (object_bytes o)) objects.now) }
         ensures any_moment { LeavesOnly D.moment D.left_since disk.old disk.new (After (Grows (file_of self.old)) (D.may_leave disk.old)) }
         ensures acknowledged { OnOk result (AllBegin (file_of self.new) (D.may_leave disk.new)) }
+        ensures written { OnOk result (Tells (OnPart Part.Objects (Holds (length (file_of self.old)) (concat (fresh self.old (map object_bytes objects.now))))) (D.contents disk.old) (D.contents disk.new)) }
+        ensures torn { result ≡ Err PutRefused.DiskFault → Tells (OnPart Part.Objects (Torn (length (file_of self.old)) (length (concat (fresh self.old (map object_bytes objects.now)))))) (D.contents disk.old) (D.contents disk.new) }
         ensures held { OnErr result (self.new ≡ self.old) }
         ensures collides { IfErr result (Refuses A.address self.old (map object_bytes objects.now)) }
         ensures free { OnOk result (collision A.address self.old (map object_bytes objects.now) ≡ None) }
-        ensures untouched { IfErr result (IsUntouched (disk.new ≡ disk.old)) }
-        ensures count { D.faults disk.old ≤ D.faults disk.new }
-        ensures cause { result ≡ Err PutRefused.DiskFault → Rose (D.faults disk.old) (D.faults disk.new) }
+        ensures untouched { IfErr result (LeavesAsBefore (disk.new ≡ disk.old)) }
+        ensures cause { HasCauseOf PutRefused.DiskFault (D.faults disk.old) (D.faults disk.new) result }
     {
         let mark = self.shelf.mark();
         match self.shelf.add_all::<A>(objects) {
             Ok(addresses) => {
                 let (stored, region) = self.shelf.text.as_slice().split_at(mark.text);
-                if write_region(disk, stored, region).is_ok() {
-                    return Ok(addresses);
-                }
-                self.shelf.cut_back(mark);
-                Err(PutRefused::DiskFault)
+                let Ok(()) = write_region(disk, stored, region) else {
+                    self.shelf.cut_back(mark);
+                    return Err(PutRefused::DiskFault);
+                };
+                Ok(addresses)
             }
             Err(refused) => {
                 self.shelf.cut_back(mark);

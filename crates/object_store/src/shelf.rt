@@ -1,21 +1,30 @@
 // The objects in memory: one text, the place of each object in it, and the first of each address.
-ghost use Rattle.std.specs.Prelude.{◌≡◌, ℕ, ◌<◌, ◌≤◌, ◌++◌, ◌∷◌, [], List, Some, None, length, take, map, IfOk, IfErr, OnOk, slice_index_or};
+ghost use Rattle.std.specs.Prelude.{◌≡◌, ◌≢◌, ℕ, ◌<◌, ◌≤◌, ◌++◌, ◌∷◌, [], List, Some, None, length, take, map, Err, IfOk, IfErr, OnOk, slice_index_or};
 ghost use Rattle.std.specs.List.{AllByRecursion};
 ghost use Rattle.std.specs.Option.{option_copied};
 ghost use Rattle.branch_objects_codec.specs.Grammar.{object_bytes};
-ghost use Rattle.object_store.specs.Stored.{IsFile, IsText, clash, collision, first_with, fresh, header};
-ghost use Rattle.object_store.specs.Shelves.{BeginsWithText, IsClash, IsCollision, IsShelf, Keeps, Noted, cut, entry_at, found_in, texts};
+ghost use Rattle.branch_wire.specs.StoredObjects.{clash, collision, first_with, fresh, header};
+ghost use Rattle.object_store.specs.Stored.{IsFile, IsText};
+ghost use Rattle.object_store.specs.Shelves.{BeginsWithText, IsClash, IsShelf, Keeps, Noted, cut, entry_at, found_in, texts};
+ghost use Rattle.object_store.specs.Refusals.{Refuses};
 
 use crate::errors::PutRefused;
 use branch_address::Address;
 use branch_objects_codec::Object;
-use branch_wire::{Cursor, put_u32};
+use branch_wire::{Cursor, push_address, put_u32};
 use indexmap::IndexMap;
 use mrdt_model::{Bytes, Listing, Memory};
 use std::alloc::Global;
 
+const LETTERS: &[u8] = b"MRDTOBJS";
+
+const VERSION: u32 = 1;
+
 // How many bytes stand before the first object.
 const HEADER: usize = 16;
+
+// How many bytes stand before the body of an object: its kind, and the length of the body.
+const FRAME: usize = 9;
 
 // Where an object lies in the text.
 #[derive(Clone, Copy, Debug, PartialEq, Eq)]
@@ -207,13 +216,14 @@ impl Shelf {
         ensures added { OnOk result (texts self.new ≡ texts self.old ++ fresh (texts self.old) (map object_bytes objects.now)) }
         ensures addresses { IfOk result (λ addresses. addresses ≡ map (λ o. A.address (object_bytes o)) objects.now) }
         ensures free { OnOk result (collision A.address (texts self.old) (map object_bytes objects.now) ≡ None) }
-        ensures collides { IfErr result (IsCollision A.address (texts self.old) (map object_bytes objects.now)) }
+        ensures collides { IfErr result (Refuses A.address (texts self.old) (map object_bytes objects.now)) }
+        ensures no_fault { result ≢ Err PutRefused.DiskFault }
         ensures kept { Keeps self.old self.new }
     {
         let mut addresses = Vec::new(*self.text.allocator());
         for object in objects {
             let address = self.add::<A>(object)?;
-            push(&mut addresses, address)?;
+            push_address(address, &mut addresses)?;
         }
         Ok(Listing::from_vec(addresses))
     }
@@ -266,17 +276,10 @@ impl Shelf {
 pub(crate) fn header_text(alloc: Global) -> Result<Vec<u8>, Memory>
     ensures { IfOk result (λ text. text.items ≡ header) }
 {
-    let mut text = Vec::from_slice(alloc, b"MRDTOBJS")?;
-    put_u32(1, &mut text)?;
+    let mut text = Vec::from_slice(alloc, LETTERS)?;
+    put_u32(VERSION, &mut text)?;
     put_u32(0, &mut text)?;
     Ok(text)
-}
-
-// Puts an address behind the others.
-fn push(addresses: &mut Vec<[u8; 32]>, address: [u8; 32]) -> Result<(), Memory>
-    ensures { OnOk result (addresses.new.items ≡ addresses.old.items ++ address ∷ []) }
-{
-    Ok(addresses.push(address)?)
 }
 
 // How many bytes the object at the front has.
@@ -288,5 +291,5 @@ fn first_length(bytes: &[u8]) -> usize
     let (Ok(_), Ok(body)) = (cursor.take_u8(), cursor.take_bytes()) else {
         unreachable!()
     };
-    9 + body.len()
+    FRAME + body.len()
 }

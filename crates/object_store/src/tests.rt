@@ -1,12 +1,13 @@
-// Stores over a disk in memory: regions, collisions, calls that fail, and crashes.
+// Stores over a disk in memory: a region, collisions, calls that fail, and a file that is read.
 ghost use Rattle.std.specs.Prelude.{IfOk};
 ghost use Rattle.object_store.specs.Images.{AllBegin};
-ghost use Rattle.object_store.specs.Stored.{IsFile, file_of};
+ghost use Rattle.branch_wire.specs.StoredObjects.{file_of};
+ghost use Rattle.object_store.specs.Stored.{IsFile};
 
 use crate::shelf::header_text;
 use crate::{CreateRefused, Objects, PutRefused};
 use branch_address::{Address, Sha256Address, WeakAddress};
-use branch_disk::{Disk, Fill, MemoryDisk, Part, ReadRefused, read_whole};
+use branch_disk::{Disk, MemoryDisk, Part, read_whole};
 use branch_objects_codec::{Action, Object};
 use mrdt_model::{Bytes, Listing, Memory};
 use std::alloc::Global;
@@ -52,11 +53,25 @@ fn weak(last: u8) -> [u8; 32] {
     address
 }
 
-// A value of 140 bytes, and a commit of an operation of 21 bytes that replied one.
-fn first_region(alloc: Global) -> Result<[Object; 2], Memory> {
+// A store of a value of 104 bytes and of the root commit.
+fn started<A: Address>(alloc: Global, disk: &mut MemoryDisk) -> Result<Objects<A>, CreateRefused>
+    ensures { IfOk result (λ objects. AllBegin (file_of objects) (⟦<MemoryDisk as Disk>⟧.may_leave disk.new)) }
+{
+    let first = value(alloc, 0, 104)?;
+    Objects::create(alloc, disk, &first, &root(alloc))
+}
+
+// A value of so many bytes, and a commit of an operation of so many that replied one.
+fn region(
+    alloc: Global,
+    byte: u8,
+    long: usize,
+    clock: u64,
+    op: &[u8],
+) -> Result<[Object; 2], Memory> {
     Ok([
-        value(alloc, 3, 140)?,
-        operation(alloc, 1, &[1; 21], b"\x01")?,
+        value(alloc, byte, long)?,
+        operation(alloc, clock, op, b"\x01")?,
     ])
 }
 
@@ -64,55 +79,15 @@ fn first_region(alloc: Global) -> Result<[Object; 2], Memory> {
 fn a_region_is_written_behind_the_root(rt: HostRuntime) {
     let alloc = rt.alloc();
     let mut disk = MemoryDisk::new(Vec::new(alloc));
-    let first = value(alloc, 0, 104).expect(&rt, "a value");
-    let mut objects: Objects<Sha256Address> = Objects::create(
-        alloc,
-        &mut disk,
-        &first,
-        &root(alloc),
-    ).expect(&rt, "objects");
-    let list = first_region(alloc).expect(&rt, "a region");
-    let addresses = objects
-        .put_all(&mut disk, &list)
-        .ok()
-        .expect(&rt, "addresses");
+    let mut objects = started::<Sha256Address>(alloc, &mut disk).expect(&rt, "objects");
+    let list = region(alloc, 3, 140, 1, &[1; 21]).expect(&rt, "a region");
+    assert!(rt; objects.end() == 191);
+    let addresses = objects.put_all(&mut disk, &list).expect(&rt, "addresses");
+    assert!(rt; objects.end() == 472);
     let text = spelled(alloc, &list[0]).expect(&rt, "bytes");
-    let stored = [Sha256Address::of(&text)];
-    assert!(rt; addresses.as_slice().len() == 2);
-    assert!(rt; addresses.as_slice()[0] == stored[0]);
-    assert!(rt; objects.get(&stored[0]).expect(&rt, "an object") == text.as_slice());
-    assert!(rt; objects.get(&[0; 32]).is_none());
-    assert!(rt; disk.calls() == 4);
+    assert!(rt; addresses.as_slice()[0] == Sha256Address::of(&text));
     let file = read_whole(alloc, &mut disk, Part::Objects).expect(&rt, "a file");
-    assert!(rt; file.len() == 191 + 149 + 132);
-    assert!(rt; &file[..16] == HEADER);
-    assert!(rt; &file[191..340] == text.as_slice());
-}
-
-#[test]
-fn an_equal_object_is_not_written_again(rt: HostRuntime) {
-    let alloc = rt.alloc();
-    let mut disk = MemoryDisk::new(Vec::new(alloc));
-    let first = value(alloc, 0, 104).expect(&rt, "a value");
-    let mut objects: Objects<Sha256Address> = Objects::create(
-        alloc,
-        &mut disk,
-        &first,
-        &root(alloc),
-    ).expect(&rt, "objects");
-    let list = [
-        value(alloc, 5, 10).expect(&rt, "a value"),
-        value(alloc, 0, 104).expect(&rt, "a value"),
-        value(alloc, 5, 10).expect(&rt, "a value"),
-    ];
-    let addresses = objects
-        .put_all(&mut disk, &list)
-        .ok()
-        .expect(&rt, "addresses");
-    assert!(rt; addresses.as_slice().len() == 3);
-    assert!(rt; addresses.as_slice()[0] == addresses.as_slice()[2]);
-    let file = read_whole(alloc, &mut disk, Part::Objects).expect(&rt, "a file");
-    assert!(rt; file.len() == 191 + 19);
+    assert!(rt; file.len() == 472 && &file[..16] == HEADER && &file[191..340] == text.as_slice());
 }
 
 // What a list collides with: the last byte of the address, and the first bytes of both bodies.
@@ -133,86 +108,38 @@ fn collides(answer: Result<Listing<[u8; 32]>, PutRefused>) -> Option<(u8, u8, u8
     }
 }
 
-// A store of weak addresses after its first region: a value of 137 bytes, and a commit.
-fn started(alloc: Global, disk: &mut MemoryDisk) -> Result<Objects<WeakAddress>, Memory>
-    ensures { IfOk result (λ objects. AllBegin (file_of objects) (⟦<MemoryDisk as Disk>⟧.may_leave disk.new)) }
-{
-    let first = value(alloc, 0, 104)?;
-    let Ok(mut objects) = Objects::create(alloc, disk, &first, &root(alloc)) else {
-        return Err(Memory);
-    };
-    let list = [
-        value(alloc, 1, 137)?,
-        operation(alloc, 1, &[1; 18], b"\x01")?,
-    ];
-    match objects.put_all(disk, &list) {
-        Ok(_) => Ok(objects),
-        Err(_) => Err(Memory),
-    }
-}
-
-// What a value of 137 such bytes and a commit of another operation collide with, after how many device calls.
-fn second(alloc: Global, byte: u8) -> Result<(Option<(u8, u8, u8)>, u64), Memory> {
+// What a second region of weak addresses collides with, of a value of 137 such bytes and a commit of another
+// operation of as many bytes.
+fn second(alloc: Global, byte: u8) -> Result<Option<(u8, u8, u8)>, PutRefused> {
     let mut disk = MemoryDisk::new(Vec::new(alloc));
-    let mut objects = started(alloc, &mut disk)?;
-    let list = [
-        value(alloc, byte, 137)?,
-        operation(alloc, 2, &[2; 18], b"\x01")?,
-    ];
-    let answer = collides(objects.put_all(&mut disk, &list));
-    Ok((answer, disk.calls()))
+    let Ok(mut objects) = started::<WeakAddress>(alloc, &mut disk) else {
+        return Err(PutRefused::DiskFault);
+    };
+    objects.put_all(&mut disk, &region(alloc, 1, 137, 1, &[1; 18])?)?;
+    let answer = objects.put_all(&mut disk, &region(alloc, byte, 137, 2, &[2; 18])?);
+    Ok(collides(answer))
 }
 
 #[test]
 fn other_bytes_with_the_address_collide(rt: HostRuntime) {
     // Another value of as many bytes; and the stored value, with another commit of as many bytes.
-    assert!(rt; second(rt.alloc(), 2) == Ok((Some((0x92, 1, 2)), 4)));
-    assert!(rt; second(rt.alloc(), 1) == Ok((Some((0x81, 0, 0)), 4)));
-}
-
-#[test]
-fn two_of_one_list_collide(rt: HostRuntime) {
-    let alloc = rt.alloc();
-    let mut disk = MemoryDisk::new(Vec::new(alloc));
-    let first = value(alloc, 0, 104).expect(&rt, "a value");
-    let mut objects: Objects<WeakAddress> = Objects::create(
-        alloc,
-        &mut disk,
-        &first,
-        &root(alloc),
-    ).expect(&rt, "objects");
-    let list = [
-        value(alloc, 1, 3).expect(&rt, "a value"),
-        value(alloc, 1, 3).expect(&rt, "a value"),
-        value(alloc, 2, 3).expect(&rt, "a value"),
-    ];
-    assert!(rt; collides(objects.put_all(&mut disk, &list)) == Some((12, 1, 2)));
-    assert!(rt; objects.get(&weak(12)).is_none());
-    assert!(rt; disk.calls() == 2);
+    for (byte, collision) in [(2, (0x92, 1, 2)), (1, (0x81, 0, 0))] {
+        assert!(rt; second(rt.alloc(), byte).ok() == Some(Some(collision)));
+    }
 }
 
 // What is refused where one device call fails: 1 creating, 2 storing, 3 nothing.
 fn refused_at(alloc: Global, call: u64) -> Result<u8, Memory> {
     let mut disk = MemoryDisk::new(vec![in alloc; call; 1]?);
-    let first = value(alloc, 0, 104)?;
-    let mut objects: Objects<Sha256Address> = match Objects::create(
-        alloc,
-        &mut disk,
-        &first,
-        &root(alloc),
-    ) {
+    let mut objects = match started::<Sha256Address>(alloc, &mut disk) {
         Ok(objects) => objects,
         Err(CreateRefused::DiskFault) => return Ok(1),
         Err(CreateRefused::Memory) => return Err(Memory),
     };
-    let list = first_region(alloc)?;
-    let known = Sha256Address::of(&spelled(alloc, &first)?);
-    let new = Sha256Address::of(&spelled(alloc, &list[0])?);
-    match objects.put_all(&mut disk, &list) {
+    match objects.put_all(&mut disk, &region(alloc, 3, 140, 1, &[1; 21])?) {
         Ok(_) => Ok(3),
-        Err(PutRefused::Memory) => Err(Memory),
-        Err(_) if objects.get(&known).is_some() && objects.get(&new).is_none() => Ok(2),
-        Err(_) => Ok(0),
+        Err(PutRefused::DiskFault) if objects.end() == 191 => Ok(2),
+        Err(_) => Err(Memory),
     }
 }
 
@@ -220,42 +147,6 @@ fn refused_at(alloc: Global, call: u64) -> Result<u8, Memory> {
 fn each_device_call_may_fail(rt: HostRuntime) {
     for (call, refused) in [(1, 1), (2, 1), (3, 2), (4, 2), (5, 3)] {
         assert!(rt; refused_at(rt.alloc(), call) == Ok(refused), "call {call}");
-    }
-}
-
-// How many bytes a crash leaves of the file, where so many calls are done and the next has begun.
-fn left(alloc: Global, disk: &MemoryDisk, calls: u64, fill: Fill) -> Result<usize, ReadRefused> {
-    match disk.image(calls, fill) {
-        Ok(mut image) => Ok(read_whole(alloc, &mut image, Part::Objects)?.len()),
-        Err(Memory) => Err(ReadRefused::Memory),
-    }
-}
-
-#[test]
-fn a_crash_leaves_the_stored_objects(rt: HostRuntime) {
-    let alloc = rt.alloc();
-    let mut disk = MemoryDisk::new(Vec::new(alloc));
-    let first = value(alloc, 0, 104).expect(&rt, "a value");
-    let mut objects: Objects<Sha256Address> = Objects::create(
-        alloc,
-        &mut disk,
-        &first,
-        &root(alloc),
-    ).expect(&rt, "objects");
-    let list = first_region(alloc).expect(&rt, "a region");
-    assert!(rt; objects.put_all(&mut disk, &list).is_ok());
-    for (calls, fill, length) in [
-        (0, Fill::Old, 0),
-        (1, Fill::New, 191),
-        (2, Fill::Old, 191),
-        (2, Fill::New, 472),
-        (3, Fill::Old, 191),
-        (4, Fill::Old, 472),
-    ] {
-        assert!(rt;
-            left(alloc, &disk, calls, fill) == Ok(length),
-            "after {calls} calls"
-        );
     }
 }
 

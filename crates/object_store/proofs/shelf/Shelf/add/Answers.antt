@@ -4,7 +4,7 @@ use Rattle.std.proofs.Math.Seq.{take-append_seam}
 use Rattle.branch_objects_codec.specs.Grammar.{object_bytes}
 use Rattle.object_store.specs.declared.shelf.Place.{Place}
 use Rattle.object_store.specs.declared.shelf.Shelf.{Shelf}
-use Rattle.object_store.specs.Stored.{Stored, clash}
+use Rattle.branch_wire.specs.StoredObjects.{Stored, clash}
 use Rattle.object_store.specs.Shelves.{cut, entry_at, found_in, texts, texts_of, IsShelf}
 use Rattle.object_store.proofs.Noting.{noted-grow, cut-new, texts-grow, texts-added, texts-same, shelf-same, one_more}
 use Rattle.object_store.proofs.Adding.{fresh-none, fresh-one, is_there, is_not_there, listed, unlisted}

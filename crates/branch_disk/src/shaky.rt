@@ -1,0 +1,111 @@
+// Files whose first sync fails, and which count their syncs, for tests.
+use std::alloc::Allocator;
+use std::cell::Cell;
+use std::fs::{Metadata, OpenFile, OpenOptions};
+use std::io;
+use std::io::{ErrorKind, Read, Seek, SeekFrom, Write};
+use std::rt::Files;
+
+// The files, and how many syncs they were asked for.
+#[derive(Drop)]
+pub struct Shaky<'a> {
+    pub syncs: &'a Cell<u64>,
+}
+
+// One of them. It takes each byte and gives none.
+#[derive(Drop)]
+pub struct ShakyFile<'a> {
+    syncs: &'a Cell<u64>,
+}
+
+fn refused<T>() -> io::Result<T> {
+    Err(io::Error::from(ErrorKind::Unsupported))
+}
+
+impl<'a> Read for ShakyFile<'a> {
+    fn read(&mut self, _buf: &mut [u8]) -> io::Result<usize> {
+        Ok(0)
+    }
+}
+
+impl<'a> Write for ShakyFile<'a> {
+    fn write(&mut self, buf: &[u8]) -> io::Result<usize> {
+        Ok(buf.len())
+    }
+
+    fn flush(&mut self) -> io::Result<()> {
+        Ok(())
+    }
+}
+
+impl<'a> Seek for ShakyFile<'a> {
+    fn seek(&mut self, _to: SeekFrom) -> io::Result<u64> {
+        Ok(0)
+    }
+}
+
+impl<'a> OpenFile for ShakyFile<'a> {
+    fn metadata(&self) -> io::Result<Metadata> {
+        refused()
+    }
+
+    fn set_len(&self, _size: u64) -> io::Result<()> {
+        refused()
+    }
+
+    fn sync_all(&self) -> io::Result<()> {
+        let before = self.syncs.get();
+        self.syncs.set(before.saturating_add(1));
+        if before == 0 { refused() } else { Ok(()) }
+    }
+
+    fn sync_data(&self) -> io::Result<()> {
+        refused()
+    }
+}
+
+impl<'a> Files for Shaky<'a> {
+    type File = ShakyFile<'a>;
+
+    type Dir = ShakyFile<'a>;
+
+    fn open_file(&self, _how: &OpenOptions, _path: &str) -> io::Result<ShakyFile<'a>> {
+        Ok(ShakyFile { syncs: self.syncs })
+    }
+
+    fn open_dir(&self, _path: &str) -> io::Result<ShakyFile<'a>> {
+        refused()
+    }
+
+    fn metadata(&self, _path: &str) -> io::Result<Metadata> {
+        refused()
+    }
+
+    fn symlink_metadata(&self, _path: &str) -> io::Result<Metadata> {
+        refused()
+    }
+
+    fn copy(&self, _from: &str, _to: &str) -> io::Result<u64> {
+        refused()
+    }
+
+    fn rename(&self, _from: &str, _to: &str) -> io::Result<()> {
+        refused()
+    }
+
+    fn remove_file(&self, _path: &str) -> io::Result<()> {
+        refused()
+    }
+
+    fn create_dir(&self, _path: &str) -> io::Result<()> {
+        refused()
+    }
+
+    fn remove_dir(&self, _path: &str) -> io::Result<()> {
+        refused()
+    }
+
+    fn remove_dir_all<B: Allocator>(&self, _alloc: B, _path: &str) -> io::Result<()> {
+        refused()
+    }
+}
