@@ -1,6 +1,9 @@
-pub mod Kept
-pub mod Marked
+pub mod Cut
+pub mod Joined
 pub mod Maximal
 pub mod Members
+pub mod Painted
 pub mod Ranked
 pub mod Reach
+pub mod Reaching
+pub mod Turns

@@ -4,7 +4,7 @@ use Rattle.std.specs.List.{list_any, AllByRecursion}
 use Rattle.std.proofs.lemmas.Bool.{or_cases, or_left, or_right, eqb-true, eq-eqb}
 use Rattle.std.proofs.lemmas.Bool.Decides.{nat_tests}
 use Rattle.branch_graph.specs.Graph.{falling}
-use Rattle.branch_graph.specs.Marks.{is_among}
+use Rattle.branch_graph.specs.Paints.{is_among}
 
 -- equal where each is true as the other is
 pub same_truth : (p q : Bool) → (IsTrue p → IsTrue q) → (IsTrue q → IsTrue p) → p ≡ q

@@ -1,7 +1,8 @@
 -- Graphs whose commits have parents of smaller numbers.
-use Rattle.std.proofs.Common.{zero, suc, ◌≡◌, ℕ, ◌<◌, ◌≤◌, List, [], ◌∷◌, ◌++◌, length, refl, ap, sym, ◌∙◌, subst, arith, All, length-append}
+use Rattle.std.proofs.Common.{zero, suc, ◌≡◌, ℕ, ◌-◌, ◌<◌, ◌≤◌, List, [], ◌∷◌, ◌++◌, length, take, refl, ap, sym, ◌∙◌, subst, arith, All, length-append}
 use Rattle.std.specs.List.{AllByRecursion}
-use Rattle.branch_graph.specs.Graph.{parents_of, IsRanked}
+use Rattle.std.proofs.lemmas.List.{length-take}
+use Rattle.branch_graph.specs.Graph.{parents_of, IsRanked, IsWithin}
 
 -- a fact of each item, from the fact at each place
 pub AllByRecursion-from_All : (P : ℕ → Type 0) (xs : List ℕ) → All P xs → AllByRecursion P xs
@@ -48,3 +49,33 @@ IsRanked-append graph more ranked below n =
       | new is ↦ subst all (sym (ap (parents_of (graph ++ more ∷ [])) is ∙ parents_of-new graph more)) (subst at (sym is) below)
       | past gt ↦ subst all (sym (parents_of-past (graph ++ more ∷ []) n (let len = length-append graph (more ∷ []) in omega arith))) tt
     ]
+
+pub IsWithin-append : (limit : ℕ) (commits : List (List ℕ)) (more : List ℕ) → IsWithin limit commits → length commits < limit → All (λ p. p < length commits) more
+    → IsWithin limit (commits ++ more ∷ [])
+IsWithin-append limit commits more within room below = record {
+  ranked = IsRanked-append commits more within.ranked (AllByRecursion-from_All (λ p. p < length commits) more below);
+  at_most = omega (arith, length-append commits (more ∷ []));
+  fits = within.fits;
+}
+
+pub IsWithin-pop : (limit : ℕ) (commits : List (List ℕ)) → IsWithin limit commits → IsWithin limit (take (length commits - 1) commits)
+IsWithin-pop limit commits within = record {
+  ranked = IsRanked-take (length commits - 1) commits within.ranked;
+  at_most = let most = within.at_most in omega (arith, length-take (length commits - 1) commits);
+  fits = within.fits;
+}
+  where
+    parents_of-take : (count n : ℕ) (graph : List (List ℕ)) → n < count → parents_of (take count graph) n ≡ parents_of graph n
+    parents_of-take zero n graph lt = absurd (omega arith)
+    parents_of-take (suc count) n [] lt = refl
+    parents_of-take (suc count) zero (ps ∷ graph) lt = refl
+    parents_of-take (suc count) (suc n) (ps ∷ graph) lt = parents_of-take count n graph (omega arith)
+
+    IsRanked-take : (count : ℕ) (graph : List (List ℕ)) → IsRanked graph → IsRanked (take count graph)
+    IsRanked-take count graph ranked n =
+        let all : List ℕ → Type 0 = λ ps. AllByRecursion (λ p. p < n) ps in
+        elim (place n count) [
+          | old lt ↦ subst all (sym (parents_of-take count n graph lt)) (ranked n)
+          | new is ↦ subst all (sym (parents_of-past (take count graph) n (omega (arith, length-take count graph)))) tt
+          | past gt ↦ subst all (sym (parents_of-past (take count graph) n (omega (arith, length-take count graph)))) tt
+        ]

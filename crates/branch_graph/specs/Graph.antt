@@ -1,5 +1,5 @@
 -- Graphs of commits. A graph is the list of the parents of each commit, by its number.
-use Rattle.std.specs.Prelude.{ℕ, zero, suc, ◌<◌, Bool, ◌&&◌, ◌||◌, ◌==◌, not, List, [], ◌∷◌, length, filter, reverse, slice_get}
+use Rattle.std.specs.Prelude.{ℕ, zero, suc, ◌^◌, ◌<◌, ◌≤◌, Bool, ◌&&◌, ◌||◌, ◌==◌, not, List, [], ◌∷◌, length, filter, reverse, slice_get}
 use Rattle.std.specs.Option.{option_map_or}
 use Rattle.std.specs.List.{list_any, AllByRecursion}
 
@@ -14,6 +14,12 @@ parents_of graph n = option_map_or (λ parents. parents) (slice_get graph n) []
 -- parents have smaller numbers
 abbrev pub IsRanked : List (List ℕ) → Type 0
 IsRanked graph = (n : ℕ) → AllByRecursion (λ p. p < n) (parents_of graph n)
+
+-- parents have smaller numbers, and there are at most so many commits
+pub record IsWithin (limit : ℕ) (commits : List (List ℕ)) : Type 0 where
+  pub ranked : IsRanked commits
+  pub at_most : length commits ≤ limit
+  pub fits : limit < 2 ^ 32
 
 -- at most so many steps from a commit to a parent lead from n to m
 abbrev pub leads : ℕ → List (List ℕ) → ℕ → ℕ → Bool

@@ -1,3 +1,5 @@
+pub mod Chunks
 pub mod Graph
-pub mod Marks
+pub mod Laws
+pub mod Paints
 pub mod Pieces

@@ -1,6 +1,5 @@
 -- Lists kept in one list, one behind another.
-use Rattle.std.specs.Prelude.{◌≡◌, ℕ, zero, suc, ◌≤◌, ◌<◌, ◌^◌, List, [], ◌∷◌, length, slice_range}
-use Rattle.branch_graph.specs.Graph.{IsRanked}
+use Rattle.std.specs.Prelude.{◌≡◌, ℕ, zero, suc, ◌≤◌, List, [], ◌∷◌, length, slice_range}
 
 -- the pieces of a list, from a place on, that end at these places
 abbrev pub pieces : List ℕ → ℕ → List ℕ → List (List ℕ)
@@ -17,10 +16,3 @@ end_before from (end ∷ ends) (suc n) = end_before end ends n
 abbrev pub AreEnds : List ℕ → ℕ → List ℕ → Type 0
 AreEnds items from [] = from ≡ length items
 AreEnds items from (end ∷ ends) = (from ≤ end) × AreEnds items end ends
-
--- the parents of commits, kept in one list
-pub record IsKept (limit : ℕ) (ends parents : List ℕ) : Type 0 where
-  pub cut : AreEnds parents 0 ends
-  pub ranked : IsRanked (pieces parents 0 ends)
-  pub at_most : length ends ≤ limit
-  pub fits : limit < 2 ^ 32

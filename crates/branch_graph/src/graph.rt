@@ -1,12 +1,14 @@
 // The parents of each commit.
-ghost use Rattle.std.specs.Prelude.{◌≡◌, ℕ, ◌^◌, ◌<◌, ◌≤◌, ◌↔◌, [], ◌∷◌, ◌++◌, All, Some, length, slice_get, IfOk, OnOk, OnErr, IsErrOf};
+ghost use Rattle.std.specs.Prelude.{◌≡◌, ℕ, ◌+◌, ◌-◌, ◌/◌, ◌^◌, ◌<◌, ◌≤◌, ◌↔◌, [], ◌∷◌, ◌++◌, All, Some, length, take, IfOk, OnOk, OnErr, IsErrOf};
 ghost use Rattle.branch_graph.specs.Graph.{parents_of, reaches, maximal_common, IsRanked};
-ghost use Rattle.branch_graph.specs.Pieces.{pieces, end_before, AreEnds};
 
-use crate::marks;
+use crate::chunks::Chunks;
+use crate::walk;
+use counted_steps::Steps;
 use mrdt_model::{Listing, Memory};
-use std::alloc::{AllocError, Global};
-use std::marker::Model;
+use std::alloc::Global;
+use std::marker::{Brand, Model};
+use std::sync::ledger::{Blank, Ledger};
 use thiserror::Error;
 
 /// Why a commit was not put into a graph.
@@ -20,36 +22,34 @@ pub enum PushRefused {
     Memory,
 }
 
-impl From<AllocError> for PushRefused {
+impl From<Memory> for PushRefused {
     ghost use Rattle.std.specs.Prelude.{◌≡◌};
     ghost use Rattle.branch_graph.specs.declared.graph.PushRefused.TheVariants as refused;
 
     ghost from_gives = { λ _ error. error ≡ refused.Memory };
 
-    fn from(_: AllocError) -> PushRefused {
+    fn from(_: Memory) -> PushRefused {
         PushRefused::Memory
     }
 }
 
 /// The commits of a store by number, each with its parents, which have smaller numbers. Contracts see an
-/// `Ancestry`: the limit and the list of the commits' lists of parents.
+/// `Ancestry`: the limit and the list of the commits' lists of parents. They are kept in chunks of 1,024 commits,
+/// and graphs share each full one.
 #[derive(Drop)]
 pub struct Graph {
     limit: u32,
-    // where the parents of each commit end in the list of all
-    ends: Vec<usize>,
-    parents: Vec<u32>,
+    commits: Chunks,
 }
 
 impl Model for Graph {
-    ghost use Rattle.branch_graph.specs.Graph.{Ancestry};
-    ghost use Rattle.branch_graph.specs.Pieces.{pieces, IsKept};
+    ghost use Rattle.branch_graph.specs.Graph.{Ancestry, IsWithin};
 
     ghost Value = { Ancestry };
 
-    ghost view = { λ g. record { limit = g.limit; commits = pieces g.parents.items 0 g.ends.items } };
+    ghost view = { λ g. record { limit = g.limit; commits = g.commits } };
 
-    ghost invariant = { λ g. IsKept g.limit g.ends.items g.parents.items };
+    ghost invariant = { λ g. IsWithin g.limit g.commits };
 }
 
 impl Graph {
@@ -59,25 +59,18 @@ impl Graph {
     {
         Graph {
             limit,
-            ends: Vec::new(alloc),
-            parents: Vec::new(alloc),
+            commits: Chunks::new(alloc),
         }
     }
 
-    /// How many commits there are.
+    /// How many commits there are, which is within the limit. Parents have smaller numbers.
     pub fn count(&self) -> u32
-        ensures { result ≡ length self.now.commits }
-    {
-        self.ends.len() as u32
-    }
-
-    /// The graph keeps its limit, and parents have smaller numbers: a call tells a proof so.
-    pub fn known(&self)
+        ensures count { result ≡ length self.now.commits }
         ensures within { length self.now.commits ≤ self.now.limit }
         ensures few { self.now.limit < 2 ^ 32 }
         ensures ranked { IsRanked self.now.commits }
     {
-        let _ends = &self.ends;
+        self.commits.len()
     }
 
     /// The parents of a commit, which have smaller numbers.
@@ -86,11 +79,11 @@ impl Graph {
         ensures parents { result.now ≡ parents_of self.now.commits number }
         ensures smaller { All (λ parent. parent < number) result.now }
     {
-        piece(&self.parents, &self.ends, number as usize)
+        self.commits.get(number as usize)
     }
 
     /// Puts a commit with these parents behind the others, and says its number. `Full` comes exactly where the
-    /// limit is held.
+    /// limit is held. The last chunk is filled in place, unless another graph shares it: then it is copied.
     pub fn push(&mut self, parents: &[u32]) -> Result<u32, PushRefused>
         requires { All (λ parent. parent < length self.old.commits) parents.now }
         ensures number { IfOk result (λ number. number ≡ length self.old.commits) }
@@ -103,8 +96,41 @@ impl Graph {
         if count >= self.limit {
             return Err(PushRefused::Full { count });
         }
-        add_piece(&mut self.parents, &mut self.ends, parents)?;
+        self.commits.push(parents)?;
         Ok(count)
+    }
+
+    /// Takes the last commit off again, and no memory: so a store that pushes a commit before it writes takes all
+    /// memory first, and undoes the push where the write fails.
+    pub fn pop(&mut self)
+        requires { 0 < length self.old.commits }
+        ensures { self.new ≡ record self.old { commits = take (length self.old.commits - 1) self.old.commits } }
+    {
+        self.commits.pop();
+    }
+
+    /// The graph with one commit more, beside this one: the full chunks are shared. It is refused as a push is. A
+    /// step is one shared chunk, or one commit, that is copied or put.
+    pub fn with<L: Ledger>(
+        &self,
+        parents: &[u32],
+        steps: &mut Steps<L>,
+    ) -> Result<Graph, PushRefused>
+        requires { All (λ parent. parent < length self.now.commits) parents.now }
+        ensures longer { IfOk result (λ graph. graph ≡ record self.now { commits = self.now.commits ++ parents.now ∷ [] }) }
+        ensures room { OnOk result (length self.now.commits < self.now.limit) }
+        ensures full { (count : ℕ) → IsErrOf result (PushRefused.Full count) ↔ ((self.now.limit ≤ count) × (length self.now.commits ≡ count)) }
+        ensures steps { steps.new ≤ steps.old + (length self.now.commits / 1024 + 1024) }
+    {
+        let count = self.count();
+        if self.limit <= count {
+            return Err(PushRefused::Full { count });
+        }
+        let commits = self.commits.with(parents, steps)?;
+        Ok(Graph {
+            limit: self.limit,
+            commits,
+        })
     }
 
     /// Whether a commit is another one or lies above it.
@@ -113,9 +139,28 @@ impl Graph {
         requires below { below < length self.now.commits }
         ensures { IfOk result (λ is. is ≡ reaches self.now.commits above below) }
     {
-        self.known();
-        let marks = marks::reached(*self.ends.allocator(), self, above + 1, &[above])?;
-        Ok(marks.get(below as usize).copied().unwrap_or(false))
+        reaches_uncounted::<Brand>(self, above, below, Blank::new(1))
+    }
+
+    /// The same, with a count of steps: a step is one commit taken in the walk. Where `below` has the greater
+    /// number, the answer takes no step.
+    pub fn reaches_counted<L: Ledger>(
+        &self,
+        above: u32,
+        below: u32,
+        steps: &mut Steps<L>,
+    ) -> Result<bool, Memory>
+        requires above { above < length self.now.commits }
+        requires below { below < length self.now.commits }
+        ensures value { IfOk result (λ is. is ≡ reaches self.now.commits above below) }
+        ensures none { above < below → steps.new ≡ steps.old }
+        ensures steps { below ≤ above → steps.new ≤ steps.old + (above - below + 1) }
+    {
+        let alloc = self.commits.alloc();
+        if above < below {
+            return Ok(false);
+        }
+        walk::reaches(alloc, self, above, below, steps)
     }
 
     /// The maximal common ancestors of two lists of commits, by rising number: the commits that both lists
@@ -125,56 +170,78 @@ impl Graph {
         requires right { All (λ n. n < length self.now.commits) right.now }
         ensures { IfOk result (λ listing. listing ≡ maximal_common self.now.commits left.now right.now) }
     {
-        let alloc = *self.ends.allocator();
-        let count = self.count();
-        self.known();
-        let common = marks::common(alloc, self, count, left, right)?;
-        let covered = marks::parents_of_marked(alloc, self, count, &common)?;
-        let numbers = marks::marked_but_not(alloc, count, &common, &covered)?;
-        Ok(Listing::from_vec(numbers))
+        maximal_common_uncounted::<Brand>(self, left, right, Blank::new(1))
     }
 
-    /// The same graph.
+    /// The same, with a count of steps: a step is one commit taken in the walk, and there are at most one more
+    /// than the greatest number in the lists.
+    pub fn maximal_common_counted<L: Ledger>(
+        &self,
+        left: &[u32],
+        right: &[u32],
+        steps: &mut Steps<L>,
+    ) -> Result<Listing<u32>, Memory>
+        requires left { All (λ n. n < length self.now.commits) left.now }
+        requires right { All (λ n. n < length self.now.commits) right.now }
+        ensures value { IfOk result (λ listing. listing ≡ maximal_common self.now.commits left.now right.now) }
+        ensures steps { (greatest : ℕ) → All (λ n. n ≤ greatest) left.now → All (λ n. n ≤ greatest) right.now → steps.new ≤ steps.old + (greatest + 1) }
+    {
+        let mut found = walk::maximal_common(self.commits.alloc(), self, left, right, steps)?;
+        found.reverse();
+        Ok(Listing::from_vec(found))
+    }
+
+    /// The same graph. It shares each chunk.
     pub fn copy(&self) -> Result<Graph, Memory>
         ensures { IfOk result (λ graph. graph ≡ self.now) }
     {
-        Ok(Graph {
-            limit: self.limit,
-            ends: self.ends.clone()?,
-            parents: self.parents.clone()?,
-        })
+        copy_uncounted::<Brand>(self, Blank::new(1))
     }
 }
 
-// Puts a piece behind a list, and its end behind the ends; after an error both are as they were.
-fn add_piece(items: &mut Vec<u32>, ends: &mut Vec<usize>, piece: &[u32]) -> Result<(), AllocError>
-    ensures items { OnOk result (items.new.items ≡ items.old.items ++ piece.now) }
-    ensures ends { OnOk result (ends.new.items ≡ ends.old.items ++ (length items.new.items) ∷ []) }
-    ensures kept { OnErr result ((items.new.items ≡ items.old.items) × (ends.new.items ≡ ends.old.items)) }
+// The same graph, with steps that nobody counts.
+fn copy_uncounted<L: Ledger>(graph: &Graph, blank: Blank) -> Result<Graph, Memory>
+    requires name { blank.name ≡ L.name }
+    requires parts { blank.parts ≡ L.parts }
+    requires some { 0 < blank.parts }
+    ensures { IfOk result (λ copy. copy ≡ graph.now) }
 {
-    ends.reserve(1)?;
-    items.extend_from_slice(piece)?;
-    ends.push(items.len()).unwrap();
-    Ok(())
+    Ok(Graph {
+        limit: graph.limit,
+        commits: graph.commits.copy(&mut Steps::<L>::none(blank))?,
+    })
 }
 
-// The piece with this number, of a list that is cut at these ends.
-#[tactic(auto, using(crate::proofs::Kept::piece_within))]
-fn piece<'a>(items: &'a [u32], ends: &[usize], number: usize) -> &'a [u32]
-    requires there { number < length ends.now }
-    requires cut { AreEnds items.now 0 ends.now }
-    ensures { slice_get (pieces items.now 0 ends.now) number ≡ Some result.now }
+// Whether a commit reaches another, with steps that nobody counts.
+fn reaches_uncounted<L: Ledger>(
+    graph: &Graph,
+    above: u32,
+    below: u32,
+    blank: Blank,
+) -> Result<bool, Memory>
+    requires name { blank.name ≡ L.name }
+    requires parts { blank.parts ≡ L.parts }
+    requires some { 0 < blank.parts }
+    requires above { above < length graph.now.commits }
+    requires below { below < length graph.now.commits }
+    ensures { IfOk result (λ is. is ≡ reaches graph.now.commits above below) }
 {
-    let start = start_of(ends, number);
-    let end = ends[number];
-    &items[start..end]
+    graph.reaches_counted(above, below, &mut Steps::<L>::none(blank))
 }
 
-// Where the piece with this number starts.
-#[tactic(auto, using(crate::proofs::Kept::end_before_zero, crate::proofs::Kept::end_before_at))]
-fn start_of(ends: &[usize], number: usize) -> usize
-    requires { number ≤ length ends.now }
-    ensures { result ≡ end_before 0 ends.now number }
+// The maximal common ancestors, with steps that nobody counts.
+fn maximal_common_uncounted<L: Ledger>(
+    graph: &Graph,
+    left: &[u32],
+    right: &[u32],
+    blank: Blank,
+) -> Result<Listing<u32>, Memory>
+    requires name { blank.name ≡ L.name }
+    requires parts { blank.parts ≡ L.parts }
+    requires some { 0 < blank.parts }
+    requires left { All (λ n. n < length graph.now.commits) left.now }
+    requires right { All (λ n. n < length graph.now.commits) right.now }
+    ensures { IfOk result (λ listing. listing ≡ maximal_common graph.now.commits left.now right.now) }
 {
-    if number == 0 { 0 } else { ends[number - 1] }
+    graph.maximal_common_counted(left, right, &mut Steps::<L>::none(blank))
 }

@@ -2,9 +2,13 @@
 //! commits.
 #![tactic(auto)]
 
+mod chunk;
+mod chunks;
 pub mod graph;
-mod marks;
+pub mod laws;
 #[cfg(test)]
 mod tests;
+mod waiting;
+mod walk;
 
 pub use graph::{Graph, PushRefused};
