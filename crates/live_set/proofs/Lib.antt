@@ -2,7 +2,11 @@ pub mod Order
 pub mod Rising
 pub mod Walked
 pub mod Writing
+pub mod Alike
 pub mod Reading
 pub mod Standing
 pub mod Holding
 pub mod Lengths
+pub mod ShortTexts
+pub mod Unchanged
+pub mod AnyOrder

@@ -86,7 +86,7 @@ module _ {V : Type 0} where
       let clash : Some j.payload ≡ None = sym some ∙ same ∙ none in
       absurd (cc))
 
-  same_entry : (j k : Kept V) → j.time ≡ k.time → j.payload ≡ k.payload → j ≡ k
+  pub same_entry : (j k : Kept V) → j.time ≡ k.time → j.payload ≡ k.payload → j ≡ k
   same_entry j k p q = ap (λ t. entry_of t j.payload) p ∙ ap (λ v. entry_of k.time v) q
 
   -- two lists by rising time that have the same at each time
@@ -167,3 +167,14 @@ module _ {V : Type 0} where
   pub rising-by_time : (ks : List (Kept V)) → IsRising (kept_times (by_time ks))
   rising-by_time [] = tt
   rising-by_time (k ∷ ks) = rising-place k (by_time ks) (rising-by_time ks)
+
+  -- what holds of all times of entries holds of them by rising time
+  pub all_in-by_time : (a : Time → Bool) (ks : List (Kept V)) → AllIn a (kept_times ks) → AllIn a (kept_times (by_time ks))
+  all_in-by_time a [] all = all
+  all_in-by_time a (k ∷ ks) all = all_in-place a k (by_time ks) (all k.time (among-head k.time (kept_times ks))) (all_in-by_time a ks (λ t m. all t (among-tail k.time t (kept_times ks) m)))
+
+  -- an entry that is later than all others stands last
+  pub place-last : (k : Kept V) (ks : List (Kept V)) → AllBefore (kept_times ks) k.time → place k ks ≡ ks ++ k ∷ []
+  place-last k [] before = refl
+  place-last k (j ∷ ks) before =
+      rw (before j.time (among-head j.time (kept_times ks))) (ap (λ is. j ∷ is) (place-last k ks (λ t m. before t (among-tail j.time t (kept_times ks) m))))

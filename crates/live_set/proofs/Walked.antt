@@ -7,8 +7,8 @@ use Rattle.mrdt_model.specs.Executions.{AllIn}
 use Rattle.mrdt_model.proofs.TimeSets.{same_time-eq, same_time-refl}
 use Rattle.mrdt_model.proofs.Executions.{is_earlier-irrefl}
 use Rattle.live_set.specs.declared.kept.Kept.{Kept}
-use Rattle.live_set.specs.Entries.{kept_times, AllBefore, IsRising, payload_at, staying, MergesEntries}
-use Rattle.live_set.specs.Walks.{first_time, earlier_of, payload_first, behind_first, with_payload}
+use Rattle.live_set.specs.Entries.{kept_times, AllBefore, IsRising, payload_at, staying, MergesEntries, with_payload}
+use Rattle.live_set.specs.Walks.{first_time, earlier_of, payload_first, behind_first}
 use Rattle.live_set.proofs.Order.{earlier-trans, earlier-else, not_earlier-trans, other-sym}
 use Rattle.live_set.proofs.Rising.{or_else, among-head, all_in-cons, all_in-append, later-not, payload-none, payload-append, times-append}
 
@@ -154,7 +154,7 @@ module _ {V : Type 0} where
   before_more m behind t (Some v) before later u n =
       subst (λ ts. AllBefore ts u) (sym (times-append m t v)) (all_in-append (λ s. is_earlier s u) (kept_times m) t (λ s i. earlier-trans s t u (before s i) (later u n)) (later u n))
 
-  payload_with : (m : List (Kept V)) (t u : Time) (o : Option V) → payload_at (with_payload m t o) u ≡ or_else (payload_at m u) (cond (same_time u t) o None)
+  pub payload_with : (m : List (Kept V)) (t u : Time) (o : Option V) → payload_at (with_payload m t o) u ≡ or_else (payload_at m u) (cond (same_time u t) o None)
   payload_with m t u None = sym (ap (λ o. or_else (payload_at m u) o) (none (same_time u t)) ∙ or_none (payload_at m u))
     where
       none : (b : Bool) → cond {A = Option V} b None None ≡ None

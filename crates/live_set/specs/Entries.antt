@@ -1,5 +1,5 @@
 -- Entries by time.
-use Rattle.std.specs.Prelude.{◌≡◌, if◌then◌else◌, Option, None, Some, List, [], ◌∷◌, map}
+use Rattle.std.specs.Prelude.{◌≡◌, if◌then◌else◌, Option, None, Some, List, [], ◌∷◌, ◌++◌, map}
 use Rattle.mrdt_model.specs.declared.time.Time.{Time}
 use Rattle.mrdt_model.specs.Times.{same_time, is_earlier}
 use Rattle.mrdt_model.specs.Executions.{AllIn}
@@ -44,3 +44,8 @@ place k (j ∷ entries) = if is_earlier j.time k.time then j ∷ place k entries
 abbrev pub by_time : {V : Type 0} → List (Kept V) → List (Kept V)
 by_time [] = []
 by_time (k ∷ entries) = place k (by_time entries)
+
+-- the entries, and behind them a payload, if there is one
+abbrev pub with_payload : {V : Type 0} → List (Kept V) → Time → Option V → List (Kept V)
+with_payload entries t None = entries
+with_payload entries t (Some v) = entries ++ record { time = t; payload = v } ∷ []

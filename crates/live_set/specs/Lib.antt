@@ -4,3 +4,4 @@ pub mod Spelling
 pub mod Effects
 pub mod Walks
 pub mod Reading
+pub mod UnitReply

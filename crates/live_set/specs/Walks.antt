@@ -1,5 +1,5 @@
 -- The first entries of lists.
-use Rattle.std.specs.Prelude.{if◌then◌else◌, Option, None, Some, List, [], ◌∷◌, ◌++◌}
+use Rattle.std.specs.Prelude.{if◌then◌else◌, Option, None, Some, List, [], ◌∷◌}
 use Rattle.mrdt_model.specs.declared.time.Time.{Time}
 use Rattle.mrdt_model.specs.Times.{same_time, is_earlier}
 use Rattle.live_set.specs.declared.kept.Kept.{Kept}
@@ -23,8 +23,3 @@ payload_first (k ∷ entries) t = if same_time t k.time then Some k.payload else
 abbrev pub behind_first : {V : Type 0} → List (Kept V) → Time → List (Kept V)
 behind_first [] t = []
 behind_first (k ∷ entries) t = if same_time t k.time then entries else k ∷ entries
-
--- the entries, and behind them a payload, if there is one
-abbrev pub with_payload : {V : Type 0} → List (Kept V) → Time → Option V → List (Kept V)
-with_payload entries t None = entries
-with_payload entries t (Some v) = entries ++ record { time = t; payload = v } ∷ []

@@ -1,5 +1,7 @@
 // The live set.
-ghost use Rattle.std.specs.Prelude.{◌≡◌, IfOk};
+ghost use Rattle.std.specs.Prelude.{◌≡◌, ◌↔◌, length, IsTrue, IfOk};
+ghost use Rattle.std.specs.List.{flat_map};
+ghost use Rattle.live_set.specs.Spelling.{kept_spelling};
 
 use crate::kept::Kept;
 use crate::payload::Payload;
@@ -28,18 +30,29 @@ impl<V> Model for Live<V> {
     ghost invariant = { λ l. IsRising (kept_times l.entries.items) };
 }
 
-// Entries of the same times and equal payloads.
+// Equal entries.
 fn copies<V: Payload>(alloc: Global, entries: &[Kept<V>]) -> Result<Vec<Kept<V>>, Memory>
     ensures { IfOk result (λ copied. copied.items ≡ entries.now) }
 {
     let mut copied = Vec::new(alloc);
     for kept in entries {
-        copied.push(Kept {
-            time: kept.time,
-            payload: kept.payload.copy()?,
-        })?;
+        copied.push(kept.copy()?)?;
     }
     Ok(copied)
+}
+
+// Whether as many entries are equal, each to the other at its place.
+fn are_same<V: Payload>(entries: &[Kept<V>], others: &[Kept<V>]) -> bool
+    requires { length entries.now ≡ length others.now }
+    ensures same { IsTrue result ↔ (entries.now ≡ others.now) }
+    ensures spelled { flat_map (kept_spelling V.spelling) entries.now ≡ flat_map (kept_spelling V.spelling) others.now → entries.now ≡ others.now }
+{
+    for index in 0..entries.len() {
+        if !entries[index].same(&others[index]) {
+            return false;
+        }
+    }
+    true
 }
 
 impl<V> Live<V> {
@@ -89,7 +102,7 @@ impl<V: Drop> Live<V> {
         Ok(self.entries.push(Kept { time, payload })?)
     }
 
-    /// Drops all payloads.
+    /// Drops all payloads. It takes no memory.
     pub fn drop_seen(&mut self)
         ensures { self.new ≡ [] }
     {
@@ -98,10 +111,10 @@ impl<V: Drop> Live<V> {
 }
 
 impl<V: Payload> Live<V> {
-    ghost use Rattle.std.specs.Prelude.{◌≡◌, IfOk, OnOk};
+    ghost use Rattle.std.specs.Prelude.{◌≡◌, ◌↔◌, IsTrue, IfOk, OnOk};
+    ghost use Rattle.live_set.specs.Spelling.{live_spelling};
     ghost use Rattle.std.specs.Option.{option_copied};
-    ghost use Rattle.live_set.specs.Entries.{kept_times, AllBefore, IsRising, MergesEntries};
-    ghost use Rattle.live_set.specs.Walks.{with_payload};
+    ghost use Rattle.live_set.specs.Entries.{kept_times, AllBefore, IsRising, MergesEntries, with_payload};
 
     /// The same payloads at the same times.
     pub fn copy(&self) -> Result<Live<V>, Memory>
@@ -111,6 +124,16 @@ impl<V: Payload> Live<V> {
             alloc: self.alloc,
             entries: copies(self.alloc, &self.entries)?,
         })
+    }
+
+    /// Whether the same payloads are at the same times. Live sets that are spelled alike are the same. It takes no
+    /// memory.
+    pub fn same(&self, other: &Live<V>) -> bool
+        ensures same { IsTrue result ↔ (self.now ≡ other.now) }
+        ensures spelled { live_spelling V.spelling self.now ≡ live_spelling V.spelling other.now → self.now ≡ other.now }
+    {
+        let (mine, theirs) = (self.items(), other.items());
+        mine.len() == theirs.len() && are_same(mine, theirs)
     }
 
     // Puts a copy of a payload, if there is one, behind all others.

@@ -40,6 +40,20 @@ fn take_kept<V: Payload>(
     }
 }
 
+// Takes a live set that is spelled at the front.
+fn live_at_front<V: Payload>(alloc: Global, cursor: &mut Cursor<'_>) -> Result<Live<V>, Unread>
+    ensures known { IfOk result (AreLive V.fits) }
+    ensures ok { IfOk result (λ live. cursor.old ≡ live_spelling V.spelling live ++ cursor.new) }
+    ensures outside { IsErrOf result Unread.NotCanonical → (entries : List (SpecKept V)) (rest : List ℕ) → AreLive V.fits entries → cursor.old ≡ live_spelling V.spelling entries ++ rest → ⊥ }
+{
+    let count = cursor.take_u64()?;
+    let mut live = Live::new(alloc);
+    for _index in 0..count {
+        take_kept(alloc, cursor, &mut live)?;
+    }
+    Ok(live)
+}
+
 impl<V: Payload> Live<V> {
     /// Writes the count of the payloads, and the time and the spelling of each, by rising time, at the end of
     /// `out`; after `Memory`, a first part of that.
@@ -55,19 +69,22 @@ impl<V: Payload> Live<V> {
         Ok(())
     }
 
-    /// Takes a live set that is spelled at the front. `NotCanonical` comes exactly where none is: times rise,
-    /// and as many follow as the count says.
+    /// Takes a live set that is spelled at the front, and leaves all bytes where it refuses. `NotCanonical` comes
+    /// exactly where none is spelled there: times rise, and as many follow as the count says.
     pub fn take(alloc: Global, cursor: &mut Cursor<'_>) -> Result<Live<V>, Unread>
         ensures known { IfOk result (AreLive V.fits) }
         ensures ok { IfOk result (λ live. cursor.old ≡ live_spelling V.spelling live ++ cursor.new) }
+        ensures err { OnErr result (cursor.new ≡ cursor.old) }
         ensures outside { IsErrOf result Unread.NotCanonical → (entries : List (SpecKept V)) (rest : List ℕ) → AreLive V.fits entries → cursor.old ≡ live_spelling V.spelling entries ++ rest → ⊥ }
     {
-        let count = cursor.take_u64()?;
-        let mut live = Live::new(alloc);
-        for _index in 0..count {
-            take_kept(alloc, cursor, &mut live)?;
+        let whole = cursor.take_rest();
+        let mut front = Cursor::new(whole);
+        let taken = live_at_front(alloc, &mut front);
+        if taken.is_err() {
+            front = Cursor::new(whole);
         }
-        Ok(live)
+        *cursor = front;
+        taken
     }
 
     /// Reads a live set whose spelling is the whole of the bytes. `NotCanonical` comes exactly where they are

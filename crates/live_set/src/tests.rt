@@ -1,6 +1,6 @@
-use crate::{Live, Payload};
+use crate::{Live, Payload, shared_text};
 use branch_wire::Cursor;
-use mrdt_model::{Bytes, Time, Unread};
+use mrdt_model::{Bytes, Shared, Time, Unread};
 use std::process::Abort;
 
 // Two times with nothing, and one time with the text `v`.
@@ -13,6 +13,19 @@ const TEXT: &[u8] = b"\
 \x00\x00\x00\x00\x00\x00\x00\x01\
 \x00\x00\x00\x00\x00\x00\x00\x01\x00\x00\x00\x02\
 \x00\x00\x00\x00\x00\x00\x00\x01v";
+
+// The text `w` at that time, `v` at a later one, and no text.
+const OTHER_TEXT: &[u8] = b"\
+\x00\x00\x00\x00\x00\x00\x00\x01\
+\x00\x00\x00\x00\x00\x00\x00\x01\x00\x00\x00\x02\
+\x00\x00\x00\x00\x00\x00\x00\x01w";
+
+const LATER: &[u8] = b"\
+\x00\x00\x00\x00\x00\x00\x00\x01\
+\x00\x00\x00\x00\x00\x00\x00\x01\x00\x00\x00\x03\
+\x00\x00\x00\x00\x00\x00\x00\x01v";
+
+const NO_TEXT: &[u8] = b"\x00\x00\x00\x00\x00\x00\x00\x00";
 
 const FALLING: &[u8] = b"\
 \x00\x00\x00\x00\x00\x00\x00\x02\
@@ -52,8 +65,6 @@ fn sides_are_merged(rt: HostRuntime) {
     assert!(rt; items[0].time == at(2, 0));
     assert!(rt; items[1].time == at(3, 1));
     assert!(rt; items[2].time == at(3, 2));
-    left.drop_seen();
-    assert!(rt; left.items().is_empty());
 }
 
 #[test]
@@ -69,19 +80,33 @@ fn live_sets_are_spelled(rt: HostRuntime) {
     assert_eq!(rt; again.items().len(), 2);
     out.clear();
     let mut texts = Live::new(alloc);
-    let text = Bytes::from_slice(alloc, b"v").expect(&rt, "a text");
+    let text = shared_text(alloc, b"v").expect(&rt, "a text");
     texts
         .add(at(1, 2), Payload::copy(&text).expect(&rt, "a copy"))
         .expect(&rt, "the text");
     assert!(rt; texts.put(&mut out).is_ok());
     assert!(rt; out.as_slice() == TEXT);
     let mut cursor = Cursor::new(TEXT);
-    let again: Live<Bytes> = Live::take(alloc, &mut cursor).expect(&rt, "the text");
+    let again: Live<Shared<Bytes>> = Live::take(alloc, &mut cursor).expect(&rt, "the text");
     assert!(rt; cursor.is_at_end());
-    let copied = again.copy().expect(&rt, "a copy");
-    let items = copied.items();
-    assert_eq!(rt; items.len(), 1);
-    assert!(rt; items[0].payload == text);
+    let mut copied = again.copy().expect(&rt, "a copy");
+    assert!(rt; matches!(copied.items(), [kept] if kept.payload == text));
+    copied.drop_seen();
+    assert!(rt; copied.items().is_empty());
+}
+
+// Live sets are the same as themselves alone: times, payloads and their number tell them apart.
+#[test]
+fn live_sets_are_compared(rt: HostRuntime) {
+    let alloc = rt.alloc();
+    let texts = [TEXT, OTHER_TEXT, LATER, NO_TEXT];
+    for (index, bytes) in texts.iter().enumerate() {
+        let live: Live<Shared<Bytes>> = Live::get(alloc, bytes).expect(&rt, "a live set");
+        for (other_index, other_bytes) in texts.iter().enumerate() {
+            let other = Live::get(alloc, other_bytes).expect(&rt, "a live set");
+            assert!(rt; live.same(&other) == (index == other_index));
+        }
+    }
 }
 
 #[test]

@@ -1,3 +1,4 @@
+pub mod Kept
 pub mod Sides
 pub mod SideParts
 pub mod SidesLaws

@@ -1,6 +1,8 @@
 -- What the product of two types means: for each side, its type over the events of that side.
-use Rattle.std.specs.Prelude.{◌≡◌, ℕ, ◌<◌, ◌^◌, ◌⊎◌, Option, None, Some, List, ◌∷◌, ◌++◌, length}
-use Rattle.mrdt_model.specs.Executions.{Event, part_of}
+use Rattle.std.specs.Prelude.{◌≡◌, ℕ, ◌<◌, ◌^◌, ◌⊎◌, false, ◌&&◌, ◌||◌, Option, None, Some, List, ◌∷◌, ◌++◌, length}
+use Rattle.mrdt_model.specs.declared.time.Time.{Time}
+use Rattle.mrdt_model.specs.Times.{among}
+use Rattle.mrdt_model.specs.Executions.{Event, times_of, part_of}
 use Rattle.mrdt_model.specs.Laws.{Meaning}
 use Rattle.branch_wire.specs.Fields.{field}
 use Rattle.mrdt_both.specs.declared.both.Side.{Side}
@@ -32,6 +34,11 @@ first_part x = part_of at_first x
 abbrev pub second_part : {O P R S : Type 0} → List (Event (Side O P) (Side R S)) → List (Event P S)
 second_part x = part_of at_second x
 
+-- There is an event at each time of one side or the other, at no other time, and at no time of both.
+abbrev pub ShareOut : {O P R S : Type 0} → List (Event (Side O P) (Side R S)) → Type 0
+ShareOut x = (t : Time) →
+    (among (times_of x) t ≡ (among (times_of (first_part x)) t || among (times_of (second_part x)) t)) × ((among (times_of (first_part x)) t && among (times_of (second_part x)) t) ≡ false)
+
 -- each side answers, or replies, over its own events
 abbrev pub by_side : {O P R S Q T A B : Type 0} → (List (Event O R) → Q → A) → (List (Event P S) → T → B) → List (Event (Side O P) (Side R S)) → Side Q T → Side A B
 by_side first second x (First q) = First (first (first_part x) q)
@@ -40,6 +47,10 @@ by_side first second x (Second t) = Second (second (second_part x) t)
 -- each value stands for the events of its side
 abbrev pub StandForSides : {V W O P R S : Type 0} → (V → List (Event O R) → Type 0) → (W → List (Event P S) → Type 0) → V × W → List (Event (Side O P) (Side R S)) → Type 0
 StandForSides first second both x = first both.0 (first_part x) × second both.1 (second_part x)
+
+-- the values of each side are the same
+abbrev pub AreSameSides : {V W : Type 0} → (V → V → Type 0) → (W → W → Type 0) → V × W → V × W → Type 0
+AreSameSides first second p q = first p.0 q.0 × second p.1 q.1
 
 -- the first value's spelling behind its length, and the second value's as the rest
 abbrev pub pair_spelling : {V W : Type 0} → (V → List ℕ) → (W → List ℕ) → V → W → List ℕ
@@ -69,6 +80,7 @@ both_meaning m n = record {
   answer_of = by_side m.answer_of n.answer_of;
   spelling_of = λ x. pair_spelling m.spelling_of n.spelling_of (first_part x) (second_part x);
   stands = StandForSides m.stands n.stands;
+  is_same = AreSameSides m.is_same n.is_same;
   state_spelling = λ both. pair_spelling m.state_spelling n.state_spelling both.0 both.1;
   op_spelling = side_spelling m.op_spelling n.op_spelling;
   reply_spelling = side_spelling m.reply_spelling n.reply_spelling;

@@ -1,4 +1,5 @@
 // The product, its operations and its laws.
+use crate::part::{InParts, Part};
 use branch_wire::{Cursor, put_bytes};
 use mrdt_model::{Memory, Mrdt, Time, Unread};
 use std::alloc::Global;
@@ -17,12 +18,12 @@ pub enum Side<X, Y> {
     Second(Y),
 }
 
-/// A value of each of two types. Contracts see the pair.
+/// A value of each of two types. Contracts see the pair. Copies and merges share the values that they do not change.
 #[derive(Drop)]
 pub struct Both<A, B> {
     alloc: Global,
-    first: A,
-    second: B,
+    first: Part<A>,
+    second: Part<B>,
 }
 
 impl<A, B> Model for Both<A, B> {
@@ -48,17 +49,24 @@ impl<A: Mrdt, B: Mrdt> Mrdt for Both<A, B> {
     fn initial(alloc: Global) -> Both<A, B> {
         Both {
             alloc,
-            first: A::initial(alloc),
-            second: B::initial(alloc),
+            first: Part::own(A::initial(alloc)),
+            second: Part::own(B::initial(alloc)),
         }
     }
 
     fn copy(&self) -> Result<Both<A, B>, Memory> {
         Ok(Both {
             alloc: self.alloc,
-            first: self.first.copy()?,
-            second: self.second.copy()?,
+            first: A::copied(self.alloc, &self.first)?,
+            second: B::copied(self.alloc, &self.second)?,
         })
+    }
+
+    fn same(&self, other: &Both<A, B>) -> bool {
+        if !self.first.get().same(other.first.get()) {
+            return false;
+        }
+        self.second.get().same(other.second.get())
     }
 
     fn apply(
@@ -66,11 +74,12 @@ impl<A: Mrdt, B: Mrdt> Mrdt for Both<A, B> {
         op: &Side<A::Op, B::Op>,
         time: Time,
     ) -> Result<(Both<A, B>, Side<A::Reply, B::Reply>), Memory> {
+        let alloc = self.alloc;
         match op {
             Side::First(op) => {
-                let (first, reply) = self.first.apply(op, time)?;
-                let second = self.second.copy()?;
-                let alloc = self.alloc;
+                let (value, reply) = self.first.get().apply(op, time)?;
+                let first = Part::held(alloc, value)?;
+                let second = B::copied(alloc, &self.second)?;
                 Ok((
                     Both {
                         alloc,
@@ -81,9 +90,9 @@ impl<A: Mrdt, B: Mrdt> Mrdt for Both<A, B> {
                 ))
             }
             Side::Second(op) => {
-                let (second, reply) = self.second.apply(op, time)?;
-                let first = self.first.copy()?;
-                let alloc = self.alloc;
+                let (value, reply) = self.second.get().apply(op, time)?;
+                let second = Part::held(alloc, value)?;
+                let first = A::copied(alloc, &self.first)?;
                 Ok((
                     Both {
                         alloc,
@@ -101,10 +110,11 @@ impl<A: Mrdt, B: Mrdt> Mrdt for Both<A, B> {
         left: &Both<A, B>,
         right: &Both<A, B>,
     ) -> Result<Both<A, B>, Memory> {
+        let alloc = left.alloc;
         Ok(Both {
-            alloc: left.alloc,
-            first: A::merge(&base.first, &left.first, &right.first)?,
-            second: B::merge(&base.second, &left.second, &right.second)?,
+            alloc,
+            first: A::merged(alloc, &base.first, &left.first, &right.first)?,
+            second: B::merged(alloc, &base.second, &left.second, &right.second)?,
         })
     }
 
@@ -113,16 +123,16 @@ impl<A: Mrdt, B: Mrdt> Mrdt for Both<A, B> {
         query: &Side<A::Query, B::Query>,
     ) -> Result<Side<A::Answer, B::Answer>, Memory> {
         match query {
-            Side::First(query) => Ok(Side::First(self.first.answer(query)?)),
-            Side::Second(query) => Ok(Side::Second(self.second.answer(query)?)),
+            Side::First(query) => Ok(Side::First(self.first.get().answer(query)?)),
+            Side::Second(query) => Ok(Side::Second(self.second.get().answer(query)?)),
         }
     }
 
     fn put(&self, out: &mut Vec<u8>) -> Result<(), Memory> {
         let mut spelling = Vec::new(self.alloc);
-        self.first.put(&mut spelling)?;
+        self.first.get().put(&mut spelling)?;
         put_bytes(spelling.as_slice(), out)?;
-        self.second.put(out)
+        self.second.get().put(out)
     }
 
     fn get(alloc: Global, bytes: &[u8]) -> Result<Both<A, B>, Unread> {
@@ -131,8 +141,8 @@ impl<A: Mrdt, B: Mrdt> Mrdt for Both<A, B> {
         let second = B::get(alloc, cursor.take_rest())?;
         Ok(Both {
             alloc,
-            first,
-            second,
+            first: Part::held(alloc, first)?,
+            second: Part::held(alloc, second)?,
         })
     }
 
@@ -151,8 +161,8 @@ impl<A: Mrdt, B: Mrdt> Mrdt for Both<A, B> {
 
     fn get_op(alloc: Global, bytes: &[u8]) -> Result<Side<A::Op, B::Op>, Unread> {
         match bytes.split_first() {
-            Some((1, rest)) => Ok(Side::First(A::get_op(alloc, rest)?)),
-            Some((2, rest)) => Ok(Side::Second(B::get_op(alloc, rest)?)),
+            Some((&FIRST, rest)) => Ok(Side::First(A::get_op(alloc, rest)?)),
+            Some((&SECOND, rest)) => Ok(Side::Second(B::get_op(alloc, rest)?)),
             _ => Err(Unread::NotCanonical),
         }
     }
@@ -172,8 +182,8 @@ impl<A: Mrdt, B: Mrdt> Mrdt for Both<A, B> {
 
     fn get_reply(alloc: Global, bytes: &[u8]) -> Result<Side<A::Reply, B::Reply>, Unread> {
         match bytes.split_first() {
-            Some((1, rest)) => Ok(Side::First(A::get_reply(alloc, rest)?)),
-            Some((2, rest)) => Ok(Side::Second(B::get_reply(alloc, rest)?)),
+            Some((&FIRST, rest)) => Ok(Side::First(A::get_reply(alloc, rest)?)),
+            Some((&SECOND, rest)) => Ok(Side::Second(B::get_reply(alloc, rest)?)),
             _ => Err(Unread::NotCanonical),
         }
     }

@@ -4,8 +4,6 @@
 
 pub mod both;
 pub mod laws;
+mod part;
 
 pub use both::{Both, Side};
-
-#[cfg(test)]
-mod tests;

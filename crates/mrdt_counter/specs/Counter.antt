@@ -38,6 +38,7 @@ counter_meaning = record {
   answer_of = λ x query. total x;
   spelling_of = λ x. wide_signed_number (total x);
   stands = StandsFor;
+  is_same = λ c d. c ≡ d;
   state_spelling = wide_signed_number;
   op_spelling = λ op. signed_number (amount op);
   reply_spelling = λ reply. [];

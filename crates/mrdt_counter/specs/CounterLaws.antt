@@ -1,9 +1,26 @@
 -- The laws of the counter.
-use Rattle.std.proofs.Common.{refl, ap}
-use Rattle.mrdt_model.specs.Laws.{KeepsLaws}
-use Rattle.branch_wire.specs.Fields.{wide_signed_number}
-use Rattle.branch_wire.proofs.Numbers.{length-signed_number, length-wide_signed_number}
-use Rattle.mrdt_counter.specs.Counter.{total, amount, counter_meaning}
+use Rattle.std.proofs.Common.{◌≡◌, ℤ, refl, ◌∙◌, ap, sym, arith}
+use Rattle.std.proofs.lemmas.Int.{ints}
+use Rattle.mrdt_model.specs.Laws.{KeepsLaws, Merges}
+use Rattle.branch_wire.specs.Fields.{signed_number, wide_signed_number}
+use Rattle.branch_wire.proofs.Numbers.{length-signed_number, length-wide_signed_number, signed_number-same}
+use Rattle.mrdt_counter.specs.declared.counter.CounterOp.{CounterOp}
+use Rattle.mrdt_counter.specs.declared.counter.CounterOp.TheVariants.{Add}
+use Rattle.mrdt_counter.specs.Counter.{total, amount, IsAmount, counter_meaning}
+use Rattle.mrdt_counter.specs.Sums.{total-union, total-any_order}
+
+one_amount : (o p : CounterOp) → IsAmount o → IsAmount p → signed_number (amount o) ≡ signed_number (amount p) → o ≡ p
+one_amount (Add m) (Add n) fits more is = ap Add (signed_number-same m n fits more is)
+
+left_unchanged : (base left right : ℤ) → base ≡ left → Merges counter_meaning base left right right
+left_unchanged base left right same x a b l in_a in_b is_base is_left is_right =
+    let union = total-union x a b in
+    omega (arith, ints)
+
+right_unchanged : (base left right : ℤ) → base ≡ right → Merges counter_meaning base left right left
+right_unchanged base left right same x a b l in_a in_b is_base is_left is_right =
+    let union = total-union x a b in
+    omega (arith, ints)
 
 pub counter_laws : KeepsLaws counter_meaning
 counter_laws = record {
@@ -12,4 +29,13 @@ counter_laws = record {
   spelling_inside = λ x l short. length-wide_signed_number (total x);
   op_inside = λ o known short. length-signed_number (amount o);
   reply_inside = λ r known short. refl;
+  one_op = λ o p fits more short is. one_amount o p fits more is;
+  one_reply = λ r s fits more short is. refl;
+  same_spelling = λ s t same. ap wide_signed_number same;
+  same_stands = λ s t same. (λ x l is. sym same ∙ is, λ x l is. same ∙ is);
+  unchanged_left = left_unchanged;
+  unchanged_right = right_unchanged;
+  any_order = λ x y l m events.
+      let sums = total-any_order x y l.well_formed m.well_formed events in
+      record { replies = λ o. refl; answers = λ q. sums; spellings = ap wide_signed_number sums };
 }

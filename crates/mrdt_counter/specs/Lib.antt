@@ -1,3 +1,3 @@
 pub mod Counter
-pub mod Totals
+pub mod Sums
 pub mod CounterLaws

@@ -101,6 +101,10 @@ impl Mrdt for Counter {
         Ok(Counter { total: self.total })
     }
 
+    fn same(&self, other: &Counter) -> bool {
+        self.total == other.total
+    }
+
     fn apply(&self, op: &CounterOp, _time: Time) -> Result<(Counter, ()), Memory> {
         Ok((self.added(op.amount()), ()))
     }

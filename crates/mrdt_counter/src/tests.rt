@@ -21,6 +21,7 @@ fn both_sides_are_added(rt: HostRuntime) {
     let both = Counter::merge(&base, &left, &right).expect(&rt, "both");
     assert!(rt; both.answer(&CounterQuery::Value) == Ok(4));
     assert!(rt; both.copy().expect(&rt, "a copy").value() == 4);
+    assert!(rt; both.same(&right.added(2)) && !both.same(&right));
     assert!(rt; Counter::merged(&left, &both, &left).added(-5).value() == -1);
     assert!(rt; CounterOp::Add(i64::MAX).amount() == i64::MAX);
 }

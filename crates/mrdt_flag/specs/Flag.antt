@@ -2,29 +2,22 @@
 use Rattle.std.specs.Prelude.{◌≡◌, ℕ, Bool, ◌⊎◌, List, [], ◌∷◌}
 use Rattle.mrdt_model.specs.Executions.{Event}
 use Rattle.mrdt_model.specs.Laws.{Meaning}
-use Rattle.branch_wire.specs.Reading.{HasLength}
 use Rattle.live_set.specs.declared.kept.Kept.{Kept}
-use Rattle.live_set.specs.Effects.{Effect, Puts, Removes, holds_some, live_of}
+use Rattle.live_set.specs.Effects.{Effect, replacing, removing, holds_some, live_of}
 use Rattle.live_set.specs.Payloads.{IsNothing, nothing_spelling}
 use Rattle.live_set.specs.Spelling.{live_spelling, IsLiveSpelling}
+use Rattle.live_set.specs.UnitReply.{IsAnyReply, no_reply, unit_spelling, IsUnitSpelling}
 use Rattle.mrdt_flag.specs.declared.flag.FlagOp.{FlagOp}
 use Rattle.mrdt_flag.specs.declared.flag.FlagOp.TheVariants.{Enable, Disable}
 use Rattle.mrdt_flag.specs.declared.flag.FlagQuery.{FlagQuery}
 
--- an Enable puts its time with nothing beside it, and a Disable removes
+-- an Enable puts its time, with nothing beside it, in place of all that it has seen, and a Disable takes that away
 abbrev pub flag_effect : FlagOp → Effect (Unit {0})
-flag_effect Enable = Puts tt
-flag_effect Disable = Removes
+flag_effect Enable = replacing tt
+flag_effect Disable = removing
 
 abbrev pub IsAnyOp : FlagOp → Type 0
 IsAnyOp op = Unit {0}
-
-abbrev pub IsAnyReply : Unit {0} → Type 0
-IsAnyReply reply = Unit {0}
-
--- an operation replies nothing
-abbrev pub no_reply : List (Event FlagOp (Unit {0})) → FlagOp → Unit {0}
-no_reply x op = tt
 
 -- some Enable has been seen by no Disable
 abbrev pub is_on : List (Event FlagOp (Unit {0})) → Bool
@@ -60,10 +53,11 @@ flag_meaning = record {
   answer_of = λ x query. is_on x;
   spelling_of = λ x. flag_spelling (enables x);
   stands = StandsFor;
+  is_same = λ s t. s ≡ t;
   state_spelling = flag_spelling;
   op_spelling = op_spelling;
-  reply_spelling = λ reply. [];
+  reply_spelling = unit_spelling;
   is_state_spelling = IsFlagSpelling;
   is_op_spelling = IsOpSpelling;
-  is_reply_spelling = HasLength 0;
+  is_reply_spelling = IsUnitSpelling;
 }

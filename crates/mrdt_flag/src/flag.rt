@@ -1,9 +1,14 @@
 // The flag, its operations and its laws.
 use branch_wire::Cursor;
-use live_set::Live;
+use live_set::{Live, unit_reply};
 use mrdt_model::{Memory, Mrdt, Time, Unread};
 use std::alloc::Global;
 use std::marker::Model;
+
+// The bytes that spell the operations.
+const ENABLE: u8 = 1;
+
+const DISABLE: u8 = 2;
 
 /// An operation of a flag.
 #[derive(Clone, Copy, Debug, PartialEq, Eq)]
@@ -100,6 +105,10 @@ impl Mrdt for Flag {
         })
     }
 
+    fn same(&self, other: &Flag) -> bool {
+        self.enabled.same(&other.enabled)
+    }
+
     fn apply(&self, op: &FlagOp, time: Time) -> Result<(Flag, ()), Memory> {
         match op {
             FlagOp::Enable => Ok((self.enabled(time)?, ())),
@@ -133,8 +142,8 @@ impl Mrdt for Flag {
 
     fn put_op(op: &FlagOp, out: &mut Vec<u8>) -> Result<(), Memory> {
         match op {
-            FlagOp::Enable => Ok(out.push(1)?),
-            FlagOp::Disable => Ok(out.push(2)?),
+            FlagOp::Enable => Ok(out.push(ENABLE)?),
+            FlagOp::Disable => Ok(out.push(DISABLE)?),
         }
     }
 
@@ -142,22 +151,18 @@ impl Mrdt for Flag {
         let mut cursor = Cursor::new(bytes);
         let word = cursor.take_u8()?;
         match word {
-            1 if cursor.is_at_end() => Ok(FlagOp::Enable),
-            2 if cursor.is_at_end() => Ok(FlagOp::Disable),
+            ENABLE if cursor.is_at_end() => Ok(FlagOp::Enable),
+            DISABLE if cursor.is_at_end() => Ok(FlagOp::Disable),
             _ => Err(Unread::NotCanonical),
         }
     }
 
-    fn put_reply(_reply: &(), _out: &mut Vec<u8>) -> Result<(), Memory> {
-        Ok(())
+    fn put_reply(reply: &(), out: &mut Vec<u8>) -> Result<(), Memory> {
+        unit_reply::put(reply, out)
     }
 
     fn get_reply(_alloc: Global, bytes: &[u8]) -> Result<(), Unread> {
-        if bytes.is_empty() {
-            Ok(())
-        } else {
-            Err(Unread::NotCanonical)
-        }
+        unit_reply::get(bytes)
     }
 
     ghost laws = { flag_laws };

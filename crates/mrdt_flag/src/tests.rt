@@ -36,7 +36,10 @@ fn enables_win_until_they_are_seen(rt: HostRuntime) {
         .expect(&rt, "disabled");
     let second = Flag::merge(&right, &first, &newer).expect(&rt, "both");
     assert!(rt; second.answer(&FlagQuery::IsOn) == Ok(false));
-    assert!(rt; first.copy().expect(&rt, "a copy").is_on());
+    let copy = first.copy().expect(&rt, "a copy");
+    assert!(rt; copy.is_on());
+    assert!(rt; first.same(&copy));
+    assert!(rt; !first.same(&second));
     assert!(rt; !first.disabled().is_on());
 }
 
@@ -49,7 +52,9 @@ fn flags_and_operations_are_spelled(rt: HostRuntime) {
         .expect(&rt, "enabled");
     assert!(rt; flag.put(&mut out).is_ok());
     assert!(rt; out.as_slice() == ONE);
-    assert!(rt; Flag::get(alloc, TIMES).expect(&rt, "two times").is_on());
+    let two = Flag::get(alloc, TIMES).expect(&rt, "two times");
+    assert!(rt; two.is_on());
+    assert!(rt; !two.same(&flag));
     assert!(rt; Flag::get(alloc, &TIMES[..31]).is_err());
     out.clear();
     assert!(rt; Flag::put_op(&FlagOp::Enable, &mut out).is_ok());

@@ -1,4 +1,3 @@
 pub mod Log
 pub mod Appends
-pub mod Texts
 pub mod LogLaws

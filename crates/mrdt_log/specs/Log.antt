@@ -1,14 +1,14 @@
 -- What a log means.
-use Rattle.std.specs.Prelude.{◌≡◌, ℕ, List, [], length, map, reverse}
+use Rattle.std.specs.Prelude.{◌≡◌, ℕ, List, length, map, reverse}
 use Rattle.mrdt_model.specs.Spelled.{IsBytes}
 use Rattle.mrdt_model.specs.Executions.{Event}
 use Rattle.mrdt_model.specs.Laws.{Meaning}
 use Rattle.branch_wire.specs.Fields.{field}
-use Rattle.branch_wire.specs.Reading.{HasLength}
 use Rattle.live_set.specs.declared.kept.Kept.{Kept}
 use Rattle.live_set.specs.Entries.{by_time}
 use Rattle.live_set.specs.Payloads.{IsShortText}
 use Rattle.live_set.specs.Spelling.{live_spelling, IsLiveSpelling}
+use Rattle.live_set.specs.UnitReply.{IsAnyReply, no_reply, unit_spelling, IsUnitSpelling}
 use Rattle.mrdt_log.specs.declared.log.LogOp.{LogOp}
 use Rattle.mrdt_log.specs.declared.log.LogOp.TheVariants.{Append}
 use Rattle.mrdt_log.specs.declared.log.LogQuery.{LogQuery}
@@ -36,13 +36,6 @@ abbrev pub log_answer : {R : Type 0} → List (Event LogOp R) → LogQuery → L
 log_answer x Read = OnEntries (reverse (appends x))
 log_answer x Length = OnLength (length (appends x))
 
--- an operation replies nothing
-abbrev pub no_reply : List (Event LogOp (Unit {0})) → LogOp → Unit {0}
-no_reply x op = tt
-
-abbrev pub IsAnyReply : Unit {0} → Type 0
-IsAnyReply reply = Unit {0}
-
 abbrev pub StandsFor : List (Kept (List ℕ)) → List (Event LogOp (Unit {0})) → Type 0
 StandsFor entries x = entries ≡ appends x
 
@@ -54,10 +47,11 @@ log_meaning = record {
   answer_of = log_answer;
   spelling_of = λ x. live_spelling field (appends x);
   stands = StandsFor;
+  is_same = λ s t. s ≡ t;
   state_spelling = live_spelling field;
   op_spelling = payload_of;
-  reply_spelling = λ reply. [];
+  reply_spelling = unit_spelling;
   is_state_spelling = IsLiveSpelling IsShortText field;
   is_op_spelling = IsBytes;
-  is_reply_spelling = HasLength 0;
+  is_reply_spelling = IsUnitSpelling;
 }

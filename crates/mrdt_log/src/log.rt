@@ -1,10 +1,10 @@
 // The log, its operations and its laws.
-ghost use Rattle.std.specs.Prelude.{◌≡◌, [], length, reverse, IfOk};
-ghost use Rattle.live_set.specs.Entries.{kept_times, IsRising, MergesEntries};
+ghost use Rattle.std.specs.Prelude.{◌≡◌, length, reverse, IfOk};
 ghost use Rattle.mrdt_log.specs.Log.{payload_of, IsAppend};
 
-use live_set::{Kept, Live};
-use mrdt_model::{Bytes, Listing, Memory, Mrdt, Time, Unread};
+use live_set::texts::push_texts;
+use live_set::{Kept, Live, shared_text, unit_reply, whole_text};
+use mrdt_model::{Bytes, Listing, Memory, Mrdt, Shared, Time, Unread};
 use std::alloc::Global;
 use std::marker::Model;
 
@@ -12,7 +12,7 @@ use std::marker::Model;
 #[derive(Drop)]
 pub struct Log {
     alloc: Global,
-    entries: Live<Bytes>,
+    entries: Live<Shared<Bytes>>,
 }
 
 impl Model for Log {
@@ -57,42 +57,24 @@ impl LogOp {
     {
         match self {
             LogOp::Append(payload) => {
-                payload.known();
+                let _bytes = payload.as_slice();
                 payload
             }
         }
     }
 }
 
-// The same entries.
-fn copies(alloc: Global, entries: &[Kept<Bytes>]) -> Result<Vec<Kept<Bytes>>, Memory>
-    ensures { IfOk result (λ list. list.items ≡ entries.now) }
-{
-    let mut list = Vec::new(alloc);
-    for kept in entries {
-        list.push(Kept {
-            time: kept.time,
-            payload: kept.payload.copy()?,
-        })?;
-    }
-    Ok(list)
-}
-
-// The entries, the last one first.
-fn newest_first(alloc: Global, entries: &[Kept<Bytes>]) -> Result<Listing<Kept<Bytes>>, Memory>
+// Copies of the entries, the last one first.
+fn newest_first(
+    alloc: Global,
+    entries: &[Kept<Shared<Bytes>>],
+) -> Result<Listing<Kept<Bytes>>, Memory>
     ensures { IfOk result (λ list. list ≡ reverse entries.now) }
 {
-    let mut list = copies(alloc, entries)?;
+    let mut list = Vec::new(alloc);
+    push_texts(entries, &mut list)?;
     list.reverse();
     Ok(Listing::from_vec(list))
-}
-
-// What either of two lists has.
-fn union(alloc: Global, left: &Live<Bytes>, right: &Live<Bytes>) -> Result<Live<Bytes>, Memory>
-    ensures rising { IfOk result (λ live. IsRising (kept_times live)) }
-    ensures entries { IfOk result (MergesEntries [] left.now right.now) }
-{
-    Live::merge(&Live::new(alloc), left, right)
 }
 
 impl Log {
@@ -132,20 +114,25 @@ impl Mrdt for Log {
         })
     }
 
+    fn same(&self, other: &Log) -> bool {
+        self.entries.same(&other.entries)
+    }
+
     fn apply(&self, op: &LogOp, time: Time) -> Result<(Log, ()), Memory> {
         let mut appended = Live::new(self.alloc);
-        appended.add(time, op.payload().copy()?)?;
+        let payload = shared_text(self.alloc, op.payload().as_slice())?;
+        appended.add(time, payload)?;
         let log = Log {
             alloc: self.alloc,
-            entries: union(self.alloc, &self.entries, &appended)?,
+            entries: Live::merge(&Live::new(self.alloc), &self.entries, &appended)?,
         };
         Ok((log, ()))
     }
 
-    fn merge(_base: &Log, left: &Log, right: &Log) -> Result<Log, Memory> {
+    fn merge(base: &Log, left: &Log, right: &Log) -> Result<Log, Memory> {
         Ok(Log {
             alloc: left.alloc,
-            entries: union(left.alloc, &left.entries, &right.entries)?,
+            entries: Live::merge(&base.entries, &left.entries, &right.entries)?,
         })
     }
 
@@ -175,21 +162,15 @@ impl Mrdt for Log {
     }
 
     fn get_op(alloc: Global, bytes: &[u8]) -> Result<LogOp, Unread> {
-        let payload = Bytes::from_slice(alloc, bytes)?;
-        payload.known();
-        Ok(LogOp::Append(payload))
+        Ok(LogOp::Append(whole_text(alloc, bytes)?))
     }
 
-    fn put_reply(_reply: &(), _out: &mut Vec<u8>) -> Result<(), Memory> {
-        Ok(())
+    fn put_reply(reply: &(), out: &mut Vec<u8>) -> Result<(), Memory> {
+        unit_reply::put(reply, out)
     }
 
     fn get_reply(_alloc: Global, bytes: &[u8]) -> Result<(), Unread> {
-        if bytes.is_empty() {
-            Ok(())
-        } else {
-            Err(Unread::NotCanonical)
-        }
+        unit_reply::get(bytes)
     }
 
     ghost laws = { log_laws };

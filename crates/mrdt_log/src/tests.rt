@@ -65,8 +65,23 @@ fn both_appends_are_read_newest_first(rt: HostRuntime) {
     let copy = both.copy().expect(&rt, "a copy");
     assert!(rt; read(alloc, &copy).expect(&rt, "entries").as_slice() == NEWEST_FIRST);
     assert!(rt; copy.length() == 2);
+    assert!(rt; copy.same(&both));
     let answer = copy.answer(&LogQuery::Length).expect(&rt, "a length");
     assert!(rt; matches!(&answer, LogAnswer::OnLength(2)));
+}
+
+// Logs of one payload that differ in it, in its time, and in their lengths.
+#[test]
+fn other_logs_are_not_the_same(rt: HostRuntime) {
+    let alloc = rt.alloc();
+    let base = Log::initial(alloc);
+    let op = append(alloc, b"u").expect(&rt, "an append");
+    let log = after(&base, &op, 1).expect(&rt, "a log");
+    let late = after(&base, &op, 2).expect(&rt, "a log");
+    let other = after(&base, &append(alloc, b"v").expect(&rt, "an append"), 1).expect(&rt, "a log");
+    assert!(rt; !log.same(&late));
+    assert!(rt; !log.same(&other));
+    assert!(rt; !log.same(&base) && !base.same(&log));
 }
 
 #[test]

@@ -1,5 +1,6 @@
-pub mod AtKeys
+pub mod Rebuilt
+pub mod Changed
 pub mod OnKeys
-pub mod Spellings
 pub mod Writing
 pub mod Reading
+pub mod Same

@@ -5,13 +5,11 @@ use Rattle.std.specs.Cmp.Lexicographic.{slice_cmp}
 use Rattle.std.specs.Map.{keys_of}
 use Rattle.std.specs.List.Sorted.{IsStrictlySortedBy}
 use Rattle.mrdt_model.specs.declared.time.Time.{Time}
-use Rattle.mrdt_model.specs.Times.{both, either}
-use Rattle.mrdt_model.specs.Laws.{Meaning, Applies, Merges, StandsAsWell}
-use Rattle.mrdt_model.specs.Executions.{IsClosed, next_event}
-use Rattle.mrdt_model.proofs.Parts.{part-restrict, part-closed, part-after, part-next, part-other}
-use Rattle.mrdt_model.proofs.Executions.{closed_both, closed_either}
+use Rattle.mrdt_model.specs.Laws.{Meaning, Applies, StandsAsWell}
+use Rattle.mrdt_model.specs.Executions.{next_event}
+use Rattle.mrdt_model.proofs.Parts.{part-after, part-next, part-other}
 use Rattle.mrdt_map.specs.declared.map.OnKey.{OnKey}
-use Rattle.mrdt_map.specs.Keyed.{same_key, value_at, at_key, on_key, IsOnKey, StandsAt, MergesAt, CopiesAt, AppliesAt, map_meaning}
+use Rattle.mrdt_map.specs.Keyed.{same_key, value_at, at_key, on_key, IsOnKey, StandsAt, CopiesAt, AppliesAt, map_meaning}
 use Rattle.mrdt_map.specs.Keys.{same_key-eq, same_key-refl, same_key-sym, on_key-lawful}
 
 module _ {V O R Q A : Type 0} (t : Meaning V O R Q A) where
@@ -22,24 +20,10 @@ module _ {V O R Q A : Type 0} (t : Meaning V O R Q A) where
     values = λ k. each k (on_key k x) (on_key-lawful t.is_op t.is_reply t.reply_of k x l) (is.values k);
   }
 
-  pub merges : (base left right new : List (List ℕ × V)) → IsStrictlySortedBy (slice_cmp nat_cmp) (keys_of new) → ((k : List ℕ) → MergesAt t (value_at base k) (value_at left k) (value_at right k) (value_at new k))
-      → Merges (map_meaning t) base left right new
-  merges base left right new sorted each x a b l in_a in_b is_base is_left is_right = record {
-    ordered = sorted;
-    values = λ k.
-        let y = on_key k x in
-        let cut = λ (c : Time → Bool) (closed : IsClosed c x). part-restrict (at_key k) c x closed in
-        subst (StandsAt t.stands (value_at new k)) (sym (cut (either a b) (closed_either a b x in_a in_b)))
-        (each k y a b (on_key-lawful t.is_op t.is_reply t.reply_of k x l) (part-closed (at_key k) a x in_a) (part-closed (at_key k) b x in_b)
-        (subst (StandsAt t.stands (value_at base k)) (cut (both a b) (closed_both a b x in_a in_b)) (is_base.values k))
-        (subst (StandsAt t.stands (value_at left k)) (cut a in_a) (is_left.values k))
-        (subst (StandsAt t.stands (value_at right k)) (cut b in_b) (is_right.values k)));
-  }
-
-  pub applies : (old copy new : List (List ℕ × V)) (o : OnKey O) (time : Time) (v : V) (reply : R) → IsStrictlySortedBy (slice_cmp nat_cmp) (keys_of new)
-      → ((k : List ℕ) → CopiesAt t (value_at old k) (value_at copy k)) → ((k : List ℕ) → value_at new k ≡ cond (same_key o.key k) (Some v) (value_at copy k))
+  pub applies : (old new : List (List ℕ × V)) (o : OnKey O) (time : Time) (v : V) (reply : R) → IsStrictlySortedBy (slice_cmp nat_cmp) (keys_of new)
+      → ((k : List ℕ) → value_at new k ≡ cond (same_key o.key k) (Some v) (value_at old k))
       → AppliesAt t (value_at old o.key) o.operation time v reply → Applies (map_meaning t) old o time new reply
-  applies old copy new o time v reply sorted each set made x l is after = (
+  applies old new o time v reply sorted set made x l is after = (
     here.0,
     record {
       ordered = sorted;
@@ -51,7 +35,7 @@ module _ {V O R Q A : Type 0} (t : Meaning V O R Q A) where
       here = made (on_key o.key x) (on_key-lawful t.is_op t.is_reply t.reply_of o.key x l) (is.values o.key) (part-after (at_key o.key) x time after)
 
       new_at : Some v ≡ value_at new o.key
-      new_at = sym (set o.key ∙ ap (λ p. cond p (Some v) (value_at copy o.key)) (same_key-refl o.key))
+      new_at = sym (set o.key ∙ ap (λ p. cond p (Some v) (value_at old o.key)) (same_key-refl o.key))
 
       own : StandsAt t.stands (value_at new o.key) (on_key o.key (next_event x time o reply ∷ x))
       own =
@@ -66,5 +50,5 @@ module _ {V O R Q A : Type 0} (t : Meaning V O R Q A) where
           let pair : O × R = (o.operation, reply) in
           let not_picked : at_key k o reply ≡ None = ap (λ p. cond p (Some pair) None) (same_key-sym k o.key ∙ e) in
           let same = part-other (at_key k) (IsOnKey t.is_op) t.is_reply x time o reply not_picked in
-          let kept : value_at new k ≡ value_at copy k = set k ∙ ap (λ p. cond p (Some v) (value_at copy k)) e in
-          subst (λ m. StandsAt t.stands m (on_key k (next_event x time o reply ∷ x))) (sym kept) (subst (StandsAt t.stands (value_at copy k)) (sym same) (each k (on_key k x) (on_key-lawful t.is_op t.is_reply t.reply_of k x l) (is.values k)))
+          let kept : value_at new k ≡ value_at old k = set k ∙ ap (λ p. cond p (Some v) (value_at old k)) e in
+          subst (λ m. StandsAt t.stands m (on_key k (next_event x time o reply ∷ x))) (sym kept) (subst (StandsAt t.stands (value_at old k)) (sym same) (is.values k))

@@ -22,7 +22,7 @@ use Rattle.branch_wire.proofs.Lists.{flat_map-front, flat_map-each, flat_map-cou
 use Rattle.mrdt_map.specs.Keyed.{same_key, value_at, entry_spelling, entries_spelling, as_spelled, IsEntry, AreInOrder, IsEntriesSpelling, CopiesAt, map_meaning}
 use Rattle.mrdt_map.specs.Reading.{IsAbove, as_text, IsTaken, TakesEntry, AreTaken}
 use Rattle.mrdt_map.specs.Keys.{same_key-eq}
-use Rattle.mrdt_map.proofs.AtKeys.{copies-some, copies-none}
+use Rattle.mrdt_map.specs.AtKeys.{copies-some, copies-none}
 use Rattle.mrdt_map.proofs.OnKeys.{copies}
 
 abbrev cmp : List ℕ → List ℕ → Ordering
@@ -96,7 +96,7 @@ keys-append : {V : Type 0} (es fs : List (List ℕ × V)) → keys_of (es ++ fs)
 keys-append [] fs = refl
 keys-append (e ∷ es) fs = ap (λ ks. e.0 ∷ ks) (keys-append es fs)
 
-abbrev AreShort : List ℕ × List ℕ → Type 0
+abbrev pub AreShort : List ℕ × List ℕ → Type 0
 AreShort = PairFits {X = List ℕ} {Y = List ℕ} HasLength64 HasLength64
 
 -- entries are read in one way
@@ -178,7 +178,7 @@ module _ {V O R Q A : Type 0} (t : Meaning V O R Q A) where
       at (g ∷ gs) same spelled = let own = so_far.many in absurd (omega (arith, many, own, length-texts es, ap length same, length-append (texts es) (g ∷ gs)))
 
   -- entries that are spelled in fewer than 2 ^ 64 bytes are short
-  counted-short : (es : List (List ℕ × V)) → length (entries_spelling t.state_spelling es) < 2 ^ 64 → AreCounted AreShort (texts es)
+  pub counted-short : (es : List (List ℕ × V)) → length (entries_spelling t.state_spelling es) < 2 ^ 64 → AreCounted AreShort (texts es)
   counted-short es short =
       let spell = entry_spelling t.state_spelling in
       let size = length-counted spell es in
@@ -209,6 +209,14 @@ module _ {V O R Q A : Type 0} (t : Meaning V O R Q A) where
   as_texts : (es : List (List ℕ × V)) → entries_spelling t.state_spelling es ≡ entries_spelling as_spelled (texts es)
   as_texts es = ap (λ n. number n ++ flat_map (entry_spelling t.state_spelling) es) (sym (length-texts es)) ∙ ap (λ b. number (length (texts es)) ++ b) (flat-texts es)
 
+  -- maps that are spelled alike have the same texts
+  pub one-texts : (os es : List (List ℕ × V)) → length (entries_spelling t.state_spelling os) < 2 ^ 64 → entries_spelling t.state_spelling os ≡ entries_spelling t.state_spelling es → texts os ≡ texts es
+  one-texts os es short alike =
+      let os_short = counted-short os short in
+      let es_short = counted-short es (subst (λ b. length b < 2 ^ 64) alike short) in
+      let same : entries_spelling as_spelled (texts os) ++ [] ≡ entries_spelling as_spelled (texts es) ++ [] = ap (λ b. b ++ []) (sym (as_texts os) ∙ alike ∙ as_texts es) in
+      ((counted-one_way AreShort (entry_spelling as_spelled) entries_way).one (texts os) (texts es) [] [] os_short es_short same).0
+
   -- A count and as many entries, with nothing behind them, are the spelling of what was taken.
   pub taken-whole : (whole bytes rest : List ℕ) (n : ℕ) (es : List (List ℕ × V)) → whole ≡ number n ++ bytes → AreTaken t bytes n rest es → rest ≡ [] → whole ≡ entries_spelling t.state_spelling es
   taken-whole whole bytes rest n es is all none =
@@ -228,10 +236,7 @@ module _ {V O R Q A : Type 0} (t : Meaning V O R Q A) where
   pub taken-stands : (whole bytes rest : List ℕ) (n : ℕ) (es os : List (List ℕ × V)) → whole ≡ number n ++ bytes → AreTaken t bytes n rest es → rest ≡ [] → length whole < 2 ^ 64 → entries_spelling t.state_spelling os ≡ whole → StandsAsWell (map_meaning t) os es
   taken-stands whole bytes rest n es os is all none short alike =
       let own = taken-whole whole bytes rest n es is all none in
-      let es_short = counted-short es (subst (λ b. length b < 2 ^ 64) own short) in
-      let os_short = counted-short os (subst (λ b. length b < 2 ^ 64) (sym alike) short) in
-      let same : entries_spelling as_spelled (texts os) ++ [] ≡ entries_spelling as_spelled (texts es) ++ [] = ap (λ b. b ++ []) (sym (as_texts os) ∙ alike ∙ own ∙ as_texts es) in
-      copies t os es all.ordered (copies-texts os es ((counted-one_way AreShort (entry_spelling as_spelled) entries_way).one (texts os) (texts es) [] [] os_short es_short same).0 all.good)
+      copies t os es all.ordered (copies-texts os es (one-texts os es (subst (λ b. length b < 2 ^ 64) (sym alike) short) (alike ∙ own)) all.good)
 
 same_error : {T E : Type 0} (r : Result T E) (y e : E) → r ≡ Err y → r ≡ Err e → y ≡ e
 same_error r y e is other = cc

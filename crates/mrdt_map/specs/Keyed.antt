@@ -69,6 +69,13 @@ AppliesAt {V} {O} {R} m old operation time new reply =
     (y : List (Event O R)) → Lawful m y → StandsAt m.stands old y → IsAfter y time
     → (reply ≡ m.reply_of y operation) × m.stands new (next_event y time operation reply ∷ y)
 
+-- the same keys in the same order, with values that are the same
+abbrev pub AreSameEntries : {V : Type 0} → (V → V → Type 0) → List (List ℕ × V) → List (List ℕ × V) → Type 0
+AreSameEntries same [] [] = Unit {0}
+AreSameEntries same [] (f ∷ fs) = ⊥
+AreSameEntries same (e ∷ es) [] = ⊥
+AreSameEntries same (e ∷ es) (f ∷ fs) = (e.0 ≡ f.0) × same e.1 f.1 × AreSameEntries same es fs
+
 -- the keys with this one in its place, in byte order
 abbrev pub insert_key : List ℕ → List (List ℕ) → List (List ℕ)
 insert_key k [] = k ∷ []
@@ -137,6 +144,7 @@ map_meaning m = record {
   answer_of = key_answer m.answer_of;
   spelling_of = λ x. entries_spelling m.spelling_of (parts x);
   stands = StandsByKey m.stands;
+  is_same = AreSameEntries m.is_same;
   state_spelling = entries_spelling m.state_spelling;
   op_spelling = key_op_spelling m.op_spelling;
   reply_spelling = m.reply_spelling;

@@ -1,4 +1,7 @@
 pub mod Keyed
 pub mod Keys
+pub mod AtKeys
+pub mod OnKeys
 pub mod Touched
+pub mod MapLaws
 pub mod Reading

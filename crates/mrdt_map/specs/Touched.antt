@@ -13,7 +13,7 @@ use Rattle.std.proofs.lemmas.Map.Lookups.{exact_bytes, btree_set_from_contains}
 use Rattle.std.proofs.lemmas.Map.Made.{is_some-lookup}
 use Rattle.mrdt_model.specs.Spelled.{IsBytes}
 use Rattle.branch_wire.specs.Fields.{number, field}
-use Rattle.branch_wire.proofs.Numbers.{length-number, length-field}
+use Rattle.branch_wire.proofs.Numbers.{length-field}
 use Rattle.mrdt_model.specs.Laws.{Meaning, KeepsLaws, Lawful}
 use Rattle.mrdt_model.specs.Executions.{Event, IsWellFormed, add_part}
 use Rattle.mrdt_map.specs.declared.map.OnKey.{OnKey}
@@ -91,7 +91,7 @@ insert_key-any : (q k : List ℕ) (ks : List (List ℕ)) → list_any (same_key 
 insert_key-any q k [] = refl
 insert_key-any q k (j ∷ ks) = step_any (cmp k j) q k j ks (insert_key k ks) refl (insert_key-any q k ks)
 
-abbrev not_empty : {A : Type 0} → List A → Bool
+abbrev pub not_empty : {A : Type 0} → List A → Bool
 not_empty [] = false
 not_empty (x ∷ xs) = true
 
@@ -144,9 +144,18 @@ insert_key-length : (k : List ℕ) (ks : List (List ℕ)) → length (insert_key
 insert_key-length k [] = omega arith
 insert_key-length k (j ∷ ks) = let h = step_length (cmp k j) k j ks (insert_key k ks) (insert_key-length k ks) in omega (arith, h)
 
-touched-length : {O R : Type 0} (x : List (Event (OnKey O) R)) → length (touched x) ≤ length x
+pub touched-length : {O R : Type 0} (x : List (Event (OnKey O) R)) → length (touched x) ≤ length x
 touched-length [] = omega arith
 touched-length (e ∷ x) = let h = insert_key-length e.operation.key (touched x) in let i = touched-length x in omega (arith, h, i)
+
+module _ {O R : Type 0} where
+  -- some keys with the events on them
+  abbrev pub parts_at : List (Event (OnKey O) R) → List (List ℕ) → List (List ℕ × List (Event O R))
+  parts_at x ks = map {B = List ℕ × List (Event O R)} (λ k. (k, on_key k x)) ks
+
+  pub parts-length : (x : List (Event (OnKey O) R)) (ks : List (List ℕ)) → length (parts_at x ks) ≡ length ks
+  parts-length x [] = refl
+  parts-length x (k ∷ ks) = ap suc (parts-length x ks)
 
 module _ {V O R Q A : Type 0} (t : Meaning V O R Q A) (laws : KeepsLaws t) where
   each_spelling : (entries : List (List ℕ × V)) (x : List (Event (OnKey O) R)) → Lawful (map_meaning t) x → StandsByKey t.stands entries x → (es : List (List ℕ × V)) → AllByRecursion (λ (e : List ℕ × V). value_at entries e.0 ≡ Some e.1) es
@@ -155,9 +164,6 @@ module _ {V O R Q A : Type 0} (t : Meaning V O R Q A) (laws : KeepsLaws t) where
   each_spelling entries x l is (e ∷ es) h =
       let at : StandsAt t.stands (Some e.1) (on_key e.0 x) = subst (λ o. StandsAt t.stands o (on_key e.0 x)) h.0 (is.values e.0) in
       (laws.one_spelling e.1 (on_key e.0 x) (on_key-lawful t.is_op t.is_reply t.reply_of e.0 x l) at.1, each_spelling entries x l is es h.1)
-
-  abbrev parts_at : List (Event (OnKey O) R) → List (List ℕ) → List (List ℕ × List (Event O R))
-  parts_at x ks = map {B = List ℕ × List (Event O R)} (λ k. (k, on_key k x)) ks
 
   flat_spelling : (x : List (Event (OnKey O) R)) (es : List (List ℕ × V)) → AllByRecursion (λ (e : List ℕ × V). t.state_spelling e.1 ≡ t.spelling_of (on_key e.0 x)) es
       → flat_map (entry_spelling t.state_spelling) es ≡ flat_map (entry_spelling t.spelling_of) (parts_at x (keys_of es))
@@ -179,27 +185,23 @@ module _ {V O R Q A : Type 0} (t : Meaning V O R Q A) (laws : KeepsLaws t) where
       ∙ ap (λ ks. entries_spelling t.spelling_of (parts_at x ks)) (keys-touched t.stands entries x is)
 
   -- the entries as texts
-  abbrev texts : List (Event (OnKey O) R) → List (List ℕ) → List (List ℕ × List ℕ)
+  abbrev pub texts : List (Event (OnKey O) R) → List (List ℕ) → List (List ℕ × List ℕ)
   texts x ks = map {B = List ℕ × List ℕ} (λ k. (k, t.spelling_of (on_key k x))) ks
 
-  as-texts : (x : List (Event (OnKey O) R)) (ks : List (List ℕ)) → flat_map (entry_spelling t.spelling_of) (parts_at x ks) ≡ flat_map (entry_spelling as_spelled) (texts x ks)
+  pub as-texts : (x : List (Event (OnKey O) R)) (ks : List (List ℕ)) → flat_map (entry_spelling t.spelling_of) (parts_at x ks) ≡ flat_map (entry_spelling as_spelled) (texts x ks)
   as-texts x [] = refl
   as-texts x (k ∷ ks) = ap (λ rest. (field k ++ field (t.spelling_of (on_key k x))) ++ rest) (as-texts x ks)
 
-  parts-length : (x : List (Event (OnKey O) R)) (ks : List (List ℕ)) → length (parts_at x ks) ≡ length ks
-  parts-length x [] = refl
-  parts-length x (k ∷ ks) = ap suc (parts-length x ks)
-
-  texts-length : (x : List (Event (OnKey O) R)) (ks : List (List ℕ)) → length (texts x ks) ≡ length ks
+  pub texts-length : (x : List (Event (OnKey O) R)) (ks : List (List ℕ)) → length (texts x ks) ≡ length ks
   texts-length x [] = refl
   texts-length x (k ∷ ks) = ap suc (texts-length x ks)
 
-  texts-keys : (x : List (Event (OnKey O) R)) (ks : List (List ℕ)) → keys_of (texts x ks) ≡ ks
+  pub texts-keys : (x : List (Event (OnKey O) R)) (ks : List (List ℕ)) → keys_of (texts x ks) ≡ ks
   texts-keys x [] = refl
   texts-keys x (k ∷ ks) = ap (λ rest. k ∷ rest) (texts-keys x ks)
 
   -- each text is in the grammar where all together are not too long
-  texts-inside : (x : List (Event (OnKey O) R)) (ks : List (List ℕ)) → Lawful (map_meaning t) x → AllByRecursion IsBytes ks → length (flat_map (entry_spelling as_spelled) (texts x ks)) < 2 ^ 64
+  pub texts-inside : (x : List (Event (OnKey O) R)) (ks : List (List ℕ)) → Lawful (map_meaning t) x → AllByRecursion IsBytes ks → length (flat_map (entry_spelling as_spelled) (texts x ks)) < 2 ^ 64
       → AllByRecursion (IsEntry t.is_state_spelling) (texts x ks)
   texts-inside x [] l known short = tt
   texts-inside x (k ∷ ks) l known short =
@@ -210,33 +212,6 @@ module _ {V O R Q A : Type 0} (t : Meaning V O R Q A) (laws : KeepsLaws t) where
       let value_short : length value < 2 ^ 64 = omega (arith, size, short) in
       (((known.0, omega (arith, size, short)), value_short, laws.spelling_inside (on_key k x) (on_key-lawful t.is_op t.is_reply t.reply_of k x l) value_short), texts-inside x ks l known.1 (omega (arith, size, short)))
 
-  touched-known : (x : List (Event (OnKey O) R)) → IsWellFormed (IsOnKey t.is_op) t.is_reply x → AllByRecursion IsBytes (touched x)
+  pub touched-known : (x : List (Event (OnKey O) R)) → IsWellFormed (IsOnKey t.is_op) t.is_reply x → AllByRecursion IsBytes (touched x)
   touched-known [] w = tt
   touched-known (e ∷ x) w = insert_key-all IsBytes e.operation.key (touched x) w.0.operation.0 (touched-known x w.1)
-
-  -- the laws of a map
-  pub map_laws : KeepsLaws (map_meaning t)
-  map_laws = record {
-    one_spelling = entries-one_spelling;
-    replies_in_range = λ x o l known. laws.replies_in_range (on_key o.key x) o.operation (on_key-lawful t.is_op t.is_reply t.reply_of o.key x l) known.1;
-    spelling_inside = λ x l short.
-        let ks = touched x in
-        let shape = as-texts x ks in
-        let few : length x < 2 ^ 32 = l.few in
-        let at_most = touched-length x in
-        let count : length (texts x ks) < 2 ^ 64 = omega (arith, few, at_most, texts-length x ks) in
-        let flat = flat_map (entry_spelling t.spelling_of) (parts_at x ks) in
-        let text = flat_map (entry_spelling as_spelled) (texts x ks) in
-        let head = number (length (parts_at x ks)) in
-        let size : length (head ++ flat) ≡ 8 + length flat = length-append head flat ∙ ap (λ n. n + length flat) (length-number (length (parts_at x ks))) in
-        let text_short : length text < 2 ^ 64 = omega (arith, size, short, ap length shape) in (
-          texts x ks,
-          (count, (subst (IsStrictlySortedBy cmp) (sym (texts-keys x ks)) (touched-sorted x), texts-inside x ks l (touched-known x l.well_formed) text_short)),
-          ap (λ rest. head ++ rest) shape ∙ ap (λ n. number n ++ text) (parts-length x ks ∙ sym (texts-length x ks)),
-        );
-    op_inside = λ o known short.
-        let rest = t.op_spelling o.operation in
-        let size : length (field o.key ++ rest) ≡ 8 + length o.key + length rest = length-append (field o.key) rest ∙ ap (λ n. n + length rest) (length-field o.key) in
-        (o.key, rest, (known.0, (omega (arith, size, short))), laws.op_inside o.operation known.1 (omega (arith, size, short)), refl);
-    reply_inside = laws.reply_inside;
-  }

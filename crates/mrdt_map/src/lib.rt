@@ -7,6 +7,3 @@ pub mod map;
 mod spelling;
 
 pub use map::{Map, MapAnswer, MapQuery, OnKey};
-
-#[cfg(test)]
-mod tests;

@@ -1,8 +1,8 @@
 // The map, its operations and its laws.
-use crate::entries::{AtKeys, keys_in_order, set_value};
+use crate::entries::{AtKeys, Table, keys_in_order, set_value, shared};
 use crate::spelling::Entries;
 use branch_wire::{Cursor, put_bytes};
-use mrdt_model::{Bytes, Listing, Memory, Mrdt, Time, Unread};
+use mrdt_model::{Bytes, Listing, Memory, Mrdt, Shared, Time, Unread};
 use std::alloc::Global;
 use std::collections::BTreeMap;
 use std::marker::Model;
@@ -35,11 +35,11 @@ pub enum MapAnswer<A> {
 }
 
 /// A value for each key that an operation has touched, also where that value is the initial one. Contracts see
-/// the keys, in byte order, with their values.
+/// the keys, in byte order, with their values. Copies and merges share the values that they do not change.
 #[derive(Drop)]
 pub struct Map<T> {
     alloc: Global,
-    entries: BTreeMap<Bytes, T>,
+    entries: Table<T>,
 }
 
 impl<T> Model for Map<T> {
@@ -52,7 +52,7 @@ impl<T> Model for Map<T> {
 
 impl<T: Mrdt> Mrdt for Map<T> {
     ghost use Rattle.mrdt_map.specs.Keyed.{map_meaning};
-    ghost use Rattle.mrdt_map.specs.Touched.{map_laws};
+    ghost use Rattle.mrdt_map.specs.MapLaws.{map_laws};
 
     type Op = OnKey<T::Op>;
 
@@ -74,30 +74,31 @@ impl<T: Mrdt> Mrdt for Map<T> {
     fn copy(&self) -> Result<Map<T>, Memory> {
         Ok(Map {
             alloc: self.alloc,
-            entries: T::copied(self.alloc, &self.entries)?,
+            entries: shared(&self.entries)?,
         })
     }
 
+    fn same(&self, other: &Map<T>) -> bool {
+        T::are_same(&self.entries, &other.entries)
+    }
+
     fn apply(&self, op: &OnKey<T::Op>, time: Time) -> Result<(Map<T>, T::Reply), Memory> {
-        op.key.known();
-        let mut entries = T::copied(self.alloc, &self.entries)?;
-        let (value, reply) = T::apply_at(
-            self.alloc,
-            self.entries.get(&op.key),
-            &op.operation,
-            time,
-        )?;
-        set_value(&mut entries, &op.key, value)?;
-        Ok((
-            Map {
-                alloc: self.alloc,
-                entries,
-            },
-            reply,
-        ))
+        let _bytes = op.key.as_slice();
+        let alloc = self.alloc;
+        let key = Shared::new(alloc, op.key.copy()?)?;
+        let (value, reply) = T::apply_at(alloc, self.entries.get(&key), &op.operation, time)?;
+        let mut entries = shared(&self.entries)?;
+        set_value(&mut entries, key, Shared::new(alloc, value)?)?;
+        Ok((Map { alloc, entries }, reply))
     }
 
     fn merge(base: &Map<T>, left: &Map<T>, right: &Map<T>) -> Result<Map<T>, Memory> {
+        if base.same(left) {
+            return right.copy();
+        }
+        if base.same(right) {
+            return left.copy();
+        }
         Ok(Map {
             alloc: left.alloc,
             entries: T::merged(left.alloc, &base.entries, &left.entries, &right.entries)?,
@@ -107,7 +108,8 @@ impl<T: Mrdt> Mrdt for Map<T> {
     fn answer(&self, query: &MapQuery<T::Query>) -> Result<MapAnswer<T::Answer>, Memory> {
         match query {
             MapQuery::AtKey(key, query) => {
-                Ok(MapAnswer::OnValue(T::answer_at(self.alloc, self.entries.get(key), query)?))
+                let key = Shared::new(self.alloc, key.copy()?)?;
+                Ok(MapAnswer::OnValue(T::answer_at(self.alloc, self.entries.get(&key), query)?))
             }
             MapQuery::Keys => Ok(MapAnswer::OnKeys(keys_in_order(self.alloc, &self.entries)?)),
         }
@@ -136,7 +138,7 @@ impl<T: Mrdt> Mrdt for Map<T> {
     fn get_op(alloc: Global, bytes: &[u8]) -> Result<OnKey<T::Op>, Unread> {
         let mut cursor = Cursor::new(bytes);
         let key = Bytes::from_slice(alloc, cursor.take_bytes()?)?;
-        key.known();
+        let _bytes = key.as_slice();
         let operation = T::get_op(alloc, cursor.take_rest())?;
         Ok(OnKey { key, operation })
     }

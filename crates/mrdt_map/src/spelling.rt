@@ -8,14 +8,15 @@ ghost use Rattle.mrdt_model.specs.Spelled.{AppendsPart};
 ghost use Rattle.mrdt_map.specs.Keyed.{entry_spelling, entries_spelling, as_spelled, IsEntry, AreInOrder};
 ghost use Rattle.mrdt_map.specs.Reading.{IsAbove, TakesEntry, AreTaken};
 
+use crate::entries::Table;
 use branch_wire::{Cursor, put_bytes, put_u64};
-use mrdt_model::{Bytes, Memory, Mrdt, Unread};
+use mrdt_model::{Bytes, Memory, Mrdt, Shared, Unread};
 use std::alloc::Global;
 use std::cmp::Ordering;
 use std::collections::BTreeMap;
 
 // Whether the key is above all keys of the table.
-fn is_above<T>(key: &Bytes, table: &BTreeMap<Bytes, T>) -> bool
+fn is_above<T>(key: &Shared<Bytes>, table: &Table<T>) -> bool
     ensures { IsTrue result ↔ IsAbove key.now (keys table.now) }
 {
     match table.last_key_value() {
@@ -25,7 +26,11 @@ fn is_above<T>(key: &Bytes, table: &BTreeMap<Bytes, T>) -> bool
 }
 
 // Puts an entry behind all others.
-fn put_behind<T: Drop>(table: &mut BTreeMap<Bytes, T>, key: Bytes, value: T) -> Result<(), Memory>
+fn put_behind<T: Drop>(
+    table: &mut Table<T>,
+    key: Shared<Bytes>,
+    value: Shared<T>,
+) -> Result<(), Memory>
     requires { IsAbove key (keys table.old) }
     ensures entries { OnOk result (table.new.entries ≡ table.old.entries ++ (key, value) ∷ []) }
     ensures ordered { OnOk result (IsOrdered (slice_cmp nat_cmp) table.new) }
@@ -38,22 +43,25 @@ fn put_behind<T: Drop>(table: &mut BTreeMap<Bytes, T>, key: Bytes, value: T) -> 
 // `AtKeys` has.
 pub(crate) trait Entries: Mrdt {
     // Writes a key and its value's spelling, each behind its length.
-    fn put_entry(alloc: Global, key: &Bytes, value: &Self, out: &mut Vec<u8>) -> Result<(), Memory>
+    fn put_entry(
+        alloc: Global,
+        key: &Shared<Bytes>,
+        value: &Shared<Self>,
+        out: &mut Vec<u8>,
+    ) -> Result<(), Memory>
         ensures ok { OnOk result (out.new.items ≡ out.old.items ++ entry_spelling Self.meaning.state_spelling (key.now, value.now)) }
         ensures err { OnErr result (AppendsPart out.old.items out.new.items (entry_spelling Self.meaning.state_spelling (key.now, value.now))) }
     {
+        let own = value.get();
+        let name = key.get();
         let mut spelling = Vec::new(alloc);
-        value.put(&mut spelling)?;
-        put_bytes(key.as_slice(), out)?;
+        own.put(&mut spelling)?;
+        put_bytes(name.as_slice(), out)?;
         put_bytes(spelling.as_slice(), out)
     }
 
     // Writes the count of the entries, and the entries in the order of their keys.
-    fn put_entries(
-        alloc: Global,
-        table: &BTreeMap<Bytes, Self>,
-        out: &mut Vec<u8>,
-    ) -> Result<(), Memory>
+    fn put_entries(alloc: Global, table: &Table<Self>, out: &mut Vec<u8>) -> Result<(), Memory>
         ensures ok { OnOk result (out.new.items ≡ out.old.items ++ entries_spelling Self.meaning.state_spelling table.now.entries) }
         ensures err { OnErr result (AppendsPart out.old.items out.new.items (entries_spelling Self.meaning.state_spelling table.now.entries)) }
     {
@@ -68,15 +76,18 @@ pub(crate) trait Entries: Mrdt {
     fn take_entry(
         alloc: Global,
         cursor: &mut Cursor<'_>,
-        table: &mut BTreeMap<Bytes, Self>,
+        table: &mut Table<Self>,
     ) -> Result<(), Unread>
         ensures ok { OnOk result (TakesEntry Self.meaning cursor.old table.old.entries cursor.new table.new.entries) }
         ensures ordered { OnOk result (IsOrdered (slice_cmp nat_cmp) table.new) }
         ensures outside { IsErrOf result Unread.NotCanonical → (e : List ℕ × List ℕ) (rest : List ℕ) → IsEntry Self.meaning.is_state_spelling e → IsAbove e.0 (keys table.old) → cursor.old ≡ entry_spelling as_spelled e ++ rest → ⊥ }
     {
-        let key = Bytes::from_slice(alloc, cursor.take_bytes()?)?;
-        key.known();
-        let value = Self::get(alloc, cursor.take_bytes()?)?;
+        let name = cursor.take_bytes()?;
+        let text = cursor.take_bytes()?;
+        let key = Bytes::from_slice(alloc, name)?;
+        let _bytes = key.as_slice();
+        let key = Shared::new(alloc, key)?;
+        let value = Shared::new(alloc, Self::get(alloc, text)?)?;
         if is_above(&key, table) {
             Ok(put_behind(table, key, value)?)
         } else {
@@ -89,7 +100,7 @@ pub(crate) trait Entries: Mrdt {
         alloc: Global,
         cursor: &mut Cursor<'_>,
         count: u64,
-    ) -> Result<BTreeMap<Bytes, Self>, Unread>
+    ) -> Result<Table<Self>, Unread>
         ensures ok { IfOk result (λ table. AreTaken Self.meaning cursor.old count cursor.new table.entries) }
         ensures outside { IsErrOf result Unread.NotCanonical → (es : List (List ℕ × List ℕ)) (rest : List ℕ) → AreInOrder Self.meaning.is_state_spelling es → length es ≡ count → cursor.old ≡ flat_map (entry_spelling as_spelled) es ++ rest → ⊥ }
     {

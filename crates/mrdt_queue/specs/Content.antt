@@ -6,17 +6,19 @@ use Rattle.mrdt_model.specs.declared.time.Time.{Time}
 use Rattle.mrdt_model.specs.Times.{IsTime, both, either, same_time, is_earlier, among}
 use Rattle.mrdt_model.specs.Executions.{Event, times_of, restrict, AllIn, IsClosed, IsWellFormed, IsFaithful, IsAfter, next_event}
 use Rattle.mrdt_model.proofs.TimeSets.{same_time-eq}
+use Rattle.mrdt_model.specs.Laws.{Merges}
 use Rattle.mrdt_model.proofs.Executions.{is_earlier-irrefl}
 use Rattle.live_set.specs.declared.kept.Kept.{Kept}
 use Rattle.live_set.specs.Entries.{kept_times, AllBefore, IsRising, payload_at, staying, place, by_time, MergesEntries}
+use Rattle.live_set.proofs.Lengths.{each-by_time}
+use Rattle.live_set.proofs.ShortTexts.{IsKnown}
 use Rattle.live_set.proofs.Order.{earlier-trans}
 use Rattle.live_set.proofs.Rising.{same_entries, payload-by_time, rising-by_time, payload-none, later-not, among-head, among-tail, all_in-cons}
 use Rattle.mrdt_queue.specs.declared.op.QueueOp.{QueueOp}
 use Rattle.mrdt_queue.specs.declared.op.QueueOp.TheVariants.{Enqueue, Dequeue}
 use Rattle.mrdt_queue.specs.declared.op.QueueReply.{QueueReply}
 use Rattle.mrdt_queue.specs.declared.op.QueueReply.TheVariants.{Enqueued, Took}
-use Rattle.mrdt_queue.specs.Queue.{IsOp, IsReply, add_enqueue, enqueues, names, is_taken, content, TakesFirst, first_of, reply_to, queue_reply}
-use Rattle.mrdt_queue.specs.Texts.{IsKnown, all-by_time}
+use Rattle.mrdt_queue.specs.Queue.{IsOp, IsReply, add_enqueue, enqueues, names, is_taken, content, TakesFirst, first_of, reply_to, queue_reply, queue_meaning}
 
 abbrev Texts : Type 0
 Texts = List (Kept (List ℕ))
@@ -94,7 +96,7 @@ taken-within a b (e ∷ x) t sub h =
     (or_cases (b e.time && n) (is_taken (restrict b x) t) (sym (taken_step (b e.time) e (restrict b x) t) ∙ h))
 
 -- the content at a time
-payload-content : (x : Events) (t : Time) → payload_at (content x) t ≡ cond (not (is_taken x t)) (payload_at (enqueues x) t) None
+pub payload-content : (x : Events) (t : Time) → payload_at (content x) t ≡ cond (not (is_taken x t)) (payload_at (enqueues x) t) None
 payload-content x t = payload-by_time (filter (λ k. not (is_taken x k.time)) (enqueues x)) t ∙ kept-filter (λ s. not (is_taken x s)) (enqueues x) t
 
 content-at : (a : Time → Bool) (x : Events) (t : Time) → payload_at (content (restrict a x)) t ≡ cond (not (is_taken (restrict a x) t)) (cond (a t) (payload_at (enqueues x) t) None) None
@@ -173,6 +175,61 @@ content-union x a b merged faithful closed_a closed_b rising is =
     ∙ ap (λ n. cond (not n) (cond (a t || b t) o None) None) (sym (taken-either a b x t))
     ∙ sym (content-at (either a b) x t))
 
+-- where a base and a left side have the same at a time, the right side has what the union has
+left_alike : (a b l r m : Bool) (o : Option (List ℕ)) → (m ≡ true → l ≡ true) → (m ≡ true → r ≡ true) → (l ≡ true → a ≡ true) → (r ≡ true → b ≡ true)
+    → cond (not m) (cond (a && b) o None) None ≡ cond (not l) (cond a o None) None → cond (not r) (cond b o None) None ≡ cond (not (l || r)) (cond (a || b) o None) None
+left_alike a b true true m o f g p q same = refl
+left_alike a b false true m o f g p q same = refl
+left_alike a b l false true o f g p q same = let clash : false ≡ true = g refl in cc
+left_alike true true true false false o f g p q same = same
+left_alike true false true false false o f g p q same = refl
+left_alike false b true false false o f g p q same = let clash : false ≡ true = p refl in cc
+left_alike true true false false false o f g p q same = refl
+left_alike true false false false false o f g p q same = same
+left_alike false true false false false o f g p q same = refl
+left_alike false false false false false o f g p q same = refl
+
+-- and the other way round
+right_alike : (a b l r m : Bool) (o : Option (List ℕ)) → (m ≡ true → l ≡ true) → (m ≡ true → r ≡ true) → (l ≡ true → a ≡ true) → (r ≡ true → b ≡ true)
+    → cond (not m) (cond (a && b) o None) None ≡ cond (not r) (cond b o None) None → cond (not l) (cond a o None) None ≡ cond (not (l || r)) (cond (a || b) o None) None
+right_alike a b true r m o f g p q same = refl
+right_alike a b false r true o f g p q same = let clash : false ≡ true = f refl in cc
+right_alike true true false true false o f g p q same = same
+right_alike false true false true false o f g p q same = refl
+right_alike a false false true false o f g p q same = let clash : false ≡ true = q refl in cc
+right_alike true b false false false o f g p q same = refl
+right_alike false true false false false o f g p q same = same
+right_alike false false false false false o f g p q same = refl
+
+-- where one side is the base, the other is the union
+pub unchanged-left : (base left right : Texts) → base ≡ left → Merges queue_meaning base left right right
+unchanged-left base left right same x a b lawful closed_a closed_b is_base is_left is_right =
+    is_right
+    ∙ same_entries (content (restrict b x)) (content (restrict (either a b) x)) (content-rising (restrict b x)) (content-rising (restrict (either a b) x)) (λ t.
+    content-at b x t
+    ∙ left_alike (a t) (b t) (is_taken (restrict a x) t) (is_taken (restrict b x) t) (is_taken (restrict (both a b) x) t) (payload_at (enqueues x) t)
+    (taken-within a (both a b) x t (λ s h. (and_parts (a s) (b s) h).0))
+    (taken-within b (both a b) x t (λ s h. (and_parts (a s) (b s) h).1))
+    (taken-inside a x t lawful.faithful closed_a)
+    (taken-inside b x t lawful.faithful closed_b)
+    (sym (content-at (both a b) x t) ∙ ap (λ ks. payload_at ks t) (sym is_base ∙ same ∙ is_left) ∙ content-at a x t)
+    ∙ ap (λ n. cond (not n) (cond (a t || b t) (payload_at (enqueues x) t) None) None) (sym (taken-either a b x t))
+    ∙ sym (content-at (either a b) x t))
+
+pub unchanged-right : (base left right : Texts) → base ≡ right → Merges queue_meaning base left right left
+unchanged-right base left right same x a b lawful closed_a closed_b is_base is_left is_right =
+    is_left
+    ∙ same_entries (content (restrict a x)) (content (restrict (either a b) x)) (content-rising (restrict a x)) (content-rising (restrict (either a b) x)) (λ t.
+    content-at a x t
+    ∙ right_alike (a t) (b t) (is_taken (restrict a x) t) (is_taken (restrict b x) t) (is_taken (restrict (both a b) x) t) (payload_at (enqueues x) t)
+    (taken-within a (both a b) x t (λ s h. (and_parts (a s) (b s) h).0))
+    (taken-within b (both a b) x t (λ s h. (and_parts (a s) (b s) h).1))
+    (taken-inside a x t lawful.faithful closed_a)
+    (taken-inside b x t lawful.faithful closed_b)
+    (sym (content-at (both a b) x t) ∙ ap (λ ks. payload_at ks t) (sym is_base ∙ same ∙ is_right) ∙ content-at b x t)
+    ∙ ap (λ n. cond (not n) (cond (a t || b t) (payload_at (enqueues x) t) None) None) (sym (taken-either a b x t))
+    ∙ sym (content-at (either a b) x t))
+
 -- what was taken was put before
 taken-before : (x : Events) (s t : Time) → IsWellFormed IsOp IsReply x → IsFaithful queue_reply x → IsAfter x t → is_taken x s ≡ true → is_earlier s t ≡ true
 taken-before [] s t w faithful after h = cc
@@ -190,7 +247,7 @@ all-filter {X} P p (x ∷ xs) all = at (p x) (all-filter P p xs all.1)
     at false rest = rest
 
 all-content : (P : Kept (List ℕ) → Type 0) (x : Events) → AllByRecursion P (enqueues x) → AllByRecursion P (content x)
-all-content P x all = all-by_time P (filter (λ k. not (is_taken x k.time)) (enqueues x)) (all-filter P (λ k. not (is_taken x k.time)) (enqueues x) all)
+all-content P x all = each-by_time P (filter (λ k. not (is_taken x k.time)) (enqueues x)) (all-filter P (λ k. not (is_taken x k.time)) (enqueues x) all)
 
 enqueued-known : (o : QueueOp) (t : Time) (ks : Texts) → IsTime t → IsOp o → AllByRecursion IsKnown ks → AllByRecursion IsKnown (add_enqueue t o ks)
 enqueued-known (Enqueue payload) t ks time known all = ((time, known), all)

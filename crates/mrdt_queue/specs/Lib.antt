@@ -1,4 +1,4 @@
 pub mod Queue
-pub mod Texts
 pub mod Content
+pub mod AnyOrder
 pub mod QueueLaws

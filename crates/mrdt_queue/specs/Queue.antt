@@ -105,6 +105,7 @@ queue_meaning = record {
   answer_of = queue_answer;
   spelling_of = λ x. live_spelling field (content x);
   stands = StandsFor;
+  is_same = λ s t. s ≡ t;
   state_spelling = live_spelling field;
   op_spelling = op_spelling;
   reply_spelling = reply_spelling;

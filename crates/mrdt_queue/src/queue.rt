@@ -1,14 +1,18 @@
 // The queue and its laws.
-ghost use Rattle.std.specs.Prelude.{◌≡◌, ◌++◌, ◌∷◌, ◌↔◌, [], length, reverse, IsTrue, IfOk};
+ghost use Rattle.std.specs.Prelude.{◌≡◌, ◌<◌, ◌++◌, ◌∷◌, ◌↔◌, [], length, reverse, slice_index_or, IsTrue, IfOk};
 ghost use Rattle.std.specs.Option.{option_copied};
-ghost use Rattle.live_set.specs.Entries.{kept_times, IsRising, AllBefore};
+ghost use Rattle.std.specs.List.{flat_map};
+ghost use Rattle.branch_wire.specs.Fields.{field};
+ghost use Rattle.live_set.specs.Entries.{kept_times, AllBefore};
+ghost use Rattle.live_set.specs.Spelling.{kept_spelling};
 ghost use Rattle.mrdt_queue.specs.Queue.{IsReply, TakesFirst, first_of, reply_to};
 
-use crate::entries::{copies, copy_of, live_of, push_copies, reversed, take_first};
+use crate::entries::{Entry, copies, reversed, take_first};
 use crate::op::{QueueAnswer, QueueOp, QueueQuery, QueueReply};
 use crate::spelling::{get_op, get_reply, put_op, put_reply};
-use live_set::{Kept, Live};
-use mrdt_model::{Bytes, Listing, Memory, Mrdt, Time, Unread};
+use live_set::texts::{own_copy, push_texts};
+use live_set::{Kept, Live, shared_text};
+use mrdt_model::{Bytes, Listing, Memory, Mrdt, Shared, Time, Unread};
 use std::alloc::Global;
 use std::marker::Model;
 
@@ -18,9 +22,9 @@ use std::marker::Model;
 pub struct Queue {
     alloc: Global,
     // The last one is the first of the queue.
-    front: Vec<Kept<Bytes>>,
+    front: Vec<Entry>,
     // Behind the front, the last one behind all others.
-    back: Vec<Kept<Bytes>>,
+    back: Vec<Entry>,
 }
 
 impl Model for Queue {
@@ -40,28 +44,70 @@ impl Queue {
     pub fn length(&self) -> u64
         ensures { result ≡ length self.now }
     {
-        self.front.len() as u64 + self.back.len() as u64
+        self.count() as u64
+    }
+
+    // The number of the payloads.
+    fn count(&self) -> usize
+        ensures { result ≡ length self.now }
+    {
+        self.front.len() + self.back.len()
+    }
+
+    // The payload at a place, counted from the first.
+    fn entry_at(&self, place: usize) -> &Entry
+        requires { place < length self.now }
+        ensures { result.now ≡ slice_index_or self.now place result.now }
+    {
+        let front = self.front.len();
+        if place < front {
+            &self.front[front - 1 - place]
+        } else {
+            &self.back[place - front]
+        }
+    }
+
+    // Whether as many payloads are equal, each to the other at its place.
+    fn has_same(&self, other: &Queue) -> bool
+        requires { length self.now ≡ length other.now }
+        ensures same { IsTrue result ↔ (self.now ≡ other.now) }
+        ensures spelled { flat_map (kept_spelling field) self.now ≡ flat_map (kept_spelling field) other.now → self.now ≡ other.now }
+    {
+        for place in 0..self.count() {
+            let mine = self.entry_at(place);
+            let theirs = other.entry_at(place);
+            if !mine.same(theirs) {
+                return false;
+            }
+        }
+        true
     }
 
     // Copies of the payloads, the first one first.
-    fn content(&self) -> Result<Vec<Kept<Bytes>>, Memory>
-        ensures items { IfOk result (λ list. list.items ≡ self.now) }
-        ensures rising { IfOk result (λ list. IsRising (kept_times list.items)) }
+    fn content(&self) -> Result<Listing<Kept<Bytes>>, Memory>
+        ensures { IfOk result (λ list. list ≡ self.now) }
     {
-        let mut list = reversed(self.alloc, &self.front)?;
-        push_copies(&mut list, &self.back)?;
-        Ok(list)
+        let mut list = Vec::new(self.alloc);
+        push_texts(&self.front, &mut list)?;
+        list.reverse();
+        push_texts(&self.back, &mut list)?;
+        Ok(Listing::from_vec(list))
     }
 
-    // The payloads as a live set.
-    fn as_live(&self) -> Result<Live<Bytes>, Memory>
+    // The payloads, shared by a live set.
+    fn as_live(&self) -> Result<Live<Shared<Bytes>>, Memory>
         ensures { IfOk result (λ live. live ≡ self.now) }
     {
-        live_of(self.alloc, self.content()?.as_slice())
+        let mut live = Live::new(self.alloc);
+        for place in 0..self.count() {
+            let kept = self.entry_at(place);
+            live.add(kept.time, kept.payload.copy()?)?;
+        }
+        Ok(live)
     }
 
-    // A queue of the payloads of a live set, all in its front.
-    fn of_live(alloc: Global, live: &Live<Bytes>) -> Result<Queue, Memory>
+    // A queue that shares the payloads of a live set, all in its front.
+    fn of_live(alloc: Global, live: &Live<Shared<Bytes>>) -> Result<Queue, Memory>
         ensures { IfOk result (λ queue. queue ≡ live.now) }
     {
         let front = reversed(alloc, live.items())?;
@@ -72,8 +118,8 @@ impl Queue {
         })
     }
 
-    // The same payloads.
-    fn same(&self) -> Result<Queue, Memory>
+    // A queue of the same payloads, which both share.
+    fn shared(&self) -> Result<Queue, Memory>
         ensures { IfOk result (λ queue. queue ≡ self.now) }
     {
         Ok(Queue {
@@ -84,7 +130,7 @@ impl Queue {
     }
 
     // The first payload.
-    fn first(&self) -> Option<&Kept<Bytes>>
+    fn first(&self) -> Option<&Entry>
         ensures { option_copied result ≡ first_of self.now }
     {
         match self.front.split_last() {
@@ -108,16 +154,17 @@ impl Queue {
 
     // The queue with a payload behind all others, where its time is after theirs. Else nothing changes.
     fn enqueued(&self, time: Time, payload: &Bytes) -> Result<Queue, Memory>
-        ensures { IfOk result (λ queue. AllBefore (kept_times self.now) time → queue ≡ self.now ++ record { time = time; payload = payload.now } ∷ []) }
+        ensures after { IfOk result (λ queue. AllBefore (kept_times self.now) time → queue ≡ self.now ++ record { time = time; payload = payload.now } ∷ []) }
+        ensures early { IfOk result (λ queue. ¬ AllBefore (kept_times self.now) time → queue ≡ self.now) }
     {
         if !self.ends_before(time) {
-            return self.same();
+            return self.shared();
         }
         let front = copies(self.alloc, &self.front)?;
         let mut back = copies(self.alloc, &self.back)?;
         back.push(Kept {
             time,
-            payload: payload.copy()?,
+            payload: shared_text(self.alloc, payload.as_slice())?,
         })?;
         Ok(Queue {
             alloc: self.alloc,
@@ -127,7 +174,7 @@ impl Queue {
     }
 
     // The queue without its first payload, and that one.
-    fn dequeued(&self) -> Result<(Queue, Option<Kept<Bytes>>), Memory>
+    fn dequeued(&self) -> Result<(Queue, Option<Entry>), Memory>
         ensures { IfOk result (λ made. TakesFirst self.now made.1 made.0) }
     {
         let mut front = copies(self.alloc, &self.front)?;
@@ -143,16 +190,17 @@ impl Queue {
 }
 
 // What a dequeue replies that found this payload first.
-fn reply_of_dequeue(first: Option<Kept<Bytes>>) -> QueueReply
-    ensures value { result ≡ reply_to first }
-    ensures known { IsReply result }
+fn reply_of_dequeue(first: Option<Entry>) -> Result<QueueReply, Memory>
+    ensures value { IfOk result (λ reply. reply ≡ reply_to first) }
+    ensures known { IfOk result IsReply }
 {
     match first {
         Some(kept) => {
-            kept.payload.known();
-            QueueReply::Took(kept)
+            let taken = own_copy(&kept)?;
+            let _bytes = taken.payload.as_slice();
+            Ok(QueueReply::Took(taken))
         }
-        None => QueueReply::Nothing,
+        None => Ok(QueueReply::Nothing),
     }
 }
 
@@ -179,18 +227,25 @@ impl Mrdt for Queue {
     }
 
     fn copy(&self) -> Result<Queue, Memory> {
-        self.same()
+        self.shared()
+    }
+
+    fn same(&self, other: &Queue) -> bool {
+        let mine = self.length();
+        let theirs = other.length();
+        mine == theirs && self.has_same(other)
     }
 
     fn apply(&self, op: &QueueOp, time: Time) -> Result<(Queue, QueueReply), Memory> {
         match op {
             QueueOp::Enqueue(payload) => {
-                payload.known();
+                let _bytes = payload.as_slice();
                 Ok((self.enqueued(time, payload)?, QueueReply::Enqueued))
             }
             QueueOp::Dequeue => {
                 let (queue, first) = self.dequeued()?;
-                Ok((queue, reply_of_dequeue(first)))
+                let reply = reply_of_dequeue(first)?;
+                Ok((queue, reply))
             }
         }
     }
@@ -203,10 +258,10 @@ impl Mrdt for Queue {
     fn answer(&self, query: &QueueQuery) -> Result<QueueAnswer, Memory> {
         match query {
             QueueQuery::Peek => match self.first() {
-                Some(kept) => Ok(QueueAnswer::OnFirst(Some(copy_of(kept)?))),
+                Some(kept) => Ok(QueueAnswer::OnFirst(Some(own_copy(kept)?))),
                 None => Ok(QueueAnswer::OnFirst(None)),
             },
-            QueueQuery::Items => Ok(QueueAnswer::OnItems(Listing::from_vec(self.content()?))),
+            QueueQuery::Items => Ok(QueueAnswer::OnItems(self.content()?)),
             QueueQuery::Length => Ok(QueueAnswer::OnLength(self.length())),
         }
     }

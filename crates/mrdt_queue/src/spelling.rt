@@ -7,8 +7,8 @@ ghost use Rattle.mrdt_queue.specs.Queue.{IsOp, IsReply, op_spelling, reply_spell
 
 use crate::op::{QueueOp, QueueReply};
 use branch_wire::{Cursor, put_time};
-use live_set::Kept;
-use mrdt_model::{Bytes, Memory, Unread};
+use live_set::{Kept, whole_text};
+use mrdt_model::{Memory, Unread};
 use std::alloc::Global;
 
 const ENQUEUE: u8 = 1;
@@ -40,14 +40,11 @@ pub(crate) fn get_op(alloc: Global, bytes: &[u8]) -> Result<QueueOp, Unread>
     ensures equal { IfOk result (λ op. (other : SpecOp) → IsOp other → op_spelling other ≡ bytes.now → op ≡ other) }
     ensures inside { OnOk result (IsOpSpelling bytes.now) }
     ensures outside { IsErrOf result Unread.NotCanonical → ¬ IsOpSpelling bytes.now }
+    ensures refused { ¬ IsOpSpelling bytes.now → IsErrOf result Unread.NotCanonical }
 {
     match bytes.split_first() {
-        Some((1, rest)) => {
-            let payload = Bytes::from_slice(alloc, rest)?;
-            payload.known();
-            Ok(QueueOp::Enqueue(payload))
-        }
-        Some((2, [])) => Ok(QueueOp::Dequeue),
+        Some((&ENQUEUE, rest)) => Ok(QueueOp::Enqueue(whole_text(alloc, rest)?)),
+        Some((&DEQUEUE, [])) => Ok(QueueOp::Dequeue),
         _ => Err(Unread::NotCanonical),
     }
 }
@@ -78,8 +75,7 @@ fn get_taken(alloc: Global, bytes: &[u8]) -> Result<QueueReply, Unread>
 {
     let mut cursor = Cursor::new(bytes);
     let time = cursor.take_time()?;
-    let payload = Bytes::from_slice(alloc, cursor.take_rest())?;
-    payload.known();
+    let payload = whole_text(alloc, cursor.take_rest())?;
     Ok(QueueReply::Took(Kept { time, payload }))
 }
 
@@ -93,8 +89,8 @@ pub(crate) fn get_reply(alloc: Global, bytes: &[u8]) -> Result<QueueReply, Unrea
 {
     match bytes.split_first() {
         None => Ok(QueueReply::Enqueued),
-        Some((0, [])) => Ok(QueueReply::Nothing),
-        Some((1, rest)) => get_taken(alloc, rest),
+        Some((&NOTHING, [])) => Ok(QueueReply::Nothing),
+        Some((&TOOK, rest)) => get_taken(alloc, rest),
         _ => Err(Unread::NotCanonical),
     }
 }

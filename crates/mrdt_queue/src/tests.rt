@@ -115,6 +115,24 @@ fn queues_are_spelled(rt: HostRuntime) {
     assert!(rt; matches!(Queue::get(alloc, &ONE[..28]), Err(Unread::NotCanonical)));
 }
 
+// A queue with a front and a back is the same as one of this content that is all in its front.
+#[test]
+fn queues_are_compared(rt: HostRuntime) {
+    let alloc = rt.alloc();
+    let base = two(alloc).expect(&rt, "two");
+    let (one, _) = after(&base, &QueueOp::Dequeue, at(3, 0)).expect(&rt, "a dequeue");
+    let op = enqueue(alloc, b"z").expect(&rt, "an enqueue");
+    let (split, _) = after(&one, &op, at(4, 0)).expect(&rt, "an enqueue");
+    let mut out = Vec::new(alloc);
+    assert!(rt; split.put(&mut out).is_ok());
+    let whole = Queue::get(alloc, &out).expect(&rt, "a queue");
+    assert!(rt; split.same(&whole) && whole.same(&split));
+    let op = enqueue(alloc, b"w").expect(&rt, "an enqueue");
+    let (other, _) = after(&one, &op, at(4, 0)).expect(&rt, "an enqueue");
+    assert!(rt; !split.same(&other));
+    assert!(rt; !split.same(&one) && !one.same(&split));
+}
+
 #[test]
 fn operations_and_replies_are_spelled(rt: HostRuntime) {
     let alloc = rt.alloc();

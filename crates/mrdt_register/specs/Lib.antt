@@ -1,4 +1,4 @@
-pub mod Sets
+pub mod Writes
 pub mod Lww
 pub mod Tops
 pub mod LwwLaws

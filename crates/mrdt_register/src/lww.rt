@@ -1,25 +1,27 @@
 // The register that keeps the last write, and its laws.
-ghost use Rattle.std.specs.Prelude.{◌≡◌, ◌∷◌, ◌++◌, Option, IfOk, OnOk, OnErr, IsErrOf, List, ℕ};
+ghost use Rattle.std.specs.Prelude.{◌≡◌, ◌↔◌, ◌∷◌, ◌++◌, Option, IsTrue, IfOk, OnOk, OnErr, IsErrOf, List, ℕ};
 ghost use Rattle.mrdt_model.specs.Spelled.{AppendsPart};
 ghost use Rattle.branch_wire.specs.Fields.{time_field, field};
 ghost use Rattle.live_set.specs.declared.kept.Kept.{Kept as SpecKept};
 ghost use Rattle.mrdt_register.specs.Lww.{later, lww_spelling, IsLast};
 
 use crate::op::RegisterOp;
-use branch_wire::{Cursor, put_bytes, put_time};
-use live_set::Kept;
-use mrdt_model::{Bytes, Memory, Mrdt, Time, Unread};
+use branch_wire::{Cursor, put_time};
+use live_set::{Kept, Payload, shared_text, unit_reply, whole_text};
+use mrdt_model::{Bytes, Memory, Mrdt, Shared, Time, Unread};
 use std::alloc::Global;
 use std::marker::Model;
 
-const NONE: u8 = 0;
+// The byte that tells whether a payload was written.
+const UNWRITTEN: u8 = 0;
 
-const SET: u8 = 1;
+const WRITTEN: u8 = 1;
 
-/// The payload that was set at the greatest time, with that time. Contracts see it, if there is one.
+/// The payload that was written at the greatest time, with that time. Contracts see it, if there is one.
 #[derive(Drop)]
 pub struct Lww {
-    last: Option<Kept<Bytes>>,
+    alloc: Global,
+    last: Option<Kept<Shared<Bytes>>>,
 }
 
 impl Model for Lww {
@@ -34,28 +36,37 @@ impl Model for Lww {
 /// A query of a register that keeps the last write.
 #[derive(Clone, Copy, Debug, PartialEq, Eq)]
 pub enum LwwQuery {
-    /// The payload, if one was set.
+    /// The payload, if one was written.
     Get,
 }
 
 // The same payload and time.
-fn copy_of(kept: &Option<Kept<Bytes>>) -> Result<Option<Kept<Bytes>>, Memory>
+fn copy_of(kept: &Option<Kept<Shared<Bytes>>>) -> Result<Option<Kept<Shared<Bytes>>>, Memory>
     ensures { IfOk result (λ same. same ≡ kept.now) }
 {
     match kept {
-        Some(kept) => Ok(Some(Kept {
-            time: kept.time,
-            payload: kept.payload.copy()?,
-        })),
+        Some(kept) => Ok(Some(kept.copy()?)),
         None => Ok(None),
+    }
+}
+
+// Whether two payloads and their times are the same, or there are none. Those that are spelled alike are.
+fn are_same(left: &Option<Kept<Shared<Bytes>>>, right: &Option<Kept<Shared<Bytes>>>) -> bool
+    ensures same { IsTrue result ↔ (left.now ≡ right.now) }
+    ensures spelled { lww_spelling left.now ≡ lww_spelling right.now → left.now ≡ right.now }
+{
+    match (left, right) {
+        (Some(mine), Some(theirs)) => mine.same(theirs),
+        (None, None) => true,
+        _ => false,
     }
 }
 
 // A copy of the one of the greater time; of two of one time, of the left one.
 fn later_of(
-    left: &Option<Kept<Bytes>>,
-    right: &Option<Kept<Bytes>>,
-) -> Result<Option<Kept<Bytes>>, Memory>
+    left: &Option<Kept<Shared<Bytes>>>,
+    right: &Option<Kept<Shared<Bytes>>>,
+) -> Result<Option<Kept<Shared<Bytes>>>, Memory>
     ensures { IfOk result (λ kept. kept ≡ later left.now right.now) }
 {
     match (left, right) {
@@ -66,22 +77,22 @@ fn later_of(
 }
 
 // Writes a payload and its time.
-fn put_last(last: &Option<Kept<Bytes>>, out: &mut Vec<u8>) -> Result<(), Memory>
+fn put_last(last: &Option<Kept<Shared<Bytes>>>, out: &mut Vec<u8>) -> Result<(), Memory>
     ensures ok { OnOk result (out.new.items ≡ out.old.items ++ lww_spelling last.now) }
     ensures err { OnErr result (AppendsPart out.old.items out.new.items (lww_spelling last.now)) }
 {
     match last {
-        None => Ok(out.push(NONE)?),
+        None => Ok(out.push(UNWRITTEN)?),
         Some(kept) => {
-            out.push(SET)?;
+            out.push(WRITTEN)?;
             put_time(kept.time, out)?;
-            put_bytes(kept.payload.as_slice(), out)
+            kept.payload.put(out)
         }
     }
 }
 
 // Reads a payload and its time that are the whole of the bytes.
-fn get_last(alloc: Global, bytes: &[u8]) -> Result<Kept<Bytes>, Unread>
+fn get_last(alloc: Global, bytes: &[u8]) -> Result<Kept<Shared<Bytes>>, Unread>
     ensures spelled { IfOk result (λ kept. time_field kept.time ++ field kept.payload ≡ bytes.now) }
     ensures known { IfOk result IsLast }
     ensures equal { IfOk result (λ kept. (other : SpecKept (List ℕ)) → IsLast other → time_field other.time ++ field other.payload ≡ bytes.now → kept ≡ other) }
@@ -89,9 +100,9 @@ fn get_last(alloc: Global, bytes: &[u8]) -> Result<Kept<Bytes>, Unread>
 {
     let mut cursor = Cursor::new(bytes);
     let time = cursor.take_time()?;
-    let payload = Bytes::from_slice(alloc, cursor.take_bytes()?)?;
-    payload.known();
+    let text = cursor.take_bytes()?;
     if cursor.is_at_end() {
+        let payload = shared_text(alloc, text)?;
         Ok(Kept { time, payload })
     } else {
         Err(Unread::NotCanonical)
@@ -112,19 +123,25 @@ impl Mrdt for Lww {
 
     ghost meaning = { lww_meaning };
 
-    fn initial(_alloc: Global) -> Lww {
-        Lww { last: None }
+    fn initial(alloc: Global) -> Lww {
+        Lww { alloc, last: None }
     }
 
     fn copy(&self) -> Result<Lww, Memory> {
         Ok(Lww {
+            alloc: self.alloc,
             last: copy_of(&self.last)?,
         })
     }
 
+    fn same(&self, other: &Lww) -> bool {
+        are_same(&self.last, &other.last)
+    }
+
     fn apply(&self, op: &RegisterOp, time: Time) -> Result<(Lww, ()), Memory> {
-        let payload = op.payload().copy()?;
+        let payload = op.shared(self.alloc)?;
         let lww = Lww {
+            alloc: self.alloc,
             last: Some(Kept { time, payload }),
         };
         Ok((lww, ()))
@@ -132,6 +149,7 @@ impl Mrdt for Lww {
 
     fn merge(_base: &Lww, left: &Lww, right: &Lww) -> Result<Lww, Memory> {
         Ok(Lww {
+            alloc: left.alloc,
             last: later_of(&left.last, &right.last)?,
         })
     }
@@ -139,7 +157,7 @@ impl Mrdt for Lww {
     fn answer(&self, query: &LwwQuery) -> Result<Option<Bytes>, Memory> {
         match query {
             LwwQuery::Get => match &self.last {
-                Some(kept) => Ok(Some(kept.payload.copy()?)),
+                Some(kept) => Ok(Some(kept.payload.get().copy()?)),
                 None => Ok(None),
             },
         }
@@ -151,8 +169,9 @@ impl Mrdt for Lww {
 
     fn get(alloc: Global, bytes: &[u8]) -> Result<Lww, Unread> {
         match bytes.split_first() {
-            Some((0, [])) => Ok(Lww { last: None }),
-            Some((1, rest)) => Ok(Lww {
+            Some((&UNWRITTEN, [])) => Ok(Lww { alloc, last: None }),
+            Some((&WRITTEN, rest)) => Ok(Lww {
+                alloc,
                 last: Some(get_last(alloc, rest)?),
             }),
             _ => Err(Unread::NotCanonical),
@@ -164,21 +183,15 @@ impl Mrdt for Lww {
     }
 
     fn get_op(alloc: Global, bytes: &[u8]) -> Result<RegisterOp, Unread> {
-        let payload = Bytes::from_slice(alloc, bytes)?;
-        payload.known();
-        Ok(RegisterOp::Set(payload))
+        Ok(RegisterOp::Set(whole_text(alloc, bytes)?))
     }
 
-    fn put_reply(_reply: &(), _out: &mut Vec<u8>) -> Result<(), Memory> {
-        Ok(())
+    fn put_reply(reply: &(), out: &mut Vec<u8>) -> Result<(), Memory> {
+        unit_reply::put(reply, out)
     }
 
     fn get_reply(_alloc: Global, bytes: &[u8]) -> Result<(), Unread> {
-        if bytes.is_empty() {
-            Ok(())
-        } else {
-            Err(Unread::NotCanonical)
-        }
+        unit_reply::get(bytes)
     }
 
     ghost laws = { lww_laws };

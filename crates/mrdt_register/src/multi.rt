@@ -2,17 +2,17 @@
 ghost use Rattle.std.specs.Prelude.{◌≡◌, map, IfOk};
 
 use crate::op::RegisterOp;
-use live_set::{Kept, Live};
-use mrdt_model::{Bytes, Listing, Memory, Mrdt, Time, Unread};
+use live_set::{Kept, Live, unit_reply, whole_text};
+use mrdt_model::{Bytes, Listing, Memory, Mrdt, Shared, Time, Unread};
 use std::alloc::Global;
 use std::marker::Model;
 
-/// The payloads that no other has replaced, with the times when they were set. Contracts see them by rising
+/// The payloads that no other has replaced, with the times when they were written. Contracts see them by rising
 /// time.
 #[derive(Drop)]
 pub struct Multi {
     alloc: Global,
-    live: Live<Bytes>,
+    live: Live<Shared<Bytes>>,
 }
 
 impl Model for Multi {
@@ -27,17 +27,17 @@ impl Model for Multi {
 /// A query of a register of several values.
 #[derive(Clone, Copy, Debug, PartialEq, Eq)]
 pub enum MultiQuery {
-    /// The payloads, the one that was set first standing first.
+    /// The payloads, the one that was written first standing first.
     Values,
 }
 
-// The payloads of entries.
-fn payloads(alloc: Global, entries: &[Kept<Bytes>]) -> Result<Listing<Bytes>, Memory>
+// The payloads of entries, copied.
+fn payloads(alloc: Global, entries: &[Kept<Shared<Bytes>>]) -> Result<Listing<Bytes>, Memory>
     ensures { IfOk result (λ list. list ≡ map (λ k. k.payload) entries.now) }
 {
     let mut list = Vec::new(alloc);
     for kept in entries {
-        list.push(kept.payload.copy()?)?;
+        list.push(kept.payload.get().copy()?)?;
     }
     Ok(Listing::from_vec(list))
 }
@@ -70,9 +70,14 @@ impl Mrdt for Multi {
         })
     }
 
+    fn same(&self, other: &Multi) -> bool {
+        self.live.same(&other.live)
+    }
+
     fn apply(&self, op: &RegisterOp, time: Time) -> Result<(Multi, ()), Memory> {
+        let payload = op.shared(self.alloc)?;
         let mut live = Live::new(self.alloc);
-        live.add(time, op.payload().copy()?)?;
+        live.add(time, payload)?;
         let multi = Multi {
             alloc: self.alloc,
             live,
@@ -109,21 +114,15 @@ impl Mrdt for Multi {
     }
 
     fn get_op(alloc: Global, bytes: &[u8]) -> Result<RegisterOp, Unread> {
-        let payload = Bytes::from_slice(alloc, bytes)?;
-        payload.known();
-        Ok(RegisterOp::Set(payload))
+        Ok(RegisterOp::Set(whole_text(alloc, bytes)?))
     }
 
-    fn put_reply(_reply: &(), _out: &mut Vec<u8>) -> Result<(), Memory> {
-        Ok(())
+    fn put_reply(reply: &(), out: &mut Vec<u8>) -> Result<(), Memory> {
+        unit_reply::put(reply, out)
     }
 
     fn get_reply(_alloc: Global, bytes: &[u8]) -> Result<(), Unread> {
-        if bytes.is_empty() {
-            Ok(())
-        } else {
-            Err(Unread::NotCanonical)
-        }
+        unit_reply::get(bytes)
     }
 
     ghost laws = { multi_laws };

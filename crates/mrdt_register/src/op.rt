@@ -1,8 +1,9 @@
 // The operation of registers.
-ghost use Rattle.std.specs.Prelude.{◌≡◌};
-ghost use Rattle.mrdt_register.specs.Sets.{payload_of, IsSet};
+ghost use Rattle.std.specs.Prelude.{◌≡◌, IfOk};
+ghost use Rattle.mrdt_register.specs.Writes.{payload_of, IsWrite};
 
-use mrdt_model::Bytes;
+use mrdt_model::{Bytes, Memory, Shared};
+use std::alloc::Global;
 
 /// An operation of a register.
 #[derive(Drop)]
@@ -12,16 +13,24 @@ pub enum RegisterOp {
 }
 
 impl RegisterOp {
-    /// What the operation sets.
+    /// What the operation writes.
     pub fn payload(&self) -> &Bytes
         ensures value { result.now ≡ payload_of self.now }
-        ensures known { IsSet self.now }
+        ensures known { IsWrite self.now }
     {
         match self {
             RegisterOp::Set(payload) => {
-                payload.known();
+                let _bytes = payload.as_slice();
                 payload
             }
         }
+    }
+
+    // A copy of what the operation writes, shared.
+    pub(crate) fn shared(&self, alloc: Global) -> Result<Shared<Bytes>, Memory>
+        ensures value { IfOk result (λ payload. payload ≡ payload_of self.now) }
+        ensures known { IsWrite self.now }
+    {
+        Shared::new(alloc, self.payload().copy()?)
     }
 }

@@ -18,19 +18,19 @@ const FALLING: &[u8] = b"\
 \x00\x00\x00\x00\x00\x00\x00\x02\x00\x00\x00\x01\
 \x00\x00\x00\x00\x00\x00\x00\x01u";
 
-// `v` at 1.2, behind the byte that tells that it was set.
+// `v` at 1.2, behind the byte that tells that it was written.
 const LAST: &[u8] = b"\
 \x01\
 \x00\x00\x00\x00\x00\x00\x00\x01\x00\x00\x00\x02\
 \x00\x00\x00\x00\x00\x00\x00\x01v";
 
-// The same, behind the spelling of a register that was not set.
-const UNSET_AND_LAST: &[u8] = b"\
+// The same, behind the spelling of a register that was not written.
+const UNWRITTEN_AND_LAST: &[u8] = b"\
 \x00\x01\
 \x00\x00\x00\x00\x00\x00\x00\x01\x00\x00\x00\x02\
 \x00\x00\x00\x00\x00\x00\x00\x01v";
 
-fn set(alloc: Global, payload: &[u8]) -> Result<RegisterOp, Memory> {
+fn write(alloc: Global, payload: &[u8]) -> Result<RegisterOp, Memory> {
     Ok(RegisterOp::Set(Bytes::from_slice(alloc, payload)?))
 }
 
@@ -40,19 +40,19 @@ fn after<M: Mrdt>(state: &M, op: &M::Op, clock: u64, origin: u32) -> Result<M, M
     Ok(next)
 }
 
-// Two branches set `u` at 2.1 and `v` at 2.2, and merge.
+// Two branches write `u` at 2.1 and `v` at 2.2, and merge.
 fn merged_values(alloc: Global) -> Result<Multi, Memory> {
     let base = Multi::initial(alloc);
-    let left = after(&base, &set(alloc, b"u")?, 2, 1)?;
-    let right = after(&base, &set(alloc, b"v")?, 2, 2)?;
+    let left = after(&base, &write(alloc, b"u")?, 2, 1)?;
+    let right = after(&base, &write(alloc, b"v")?, 2, 2)?;
     Multi::merge(&base, &left, &right)
 }
 
-// Two branches set `u` at 1.1 and `v` at 1.2, and merge.
+// Two branches write `u` at 1.1 and `v` at 1.2, and merge.
 fn merged_last(alloc: Global) -> Result<Lww, Memory> {
     let base = Lww::initial(alloc);
-    let left = after(&base, &set(alloc, b"u")?, 1, 1)?;
-    let right = after(&base, &set(alloc, b"v")?, 1, 2)?;
+    let left = after(&base, &write(alloc, b"u")?, 1, 1)?;
+    let right = after(&base, &write(alloc, b"v")?, 1, 2)?;
     Lww::merge(&base, &left, &right)
 }
 
@@ -64,28 +64,31 @@ fn is_last(lww: &Lww, payload: &[u8]) -> bool {
 }
 
 #[test]
-fn the_set_of_the_greatest_time_is_read(rt: HostRuntime) {
+fn the_write_of_the_greatest_time_is_read(rt: HostRuntime) {
     let alloc = rt.alloc();
     let both = merged_last(alloc).expect(&rt, "both");
     let copy = both.copy().expect(&rt, "a copy");
     assert!(rt; is_last(&copy, b"v"));
+    assert!(rt; both.same(&copy));
+    assert!(rt; !both.same(&Lww::initial(alloc)));
+    assert!(rt; Lww::initial(alloc).same(&Lww::initial(alloc)));
     assert!(rt; matches!(Lww::initial(alloc).answer(&LwwQuery::Get), Ok(None)));
 }
 
 #[test]
-fn the_last_set_is_spelled(rt: HostRuntime) {
+fn the_last_write_is_spelled(rt: HostRuntime) {
     let alloc = rt.alloc();
     let mut out = Vec::new(alloc);
     assert!(rt; Lww::initial(alloc).put(&mut out).is_ok());
     assert!(rt; merged_last(alloc).expect(&rt, "both").put(&mut out).is_ok());
-    assert!(rt; out.as_slice() == UNSET_AND_LAST);
+    assert!(rt; out.as_slice() == UNWRITTEN_AND_LAST);
     assert!(rt; is_last(&Lww::get(alloc, LAST).expect(&rt, "a value"), b"v"));
     assert!(rt; Lww::get(alloc, b"\x00").is_ok());
     assert!(rt; matches!(Lww::get(alloc, b"\x00\x00"), Err(Unread::NotCanonical)));
     assert!(rt; matches!(Lww::get(alloc, b"\x02"), Err(Unread::NotCanonical)));
     assert!(rt; matches!(Lww::get(alloc, &LAST[..21]), Err(Unread::NotCanonical)));
     out.clear();
-    assert!(rt; Lww::put_op(&set(alloc, b"uv").expect(&rt, "a set"), &mut out).is_ok());
+    assert!(rt; Lww::put_op(&write(alloc, b"uv").expect(&rt, "a write"), &mut out).is_ok());
     assert!(rt; out.as_slice() == b"uv".as_slice());
     assert!(rt; Lww::get_op(alloc, b"uv").is_ok());
     out.clear();
@@ -110,9 +113,11 @@ fn both_values_stay_until_they_are_seen(rt: HostRuntime) {
     let both = merged_values(alloc).expect(&rt, "both");
     let copy = both.copy().expect(&rt, "a copy");
     assert!(rt; values(alloc, &copy).expect(&rt, "values").as_slice() == b"u,v,".as_slice());
-    let w = set(alloc, b"w").expect(&rt, "a set");
+    let w = write(alloc, b"w").expect(&rt, "a write");
     let next = after(&copy, &w, 3, 1).expect(&rt, "a value");
     assert!(rt; values(alloc, &next).expect(&rt, "values").as_slice() == b"w,".as_slice());
+    assert!(rt; both.same(&copy));
+    assert!(rt; !both.same(&next));
 }
 
 #[test]
@@ -133,12 +138,12 @@ fn values_are_spelled(rt: HostRuntime) {
 }
 
 #[test]
-fn sets_are_spelled(rt: HostRuntime) {
+fn writes_are_spelled(rt: HostRuntime) {
     let alloc = rt.alloc();
     let mut out = Vec::new(alloc);
-    assert!(rt; Multi::put_op(&set(alloc, b"uv").expect(&rt, "a set"), &mut out).is_ok());
+    assert!(rt; Multi::put_op(&write(alloc, b"uv").expect(&rt, "a write"), &mut out).is_ok());
     assert!(rt; out.as_slice() == b"uv".as_slice());
-    let op = Multi::get_op(alloc, b"uv").expect(&rt, "a set");
+    let op = Multi::get_op(alloc, b"uv").expect(&rt, "a write");
     assert!(rt; op.payload().as_slice() == b"uv".as_slice());
     out.clear();
     assert!(rt; Multi::put_reply(&(), &mut out).is_ok());

@@ -1,4 +1,6 @@
 pub mod Writing
-pub mod Rebuilt
 pub mod Reading
+pub mod Keys
+pub mod Walked
+pub mod Rebuilt
 pub mod Standing

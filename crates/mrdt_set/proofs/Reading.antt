@@ -1,10 +1,9 @@
 -- Members that were read, against those that the bytes may spell.
 use Rattle.std.proofs.Common.{◌≡◌, ◌≢◌, ℕ, ◌+◌, ◌^◌, ◌<◌, ◌≤◌, Bool, true, false, cond, Some, List, [], ◌∷◌, ◌++◌, length, refl, ◌∙◌, ap, sym, subst, append_assoc, arith, length-append, Result, Err, IsErrOf}
 use Rattle.std.specs.Bool.{◌==◌}
-use Rattle.std.specs.List.{All, flat_map, AllByRecursion}
+use Rattle.std.specs.List.{flat_map, AllByRecursion}
 use Rattle.std.proofs.lemmas.Bool.{eqb-true}
 use Rattle.std.proofs.lemmas.List.{append-nil}
-use Rattle.std.proofs.lemmas.List.Elements.{recursion_from_All}
 use Rattle.std.proofs.lemmas.Map.Lookups.{exact_bytes}
 use Rattle.std.specs.Map.{keys_of}
 use Rattle.std.specs.BTreeMap.{insert_entry}
@@ -21,7 +20,7 @@ use Rattle.live_set.specs.Payloads.{IsNothing, nothing_spelling, nothing_way}
 use Rattle.live_set.specs.Spelling.{live_spelling, AreLive}
 use Rattle.live_set.proofs.Reading.{live_way}
 use Rattle.mrdt_set.specs.Members.{Times, same_element, times_at, member_spelling, set_spelling, IsMember, AreMembers}
-use Rattle.mrdt_set.specs.Tables.{cmp, same_element-eq}
+use Rattle.mrdt_model.proofs.Tables.{cmp, same_bytes-eq}
 use Rattle.mrdt_set.specs.Reading.{IsAbove, AreRising, TakesMember, AreTaken}
 
 reversed : (j k : List ℕ) → cmp j k ≡ Less → cmp k j ≡ Greater
@@ -57,8 +56,8 @@ below-last j last key up_to above = at (cmp last j) refl up_to
     at Greater is not_less = nat_list_cmp_total.trans j last key (nat_list_cmp_total.antisymm j last ∙ ap ordering_reverse is) above
 
 -- what is above the last element is above all
-pub above-last : (ks : List (List ℕ)) (last key : List ℕ) → All (λ j. is_lt (cmp last j) ≡ false) ks → cmp last key ≡ Less → IsAbove key ks
-above-last ks last key up_to above = all-weaker (λ j. is_lt (cmp last j) ≡ false) (λ j. cmp j key ≡ Less) ks (λ j not_less. below-last j last key not_less above) (recursion_from_All (λ j. is_lt (cmp last j) ≡ false) ks up_to)
+pub above-last : (ks : List (List ℕ)) (last key : List ℕ) → AllByRecursion (λ j. is_lt (cmp last j) ≡ false) ks → cmp last key ≡ Less → IsAbove key ks
+above-last ks last key up_to above = all-weaker (λ j. is_lt (cmp last j) ≡ false) (λ j. cmp j key ≡ Less) ks (λ j not_less. below-last j last key not_less above) up_to
 
 -- what holds of each element holds of one that is found
 pub found-key : (P : List ℕ → Type 0) (es : List (List ℕ × Times)) (k : List ℕ) (value : Times) → AllByRecursion P (keys_of es) → times_at es k ≡ Some value → P k
@@ -66,7 +65,7 @@ found-key P [] k value all found = cc
 found-key P (e ∷ es) k value all found = at (same_element k e.0) refl found (found-key P es k value all.1)
   where
     at : (p : Bool) → same_element k e.0 ≡ p → cond p (Some e.1) (times_at es k) ≡ Some value → (times_at es k ≡ Some value → P k) → P k
-    at true is here later = subst P (sym (same_element-eq k e.0 is)) all.0
+    at true is here later = subst P (sym (same_bytes-eq k e.0 is)) all.0
     at false is there later = later there
 
 -- the test that an order is `Less`

@@ -8,14 +8,16 @@ use Rattle.mrdt_model.specs.Executions.{times_of, restrict, IsClosed, MayFollow,
 use Rattle.std.proofs.lemmas.Bool.{both_ways, false_from_ne_true}
 use Rattle.mrdt_model.proofs.Executions.{is_earlier-irrefl, restrict-well_formed, closed_both}
 use Rattle.mrdt_model.proofs.Parts.{AllSeenIn, all_seen}
-use Rattle.live_set.specs.Effects.{Puts, Removes, Apart, has_any, live_of, live_after}
-use Rattle.live_set.proofs.Standing.{well_formed-apart, merged-live, live-next}
+use Rattle.live_set.specs.Effects.{replacing, removing, apart, has_any, live_of, live_after}
+use Rattle.live_set.specs.UnitReply.{IsAnyReply, no_reply}
+use Rattle.live_set.proofs.Standing.{merged-live, live-next}
+use Rattle.mrdt_model.proofs.SameEvents.{own-times}
 use Rattle.mrdt_set.specs.declared.set.SetOp.{SetOp}
 use Rattle.mrdt_set.specs.declared.set.SetOp.TheVariants.{Add, Remove}
 use Rattle.mrdt_set.specs.Members.{Times, same_element, times_at, some_times, all_times, IsMergedAt}
-use Rattle.mrdt_set.specs.Set.{element_of, set_effect, times_after, IsSetOp, IsAnyReply, no_reply, holds, set_of}
-use Rattle.mrdt_set.specs.Tables.{cmp, same_tables, same_element-sym}
-use Rattle.mrdt_set.specs.Lawful.{Events, times-set_of, set_of-sorted, holds-element}
+use Rattle.mrdt_set.specs.Set.{element_of, set_effect, times_after, IsSetOp, holds, set_of}
+use Rattle.mrdt_model.proofs.Tables.{cmp, same_tables, same_bytes-sym}
+use Rattle.mrdt_set.specs.Lawful.{Events, times-set_of, element-times, set_of-sorted, holds-element}
 
 abbrev Sound : Events → Type 0
 Sound x = IsWellFormed IsSetOp IsAnyReply x
@@ -45,10 +47,10 @@ pub set-found : (s : List (List ℕ × Times)) (x : Events) → Sound x → IsSt
 set-found s x l sorted same = same_tables s (set_of x) sorted (set_of-sorted x) (λ k. same k ∙ sym (times-set_of k x l))
 
 effect_after : (b : Bool) (op : SetOp) (k : List ℕ) (t : Time) (live : Times) → same_element k (element_of op) ≡ b → live_after (set_effect k op) t live ≡ cond b (times_after op t) live
-effect_after true (Add j) k t live is = ap (λ b. live_after (cond b (Puts tt) Apart) t live) is
-effect_after false (Add j) k t live is = ap (λ b. live_after (cond b (Puts tt) Apart) t live) is
-effect_after true (Remove j) k t live is = ap (λ b. live_after (cond b Removes Apart) t live) is
-effect_after false (Remove j) k t live is = ap (λ b. live_after (cond b Removes Apart) t live) is
+effect_after true (Add j) k t live is = ap (λ b. live_after (cond b (replacing {V = Unit {0}} tt) apart) t live) is
+effect_after false (Add j) k t live is = ap (λ b. live_after (cond b (replacing {V = Unit {0}} tt) apart) t live) is
+effect_after true (Remove j) k t live is = ap (λ b. live_after (cond b removing apart) t live) is
+effect_after false (Remove j) k t live is = ap (λ b. live_after (cond b removing apart) t live) is
 
 some-cond : (b : Bool) (p q : Times) → cond b (some_times p) (some_times q) ≡ some_times (cond b p q)
 some-cond true p q = refl
@@ -62,12 +64,8 @@ applied-at s made x op t k l after is made_is =
     made_is
     ∙ ap (λ o. cond (same_element (element_of op) k) (some_times (times_after op t)) o) before
     ∙ some-cond (same_element (element_of op) k) (times_after op t) (live_of (set_effect k) x)
-    ∙ ap some_times (sym (effect_after (same_element (element_of op) k) op k t (live_of (set_effect k) x) (same_element-sym k (element_of op))))
+    ∙ ap some_times (sym (effect_after (same_element (element_of op) k) op k t (live_of (set_effect k) x) (same_bytes-sym k (element_of op))))
     ∙ ap some_times (sym (live-next (set_effect k) x t op tt (all_seen IsSetOp IsAnyReply x l) after))
-
-all-some : (times : Times) → all_times (some_times times) ≡ times
-all-some [] = refl
-all-some (k ∷ times) = refl
 
 -- what a merge makes of what the three have at an element
 pub merged-at : (base left right merged : List (List ℕ × Times)) (x : Events) (a b : Time → Bool) (k : List ℕ) → Sound x → IsClosed a x → IsClosed b x
@@ -76,9 +74,9 @@ pub merged-at : (base left right merged : List (List ℕ × Times)) (x : Events)
 merged-at base left right merged x a b k l closed_a closed_b is_base is_left is_right m =
     let sound = λ (c : Time → Bool) (closed : IsClosed c x). restrict-well_formed IsSetOp IsAnyReply no_reply c x closed l in
     let f = set_effect k in
-    let own = λ (s : List (List ℕ × Times)) (c : Time → Bool) (closed : IsClosed c x) (is : s ≡ set_of (restrict c x)). ap all_times (ap (λ es. times_at es k) is ∙ times-set_of k (restrict c x) (sound c closed)) ∙ all-some (live_of f (restrict c x)) in
+    let own = λ (s : List (List ℕ × Times)) (c : Time → Bool) (closed : IsClosed c x) (is : s ≡ set_of (restrict c x)). ap (λ es. all_times (times_at es k)) is ∙ element-times k (restrict c x) (sound c closed) in
     m.some
-    ∙ ap some_times (merged-live f x a b (all_times (times_at base k)) (all_times (times_at left k)) (all_times (times_at right k)) (all_times (times_at merged k)) (well_formed-apart IsSetOp IsAnyReply x l) closed_a closed_b
+    ∙ ap some_times (merged-live f x a b (all_times (times_at base k)) (all_times (times_at left k)) (all_times (times_at right k)) (all_times (times_at merged k)) (own-times IsSetOp IsAnyReply x l) closed_a closed_b
     (own base (both a b) (closed_both a b x closed_a closed_b) is_base) (own left a closed_a is_left) (own right b closed_b is_right) m.rising m.merges)
 
 some-any : (times : Times) → is_some (some_times times) ≡ has_any times

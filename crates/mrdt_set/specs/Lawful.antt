@@ -1,12 +1,13 @@
 -- The elements of an execution, and what is live of each.
-use Rattle.std.proofs.Common.{◌≡◌, ◌≢◌, ℕ, Bool, true, false, not, cond, ◌&&◌, ◌||◌, None, Some, List, [], ◌∷◌, refl, ◌∙◌, ap, sym, subst, arith, ⊎_elim}
+use Rattle.std.proofs.Common.{◌≡◌, ◌≢◌, ℕ, Bool, true, false, not, cond, ◌&&◌, ◌||◌, None, Some, is_some, List, [], ◌∷◌, refl, ◌∙◌, ap, sym, subst, arith, ⊎_elim}
 use Rattle.std.specs.List.{list_any, AllByRecursion}
 use Rattle.std.specs.Map.{keys_of}
 use Rattle.std.specs.List.Sorted.{IsStrictlySortedBy}
 use Rattle.std.proofs.lemmas.Bool.{and_parts, or_cases, or_left, or_right, both_ways}
 use Rattle.mrdt_model.specs.Spelled.{IsBytes}
 use Rattle.mrdt_model.specs.Executions.{Event, IsWellFormed, IsLawful}
-use Rattle.live_set.specs.Effects.{Puts, Removes, Apart, puts, is_removed, has_any, live_of}
+use Rattle.live_set.specs.Effects.{replacing, removing, apart, is_removed, has_any, live_of}
+use Rattle.live_set.specs.UnitReply.{IsAnyReply, no_reply}
 use Rattle.live_set.specs.Payloads.{IsNothing}
 use Rattle.live_set.specs.Spelling.{KeptFits, AreLive}
 use Rattle.live_set.proofs.Lengths.{length-live, each-live}
@@ -14,9 +15,9 @@ use Rattle.live_set.proofs.Standing.{live-rising}
 use Rattle.live_set.proofs.Holding.{holds-live}
 use Rattle.mrdt_set.specs.declared.set.SetOp.{SetOp}
 use Rattle.mrdt_set.specs.declared.set.SetOp.TheVariants.{Add, Remove}
-use Rattle.mrdt_set.specs.Members.{Times, same_element, times_at, some_times}
-use Rattle.mrdt_set.specs.Set.{element_of, set_effect, IsSetOp, IsAnyReply, no_reply, holds, elements, members, set_of}
-use Rattle.mrdt_set.specs.Tables.{cmp, insert-all, insert-sorted, insert-any, filter-all, filter-sorted, filter-any, keys-table, value-table}
+use Rattle.mrdt_set.specs.Members.{Times, same_element, times_at, some_times, all_times}
+use Rattle.mrdt_set.specs.Set.{element_of, set_effect, IsSetOp, holds, elements, members, set_of}
+use Rattle.mrdt_model.proofs.Tables.{cmp, insert-all, insert-sorted, insert-any, filter-all, filter-sorted, filter-any, keys-table, value-table}
 
 abbrev pub Events : Type 0
 Events = List (Event SetOp (Unit {0}))
@@ -34,15 +35,15 @@ any-more : (f g : Event SetOp (Unit {0}) → Bool) (x : Events) → ((e : Event 
 any-more f g [] more h = h
 any-more f g (e ∷ x) more h = ⊎_elim (λ here. or_left (g e) (list_any g x) (more e here)) (λ there. or_right (g e) (list_any g x) (any-more f g x more there)) (or_cases (f e) (list_any f x) h)
 
-add-puts : (b : Bool) → puts {V = Unit {0}} (cond b (Puts tt) Apart) ≡ true → b ≡ true
+add-puts : (b : Bool) → is_some (cond b (replacing {V = Unit {0}} tt) (apart {V = Unit {0}})).puts ≡ true → b ≡ true
 add-puts true h = refl
 add-puts false h = cc
 
-remove-puts : (b : Bool) → puts {V = Unit {0}} (cond b Removes Apart) ≡ true → b ≡ true
+remove-puts : (b : Bool) → is_some (cond b (removing {V = Unit {0}}) (apart {V = Unit {0}})).puts ≡ true → b ≡ true
 remove-puts true h = refl
 remove-puts false h = cc
 
-puts-same : (q : List ℕ) (op : SetOp) → puts (set_effect q op) ≡ true → same_element q (element_of op) ≡ true
+puts-same : (q : List ℕ) (op : SetOp) → is_some (set_effect q op).puts ≡ true → same_element q (element_of op) ≡ true
 puts-same q (Add k) h = add-puts (same_element q k) h
 puts-same q (Remove k) h = remove-puts (same_element q k) h
 
@@ -50,11 +51,15 @@ puts-same q (Remove k) h = remove-puts (same_element q k) h
 holds-any : (q : List ℕ) (x : Events) → holds x q ≡ true → list_any (same_element q) (elements x) ≡ true
 holds-any q x h =
     elements-any q x
-    ∙ any-more (λ e. puts (set_effect q e.operation) && not (is_removed (set_effect q) x e.time)) (λ e. same_element q (element_of e.operation)) x
-    (λ e put. puts-same q e.operation (and_parts (puts (set_effect q e.operation)) (not (is_removed (set_effect q) x e.time)) put).0) h
+    ∙ any-more (λ e. is_some (set_effect q e.operation).puts && not (is_removed (set_effect q) x e.time)) (λ e. same_element q (element_of e.operation)) x
+    (λ e put. puts-same q e.operation (and_parts (is_some (set_effect q e.operation).puts) (not (is_removed (set_effect q) x e.time)) put).0) h
 
 pub holds-element : (q : List ℕ) (x : Events) → IsWellFormed IsSetOp IsAnyReply x → holds x q ≡ has_any (live_of (set_effect q) x)
 holds-element q x w = holds-live (set_effect q) IsSetOp IsAnyReply x w
+
+pub all-some : (times : Times) → all_times (some_times times) ≡ times
+all-some [] = refl
+all-some (k ∷ times) = refl
 
 -- what the set has at an element
 pub times-set_of : (q : List ℕ) (x : Events) → IsWellFormed IsSetOp IsAnyReply x → times_at (set_of x) q ≡ some_times (live_of (set_effect q) x)
@@ -67,6 +72,10 @@ times-set_of q x w =
     at [] false is h = refl
     at (k ∷ live) true is h = ap (λ p. cond p (Some (k ∷ live)) None) (holds-any q x is)
     at (k ∷ live) false is h = cc
+
+-- the times that the set has at an element
+pub element-times : (q : List ℕ) (x : Events) → IsWellFormed IsSetOp IsAnyReply x → all_times (times_at (set_of x) q) ≡ live_of (set_effect q) x
+element-times q x w = ap all_times (times-set_of q x w) ∙ all-some (live_of (set_effect q) x)
 
 pub members-sorted : (x : Events) → IsStrictlySortedBy cmp (members x)
 members-sorted x = filter-sorted (holds x) (elements x) (elements-sorted x)

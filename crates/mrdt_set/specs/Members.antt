@@ -1,5 +1,5 @@
 -- Elements with their live times, in byte order.
-use Rattle.std.specs.Prelude.{◌≡◌, ◌≢◌, ℕ, ◌<◌, ◌^◌, Bool, ◌⊎◌, Option, None, Some, List, [], ◌∷◌, ◌++◌, length}
+use Rattle.std.specs.Prelude.{◌≡◌, ◌≢◌, ℕ, ◌<◌, ◌^◌, Bool, ◌⊎◌, Option, None, Some, List, [], ◌∷◌, ◌++◌, length, map}
 use Rattle.std.specs.List.{AllByRecursion}
 use Rattle.std.specs.Map.{lookup, keys_of}
 use Rattle.std.specs.Ordering.{nat_cmp, is_eq}
@@ -14,6 +14,10 @@ use Rattle.live_set.specs.Spelling.{live_spelling, AreLive}
 
 abbrev pub Times : Type 0
 Times = List (Kept (Unit {0}))
+
+-- the entries by the bytes of their keys
+abbrev pub by_bytes : {K X : Type 0} → (K → List ℕ) → List (K × X) → List (List ℕ × X)
+by_bytes {K} {X} bytes entries = map {B = List ℕ × X} (λ (e : K × X). (bytes e.0, e.1)) entries
 
 abbrev pub same_element : List ℕ → List ℕ → Bool
 same_element j k = is_eq (slice_cmp nat_cmp j k)

@@ -1,13 +1,14 @@
 -- What a set means.
 use Rattle.std.specs.Prelude.{◌≡◌, ℕ, Bool, if◌then◌else◌, ◌⊎◌, List, [], ◌∷◌, length, map, filter}
-use Rattle.std.specs.Ordering.{nat_cmp, match_ordering}
+use Rattle.std.specs.Ordering.{nat_cmp}
+use Rattle.std.specs.BTreeSet.{insert_key}
 use Rattle.std.specs.Cmp.Lexicographic.{slice_cmp}
 use Rattle.mrdt_model.specs.declared.time.Time.{Time}
 use Rattle.mrdt_model.specs.Spelled.{IsBytes}
 use Rattle.mrdt_model.specs.Executions.{Event}
 use Rattle.mrdt_model.specs.Laws.{Meaning}
-use Rattle.branch_wire.specs.Reading.{HasLength}
-use Rattle.live_set.specs.Effects.{Effect, Puts, Removes, Apart, holds_some, live_of}
+use Rattle.live_set.specs.Effects.{Effect, replacing, removing, apart, holds_some, live_of}
+use Rattle.live_set.specs.UnitReply.{IsAnyReply, no_reply, unit_spelling, IsUnitSpelling}
 use Rattle.mrdt_set.specs.declared.set.SetOp.{SetOp}
 use Rattle.mrdt_set.specs.declared.set.SetOp.TheVariants.{Add, Remove}
 use Rattle.mrdt_set.specs.declared.set.SetQuery.{SetQuery}
@@ -20,10 +21,11 @@ abbrev pub element_of : SetOp → List ℕ
 element_of (Add x) = x
 element_of (Remove x) = x
 
--- On the times of an element, an Add of it puts its own, a Remove of it removes, and all else is apart.
+-- On the times of an element, an Add of it puts its own in place of what it has seen, a Remove of it takes away
+-- what it has seen, and all else is apart.
 abbrev pub set_effect : List ℕ → SetOp → Effect (Unit {0})
-set_effect k (Add x) = if same_element k x then Puts tt else Apart
-set_effect k (Remove x) = if same_element k x then Removes else Apart
+set_effect k (Add x) = if same_element k x then replacing tt else apart
+set_effect k (Remove x) = if same_element k x then removing else apart
 
 -- the times of its element that are live after an operation that has seen all
 abbrev pub times_after : SetOp → Time → Times
@@ -33,26 +35,14 @@ times_after (Remove x) t = []
 abbrev pub IsSetOp : SetOp → Type 0
 IsSetOp op = IsBytes (element_of op)
 
-abbrev pub IsAnyReply : Unit {0} → Type 0
-IsAnyReply reply = Unit {0}
-
--- an operation replies nothing
-abbrev pub no_reply : List (Event SetOp (Unit {0})) → SetOp → Unit {0}
-no_reply x op = tt
-
 -- some Add of the element has been seen by no Remove of it
 abbrev pub holds : List (Event SetOp (Unit {0})) → List ℕ → Bool
 holds x k = holds_some (set_effect k) x
 
--- the elements with this one in its place, in byte order
-abbrev pub insert_element : List ℕ → List (List ℕ) → List (List ℕ)
-insert_element k [] = k ∷ []
-insert_element k (j ∷ ks) = match_ordering (slice_cmp nat_cmp k j) (k ∷ j ∷ ks) (j ∷ ks) (j ∷ insert_element k ks)
-
 -- the elements of the operations, in byte order
 abbrev pub elements : List (Event SetOp (Unit {0})) → List (List ℕ)
 elements [] = []
-elements (e ∷ x) = insert_element (element_of e.operation) (elements x)
+elements (e ∷ x) = insert_key (slice_cmp nat_cmp) (elements x) (element_of e.operation)
 
 abbrev pub members : List (Event SetOp (Unit {0})) → List (List ℕ)
 members x = filter (holds x) (elements x)
@@ -88,10 +78,11 @@ set_meaning = record {
   answer_of = set_answer;
   spelling_of = λ x. set_spelling (set_of x);
   stands = StandsFor;
+  is_same = λ s t. s ≡ t;
   state_spelling = set_spelling;
   op_spelling = op_spelling;
-  reply_spelling = λ reply. [];
+  reply_spelling = unit_spelling;
   is_state_spelling = IsSetSpelling;
   is_op_spelling = IsOpSpelling;
-  is_reply_spelling = HasLength 0;
+  is_reply_spelling = IsUnitSpelling;
 }

@@ -2,8 +2,10 @@
 #![tactic(auto)]
 
 mod members;
+mod same;
 pub mod set;
 mod spelled;
+mod table;
 
 pub use set::{Set, SetAnswer, SetOp, SetQuery};
 

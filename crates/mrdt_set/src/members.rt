@@ -1,144 +1,193 @@
-// The table of the elements and their live times.
-ghost use Rattle.std.specs.Prelude.{◌≡◌, Some, List, ℕ, IfOk, OnOk, if◌then◌else◌, is_some};
+// The elements of sets, and their live times after operations and merges.
+ghost use Rattle.std.specs.Prelude.{◌≡◌, [], None, List, ℕ, IsTrue, IfOk, OnOk, if◌then◌else◌};
 ghost use Rattle.std.specs.Option.{option_copied};
-ghost use Rattle.std.specs.BTreeMap.{IsOrdered, keys};
+ghost use Rattle.std.specs.Map.{keys_of};
 ghost use Rattle.std.specs.Cmp.Lexicographic.{slice_cmp};
 ghost use Rattle.std.specs.Ordering.{nat_cmp};
+ghost use Rattle.std.specs.List.Sorted.{IsStrictlySortedBy};
 ghost use Rattle.live_set.specs.Entries.{kept_times, IsRising, MergesEntries};
 ghost use Rattle.mrdt_set.specs.Members.{same_element, times_at, some_times, all_times, IsMergedAt, IsMergedOr};
 
+use crate::table::{Table, Times};
 use live_set::Live;
-use mrdt_model::{Bytes, Listing, Memory};
+use mrdt_model::{Bytes, Listing, Memory, Shared};
 use std::alloc::Global;
-use std::cmp::Ordering;
-use std::collections::BTreeMap;
 
-// The elements, in order.
-pub(crate) fn elements_in_order(
-    alloc: Global,
-    members: &BTreeMap<Bytes, Live<()>>,
-) -> Result<Listing<Bytes>, Memory>
-    ensures { IfOk result (λ all. all ≡ keys members.now) }
+// Copies of the elements, in order.
+pub(crate) fn elements_in_order(alloc: Global, members: &Table) -> Result<Listing<Bytes>, Memory>
+    ensures { IfOk result (λ all. all ≡ keys_of members.now) }
 {
     let mut all = Vec::new(alloc);
-    for element in members.keys() {
-        all.push(element.copy()?)?;
+    for (element, _times) in members.in_order().iter() {
+        all.push(Bytes::from_slice(alloc, element.as_slice())?)?;
     }
     Ok(Listing::from_vec(all))
 }
 
-// Whether the element has times.
-pub(crate) fn has_element(members: &BTreeMap<Bytes, Live<()>>, element: &[u8]) -> bool
-    ensures { result ≡ is_some (times_at members.now.entries element.now) }
+// Sets the times of an element, which leaves where there are none.
+pub(crate) fn set_times(
+    alloc: Global,
+    members: &mut Table,
+    element: &[u8],
+    times: Option<Times>,
+) -> Result<(), Memory>
+    ensures { OnOk result ((k : List ℕ) → times_at members.new k ≡ (if same_element element.now k then times else times_at members.old k)) }
 {
-    for (member, _times) in members.iter() {
-        if element.cmp(&member.as_slice()) == Ordering::Equal {
-            return true;
+    match times {
+        Some(times) => {
+            let kept = Vec::from_slice(alloc, element)?;
+            members.put(kept, times)?;
+            Ok(())
+        }
+        None => {
+            members.take_away(element);
+            Ok(())
         }
     }
-    false
 }
 
-// Puts the times of an element.
-fn put_times(
-    members: &mut BTreeMap<Bytes, Live<()>>,
-    element: &Bytes,
-    times: Live<()>,
-) -> Result<(), Memory>
-    ensures times { OnOk result ((k : List ℕ) → times_at members.new.entries k ≡ (if same_element element.now k then Some times else times_at members.old.entries k)) }
-    ensures ordered { OnOk result (IsOrdered (slice_cmp nat_cmp) members.new) }
-{
-    members.insert(element.copy()?, times)?;
-    Ok(())
-}
-
-// Sets the times of an element, which leaves where it has none.
-pub(crate) fn set_times(
-    members: &mut BTreeMap<Bytes, Live<()>>,
-    element: &Bytes,
-    times: Live<()>,
-) -> Result<(), Memory>
-    ensures times { OnOk result ((k : List ℕ) → times_at members.new.entries k ≡ (if same_element element.now k then some_times times else times_at members.old.entries k)) }
-    ensures ordered { OnOk result (IsOrdered (slice_cmp nat_cmp) members.new) }
+// New times, where there are some.
+pub(crate) fn some_new(alloc: Global, times: Live<()>) -> Result<Option<Times>, Memory>
+    ensures { IfOk result (λ shared. shared ≡ some_times times) }
 {
     if times.items().is_empty() {
-        let _old = members.remove(element);
-        Ok(())
+        Ok(None)
     } else {
-        put_times(members, element, times)
+        Ok(Some(Shared::new(alloc, times)?))
     }
 }
 
-// The same elements with the same times.
-pub(crate) fn copied(
-    alloc: Global,
-    members: &BTreeMap<Bytes, Live<()>>,
-) -> Result<BTreeMap<Bytes, Live<()>>, Memory>
-    ensures times { IfOk result (λ copy. (k : List ℕ) → times_at copy.entries k ≡ times_at members.now.entries k) }
-    ensures ordered { IfOk result (IsOrdered (slice_cmp nat_cmp)) }
-    ensures was_ordered { OnOk result (IsOrdered (slice_cmp nat_cmp) members.now) }
+// The same times, where there are some.
+fn some_shared(times: Option<&Times>) -> Result<Option<Times>, Memory>
+    ensures some { IfOk result (λ shared. shared ≡ some_times (all_times (option_copied times.entry))) }
+    ensures rising { IsRising (kept_times (all_times (option_copied times.entry))) }
 {
-    let mut copy = BTreeMap::new(alloc);
-    for (element, times) in members.iter() {
-        put_times(&mut copy, element, times.copy()?)?;
+    match times {
+        Some(times) => {
+            if times.get().items().is_empty() {
+                Ok(None)
+            } else {
+                Ok(Some(times.copy()?))
+            }
+        }
+        None => Ok(None),
     }
-    Ok(copy)
 }
 
-// The merged times of an element.
-fn merged_times(
+// Whether an element has the same times, or none, in two tables.
+fn have_same(times: Option<&Times>, others: Option<&Times>) -> bool
+    ensures { IsTrue result → option_copied times.entry ≡ option_copied others.entry }
+{
+    match (times, others) {
+        (Some(times), Some(others)) => times.get().same(others.get()),
+        (None, None) => true,
+        _ => false,
+    }
+}
+
+// The times of an element in a table, as they are.
+fn all_of<'a>(times: Option<&'a Times>, none: &'a Live<()>) -> &'a Live<()>
+    requires { none.now ≡ [] }
+    ensures { result.now ≡ all_times (option_copied times.entry) }
+{
+    match times {
+        Some(times) => times.get(),
+        None => none,
+    }
+}
+
+// The merged times of an element of which both sides have changed the times, where there are some.
+fn merged_anew(
     alloc: Global,
-    base: Option<&Live<()>>,
-    left: Option<&Live<()>>,
-    right: Option<&Live<()>>,
-) -> Result<Live<()>, Memory>
-    ensures merges { IfOk result (MergesEntries (all_times (option_copied base.entry)) (all_times (option_copied left.entry)) (all_times (option_copied right.entry))) }
-    ensures rising { IfOk result (λ times. IsRising (kept_times times)) }
+    base: Option<&Times>,
+    left: Option<&Times>,
+    right: Option<&Times>,
+) -> Result<Option<Times>, Memory>
+    ensures { IfOk result (IsMergedAt (option_copied base.entry) (option_copied left.entry) (option_copied right.entry)) }
 {
     let none = Live::new(alloc);
-    let base = base.unwrap_or(&none);
-    let left = left.unwrap_or(&none);
-    let right = right.unwrap_or(&none);
-    Live::merge(base, left, right)
+    let times = Live::merge(
+        all_of(base, &none),
+        all_of(left, &none),
+        all_of(right, &none),
+    )?;
+    some_new(alloc, times)
 }
 
-// Sets the merged times of each element of one side.
-fn merge_side(
-    merged: &mut BTreeMap<Bytes, Live<()>>,
-    side: &BTreeMap<Bytes, Live<()>>,
+// The merged times of an element, where there are some. Where a side has those of the base, they are the other
+// side's, and both share them.
+fn merged_times(
     alloc: Global,
-    base: &BTreeMap<Bytes, Live<()>>,
-    left: &BTreeMap<Bytes, Live<()>>,
-    right: &BTreeMap<Bytes, Live<()>>,
-) -> Result<(), Memory>
-    requires { IsOrdered (slice_cmp nat_cmp) merged.old }
-    ensures times { OnOk result ((k : List ℕ) → IsMergedOr (times_at side.now.entries k) (times_at merged.old.entries k) (times_at base.now.entries k) (times_at left.now.entries k) (times_at right.now.entries k) (times_at merged.new.entries k)) }
-    ensures ordered { OnOk result (IsOrdered (slice_cmp nat_cmp) merged.new) }
+    base: Option<&Times>,
+    left: Option<&Times>,
+    right: Option<&Times>,
+) -> Result<Option<Times>, Memory>
+    ensures { IfOk result (IsMergedAt (option_copied base.entry) (option_copied left.entry) (option_copied right.entry)) }
 {
-    for (element, _times) in side.iter() {
-        let times = merged_times(
-            alloc,
-            base.get(element),
-            left.get(element),
-            right.get(element),
-        )?;
-        set_times(merged, element, times)?;
+    if have_same(base, left) {
+        some_shared(right)
+    } else if have_same(base, right) {
+        some_shared(left)
+    } else {
+        merged_anew(alloc, base, left, right)
+    }
+}
+
+// The tables of a merge.
+#[derive(Clone, Copy)]
+pub(crate) struct Sides<'a> {
+    pub(crate) base: &'a Table,
+    pub(crate) left: &'a Table,
+    pub(crate) right: &'a Table,
+}
+
+// The merged times of an element, where there are some.
+fn merged_at(alloc: Global, sides: Sides<'_>, element: &[u8]) -> Result<Option<Times>, Memory>
+    ensures { IfOk result (IsMergedAt (times_at sides.entry.base.now element.now) (times_at sides.entry.left.now element.now) (times_at sides.entry.right.now element.now)) }
+{
+    merged_times(
+        alloc,
+        sides.base.times(element),
+        sides.left.times(element),
+        sides.right.times(element),
+    )
+}
+
+// The merged times of the elements of the left side.
+fn merged_left(alloc: Global, sides: Sides<'_>) -> Result<Table, Memory>
+    ensures { IfOk result (λ merged. (k : List ℕ) → IsMergedOr (times_at sides.entry.left.now k) None (times_at sides.entry.base.now k) (times_at sides.entry.left.now k) (times_at sides.entry.right.now k) (times_at merged k)) }
+{
+    let mut merged = Table::new(alloc);
+    for (element, _times) in sides.left.in_order().iter() {
+        let element = element.as_slice();
+        let times = merged_at(alloc, sides, element)?;
+        set_times(alloc, &mut merged, element, times)?;
+    }
+    Ok(merged)
+}
+
+// Sets the merged times of the elements of the right side that the left side has not.
+fn merge_right(alloc: Global, merged: &mut Table, sides: Sides<'_>) -> Result<(), Memory>
+    requires { (k : List ℕ) → IsMergedOr (times_at sides.left.now k) None (times_at sides.base.now k) (times_at sides.left.now k) (times_at sides.right.now k) (times_at merged.old k) }
+    ensures { OnOk result ((k : List ℕ) → IsMergedAt (times_at sides.entry.base.now k) (times_at sides.entry.left.now k) (times_at sides.entry.right.now k) (times_at merged.new k)) }
+{
+    for (element, _times) in sides.right.in_order().iter() {
+        let element = element.as_slice();
+        if !sides.left.has(element) {
+            let times = merged_at(alloc, sides, element)?;
+            set_times(alloc, merged, element, times)?;
+        }
     }
     Ok(())
 }
 
 // The merged times of the elements of both sides.
-pub(crate) fn merged(
-    alloc: Global,
-    base: &BTreeMap<Bytes, Live<()>>,
-    left: &BTreeMap<Bytes, Live<()>>,
-    right: &BTreeMap<Bytes, Live<()>>,
-) -> Result<BTreeMap<Bytes, Live<()>>, Memory>
-    ensures times { IfOk result (λ merged. (k : List ℕ) → IsMergedAt (times_at base.now.entries k) (times_at left.now.entries k) (times_at right.now.entries k) (times_at merged.entries k)) }
-    ensures ordered { IfOk result (IsOrdered (slice_cmp nat_cmp)) }
+pub(crate) fn merged(alloc: Global, sides: Sides<'_>) -> Result<Table, Memory>
+    ensures merges { IfOk result (λ merged. (k : List ℕ) → IsMergedAt (times_at sides.entry.base.now k) (times_at sides.entry.left.now k) (times_at sides.entry.right.now k) (times_at merged k)) }
+    ensures sorted { IfOk result (λ merged. IsStrictlySortedBy (slice_cmp nat_cmp) (keys_of merged)) }
 {
-    let mut merged = BTreeMap::new(alloc);
-    merge_side(&mut merged, left, alloc, base, left, right)?;
-    merge_side(&mut merged, right, alloc, base, left, right)?;
+    let mut merged = merged_left(alloc, sides)?;
+    merge_right(alloc, &mut merged, sides)?;
+    let _size = merged.size();
     Ok(merged)
 }

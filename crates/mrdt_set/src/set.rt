@@ -1,12 +1,21 @@
 // The set, its operations and its laws.
-use crate::members::{copied, elements_in_order, has_element, merged, set_times};
+ghost use Rattle.std.specs.Prelude.{◌≡◌, IfOk, OnOk, IsErrOf};
+ghost use Rattle.mrdt_set.specs.declared.set.SetOp.{SetOp as SpecOp};
+ghost use Rattle.mrdt_set.specs.Set.{IsSetOp, op_spelling, IsOpSpelling};
+
+use crate::members::{Sides, elements_in_order, merged, set_times, some_new};
+use crate::same::same_tables;
 use crate::spelled::{put_members, take_members};
+use crate::table::Table;
 use branch_wire::Cursor;
-use live_set::Live;
+use live_set::{Live, unit_reply, whole_text};
 use mrdt_model::{Bytes, Listing, Memory, Mrdt, Time, Unread};
 use std::alloc::Global;
-use std::collections::BTreeMap;
 use std::marker::Model;
+
+const ADD: u8 = 1;
+
+const REMOVE: u8 = 2;
 
 /// An operation of a set.
 #[derive(Drop)]
@@ -36,8 +45,8 @@ impl SetOp {
         ensures { result ≡ word_of self.now }
     {
         match self {
-            SetOp::Add(_) => 1,
-            SetOp::Remove(_) => 2,
+            SetOp::Add(_) => ADD,
+            SetOp::Remove(_) => REMOVE,
         }
     }
 
@@ -51,6 +60,23 @@ impl SetOp {
             SetOp::Remove(_) => (),
         }
         Ok(times)
+    }
+}
+
+// Reads an operation that is the whole of the bytes. What is outside the grammar is refused before any memory is
+// taken.
+fn get_op(alloc: Global, bytes: &[u8]) -> Result<SetOp, Unread>
+    ensures spelled { IfOk result (λ op. op_spelling op ≡ bytes.now) }
+    ensures known { IfOk result IsSetOp }
+    ensures equal { IfOk result (λ op. (other : SpecOp) → IsSetOp other → op_spelling other ≡ bytes.now → op ≡ other) }
+    ensures inside { OnOk result (IsOpSpelling bytes.now) }
+    ensures outside { IsErrOf result Unread.NotCanonical → ¬ IsOpSpelling bytes.now }
+    ensures refused { ¬ IsOpSpelling bytes.now → IsErrOf result Unread.NotCanonical }
+{
+    match bytes.split_first() {
+        Some((&ADD, rest)) => Ok(SetOp::Add(whole_text(alloc, rest)?)),
+        Some((&REMOVE, rest)) => Ok(SetOp::Remove(whole_text(alloc, rest)?)),
+        _ => Err(Unread::NotCanonical),
     }
 }
 
@@ -81,7 +107,7 @@ pub enum SetAnswer {
 #[derive(Drop)]
 pub struct Set {
     alloc: Global,
-    members: BTreeMap<Bytes, Live<()>>,
+    members: Table,
 }
 
 impl Model for Set {
@@ -90,7 +116,7 @@ impl Model for Set {
 
     ghost Value = { List (List ℕ × List (Kept (Unit {0}))) };
 
-    ghost view = { λ s. s.members.entries };
+    ghost view = { λ s. s.members };
 }
 
 impl Set {
@@ -101,14 +127,14 @@ impl Set {
     pub fn contains(&self, element: &[u8]) -> bool
         ensures { result ≡ is_some (times_at self.now element.now) }
     {
-        has_element(&self.members, element)
+        self.members.has(element)
     }
 
     /// How many elements are in the set. It takes no memory.
     pub fn size(&self) -> u64
         ensures { result ≡ length self.now }
     {
-        self.members.len() as u64
+        self.members.size() as u64
     }
 }
 
@@ -129,22 +155,28 @@ impl Mrdt for Set {
     fn initial(alloc: Global) -> Set {
         Set {
             alloc,
-            members: BTreeMap::new(alloc),
+            members: Table::new(alloc),
         }
     }
 
     fn copy(&self) -> Result<Set, Memory> {
         Ok(Set {
             alloc: self.alloc,
-            members: copied(self.alloc, &self.members)?,
+            members: self.members.copy()?,
         })
     }
 
+    fn same(&self, other: &Set) -> bool {
+        same_tables(&self.members, &other.members)
+    }
+
     fn apply(&self, op: &SetOp, time: Time) -> Result<(Set, ()), Memory> {
-        let element = op.element();
-        element.known();
-        let mut members = copied(self.alloc, &self.members)?;
-        set_times(&mut members, element, op.times(self.alloc, time)?)?;
+        let element = op.element().as_slice();
+        let mut members = self.members.copy()?;
+        let after = op.times(self.alloc, time)?;
+        let times = some_new(self.alloc, after)?;
+        set_times(self.alloc, &mut members, element, times)?;
+        let _size = members.size();
         Ok((
             Set {
                 alloc: self.alloc,
@@ -155,9 +187,14 @@ impl Mrdt for Set {
     }
 
     fn merge(base: &Set, left: &Set, right: &Set) -> Result<Set, Memory> {
+        let sides = Sides {
+            base: &base.members,
+            left: &left.members,
+            right: &right.members,
+        };
         Ok(Set {
             alloc: left.alloc,
-            members: merged(left.alloc, &base.members, &left.members, &right.members)?,
+            members: merged(left.alloc, sides)?,
         })
     }
 
@@ -190,27 +227,15 @@ impl Mrdt for Set {
     }
 
     fn get_op(alloc: Global, bytes: &[u8]) -> Result<SetOp, Unread> {
-        let mut cursor = Cursor::new(bytes);
-        let word = cursor.take_u8()?;
-        let element = Bytes::from_slice(alloc, cursor.take_rest())?;
-        element.known();
-        match word {
-            1 => Ok(SetOp::Add(element)),
-            2 => Ok(SetOp::Remove(element)),
-            _ => Err(Unread::NotCanonical),
-        }
+        get_op(alloc, bytes)
     }
 
-    fn put_reply(_reply: &(), _out: &mut Vec<u8>) -> Result<(), Memory> {
-        Ok(())
+    fn put_reply(reply: &(), out: &mut Vec<u8>) -> Result<(), Memory> {
+        unit_reply::put(reply, out)
     }
 
     fn get_reply(_alloc: Global, bytes: &[u8]) -> Result<(), Unread> {
-        if bytes.is_empty() {
-            Ok(())
-        } else {
-            Err(Unread::NotCanonical)
-        }
+        unit_reply::get(bytes)
     }
 
     ghost laws = { set_laws };

@@ -93,6 +93,10 @@ fn sets_are_spelled(rt: HostRuntime) {
     assert!(rt; out.as_slice() == ONE);
     let two = Set::get(alloc, TWO).expect(&rt, "two members");
     assert_eq!(rt; two.size(), 2);
+    let one = Set::get(alloc, ONE).expect(&rt, "a member");
+    assert!(rt; set.same(&one));
+    assert!(rt; !two.same(&one) && !one.same(&two));
+    assert!(rt; !one.same(&after(&rt, &one, &add, at(3, 0))));
     for bytes in [NONE, FALLING, &ONE[..28], &ONE[..7]] {
         assert!(rt; matches!(Set::get(alloc, bytes), Err(Unread::NotCanonical)));
     }

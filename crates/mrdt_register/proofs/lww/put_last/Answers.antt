@@ -1,4 +1,4 @@
-use Rattle.std.proofs.Common.{rules, ◌≡◌, ◌∷◌, ◌++◌, [], List, ℕ, OnErr, sym, subst}
+use Rattle.std.proofs.Common.{rules, ◌≡◌, ◌∷◌, ◌++◌, [], OnErr, sym, subst}
 use Rattle.std.proofs.lemmas.Result.{on_err_weaker}
 use Rattle.mrdt_model.specs.Spelled.{AppendsPart}
 use Rattle.branch_wire.specs.Fields.{time_field, field}
@@ -22,8 +22,7 @@ returns-in_ok-put_time-in-Some-clause-err c =
     let kept = c.in-Some.kept in
     let mid = c.push-in-Some.new.self.items in
     let timed = c.put_time.new.out.items in
-    let new = c.put_bytes.new.out.items in
+    let new = c.put.new.out.items in
     let first : mid ≡ old ++ 1 ∷ [] = search rules in
-    let own = subst (λ (bytes : List ℕ). OnErr c.put_bytes.result (AppendsPart timed new (field bytes))) c.as_slice.ensures c.put_bytes.ensures.err in
-    subst (λ last. OnErr c.put_bytes.result (AppendsPart old new (lww_spelling last))) (sym c.in-Some.is)
-    (on_err_weaker c.put_bytes.result (λ part. part-second old mid new (1 ∷ []) (time_field kept.time ++ field kept.payload) first (part-second mid timed new (time_field kept.time) (field kept.payload) c.in_ok-put_time-in-Some.ensures.ok part)) own)
+    subst (λ last. OnErr c.put.result (AppendsPart old new (lww_spelling last))) (sym c.in-Some.is)
+    (on_err_weaker c.put.result (λ part. part-second old mid new (1 ∷ []) (time_field kept.time ++ field kept.payload) first (part-second mid timed new (time_field kept.time) (field kept.payload) c.in_ok-put_time-in-Some.ensures.ok part)) c.put.ensures.err)

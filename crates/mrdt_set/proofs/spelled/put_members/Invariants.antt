@@ -1,7 +1,8 @@
 use Rattle.std.specs.List.{flat_map}
-use Rattle.mrdt_set.specs.Members.{member_spelling, set_spelling}
+use Rattle.std.specs.Vec.{vec_items}
+use Rattle.mrdt_set.specs.Members.{by_bytes, member_spelling, set_spelling}
 use Rattle.mrdt_set.proofs.Writing.{PutSoFar}
 use Rattle.mrdt_set.proofs.spelled.put_members.Given as goal
 
 abbrev pub invariant-loop-element : goal.invariant-loop-element
-invariant-loop-element l = PutSoFar l.fn.out.items l.out.items (flat_map member_spelling l.element-iterator) (set_spelling l.members.entries)
+invariant-loop-element l = PutSoFar l.fn.out.items l.out.items (flat_map member_spelling (by_bytes vec_items l.element-iterator)) (set_spelling l.members)

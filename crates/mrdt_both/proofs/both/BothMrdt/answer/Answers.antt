@@ -9,11 +9,11 @@ returns-in_ok-answer-in-First g c x l is =
     let m = g.A.Mrdt.meaning in
     let n = g.B.Mrdt.meaning in
     let st : StandForSides m.stands n.stands (c.self.inside.first, c.self.inside.second) x = subst (λ both. StandForSides m.stands n.stands both x) (sym c.self.view_is) is in
-    ap First (c.in_ok-answer-in-First.ensures (first_part x) (first_lawful m n x l) st.0) ∙ ap (by_side m.answer_of n.answer_of x) (sym c.in-First.is)
+    ap First (c.in_ok-answer-in-First.ensures (first_part x) (first_lawful m n x l) (subst (λ v. m.stands v (first_part x)) (sym c.get.ensures) st.0)) ∙ ap (by_side m.answer_of n.answer_of x) (sym c.in-First.is)
 
 pub returns-in_ok-answer-in-Second : goal.returns-in_ok-answer-in-Second
 returns-in_ok-answer-in-Second g c x l is =
     let m = g.A.Mrdt.meaning in
     let n = g.B.Mrdt.meaning in
     let st : StandForSides m.stands n.stands (c.self.inside.first, c.self.inside.second) x = subst (λ both. StandForSides m.stands n.stands both x) (sym c.self.view_is) is in
-    ap Second (c.in_ok-answer-in-Second.ensures (second_part x) (second_lawful m n x l) st.1) ∙ ap (by_side m.answer_of n.answer_of x) (sym c.in-Second.is)
+    ap Second (c.in_ok-answer-in-Second.ensures (second_part x) (second_lawful m n x l) (subst (λ v. n.stands v (second_part x)) (sym c.get-in-Second.ensures) st.1)) ∙ ap (by_side m.answer_of n.answer_of x) (sym c.in-Second.is)

@@ -2,7 +2,7 @@ use Rattle.std.proofs.Common.{◌≡◌, ◌+ℤ◌, ◌∙◌, refl, arith}
 use Rattle.std.proofs.lemmas.Int.{ints, int_wrap_fits, to_z-of_z}
 use Rattle.std.specs.Int.{int_wrap, w64, w128}
 use Rattle.mrdt_counter.specs.Counter.{total, amount}
-use Rattle.mrdt_counter.specs.Totals.{next-within}
+use Rattle.mrdt_counter.proofs.Totals.{next-within}
 use Rattle.mrdt_counter.proofs.counter.CounterMrdt.apply.Goals as goal
 
 pub returns-clause-applies : goal.returns-clause-applies

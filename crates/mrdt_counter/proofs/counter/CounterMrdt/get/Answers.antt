@@ -5,7 +5,7 @@ use Rattle.std.proofs.lemmas.Int.{to_z-of_z}
 use Rattle.std.specs.Int.{w128}
 use Rattle.branch_wire.specs.Fields.{wide_signed_number}
 use Rattle.branch_wire.proofs.Numbers.{length-wide_signed_number}
-use Rattle.mrdt_counter.specs.Totals.{total-fits}
+use Rattle.mrdt_counter.proofs.Totals.{total-fits}
 use Rattle.mrdt_counter.proofs.Whole.{whole-length, more-length}
 use Rattle.mrdt_counter.proofs.counter.CounterMrdt.get.Goals as goal
 

@@ -1,7 +1,8 @@
 use Rattle.std.proofs.Common.{◌∙◌, subst, sym, FitsSigned}
 use Rattle.std.proofs.lemmas.Int.{int_wrap_fits}
 use Rattle.std.specs.Int.{w128}
-use Rattle.mrdt_counter.specs.Totals.{total-union, union-fits}
+use Rattle.mrdt_counter.specs.Sums.{total-union}
+use Rattle.mrdt_counter.proofs.Totals.{union-fits}
 use Rattle.mrdt_model.specs.Times.{either}
 use Rattle.mrdt_counter.proofs.counter.CounterMrdt.merge.Goals as goal
 

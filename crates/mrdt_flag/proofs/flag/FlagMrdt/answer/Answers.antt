@@ -1,7 +1,8 @@
 use Rattle.std.proofs.Common.{◌∙◌, ap, sym}
 use Rattle.live_set.specs.Effects.{has_any}
 use Rattle.live_set.proofs.Holding.{holds-live}
-use Rattle.mrdt_flag.specs.Flag.{flag_effect, IsAnyOp, IsAnyReply}
+use Rattle.live_set.specs.UnitReply.{IsAnyReply}
+use Rattle.mrdt_flag.specs.Flag.{flag_effect, IsAnyOp}
 use Rattle.mrdt_flag.proofs.flag.FlagMrdt.answer.Goals as goal
 
 pub returns : goal.returns

@@ -5,7 +5,8 @@ use Rattle.mrdt_model.proofs.Parts.{all_seen}
 use Rattle.live_set.specs.Effects.{live_of, live_after}
 use Rattle.live_set.proofs.Standing.{live-next}
 use Rattle.mrdt_flag.specs.declared.flag.FlagOp.{FlagOp}
-use Rattle.mrdt_flag.specs.Flag.{flag_effect, IsAnyOp, IsAnyReply, no_reply}
+use Rattle.live_set.specs.UnitReply.{IsAnyReply, no_reply}
+use Rattle.mrdt_flag.specs.Flag.{flag_effect, IsAnyOp}
 use Rattle.mrdt_flag.proofs.flag.FlagMrdt.apply.Goals as goal
 
 -- what is live after an operation

@@ -1,10 +1,12 @@
 use Rattle.std.proofs.Common.{◌∙◌}
-use Rattle.live_set.proofs.Standing.{well_formed-apart, merged-live}
-use Rattle.mrdt_flag.specs.Flag.{flag_effect, IsAnyOp, IsAnyReply}
+use Rattle.mrdt_model.proofs.SameEvents.{own-times}
+use Rattle.live_set.specs.UnitReply.{IsAnyReply}
+use Rattle.live_set.proofs.Standing.{merged-live}
+use Rattle.mrdt_flag.specs.Flag.{flag_effect, IsAnyOp}
 use Rattle.mrdt_flag.proofs.flag.FlagMrdt.merge.Goals as goal
 
 pub returns : goal.returns
 returns c x a b lawful closed_a closed_b base left right =
     let live = c.in_ok-merge in
-    merged-live flag_effect x a b c.base.inside.enabled c.left.inside.enabled c.right.inside.enabled live.field-0 (well_formed-apart IsAnyOp IsAnyReply x lawful.well_formed) closed_a closed_b
+    merged-live flag_effect x a b c.base.inside.enabled c.left.inside.enabled c.right.inside.enabled live.field-0 (own-times IsAnyOp IsAnyReply x lawful.well_formed) closed_a closed_b
     (c.base.view_is ∙ base) (c.left.view_is ∙ left) (c.right.view_is ∙ right) live.ensures.rising live.ensures.merges

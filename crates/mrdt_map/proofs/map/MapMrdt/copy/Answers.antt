@@ -1,17 +1,9 @@
-use Rattle.std.proofs.Common.{sym}
-use Rattle.mrdt_map.proofs.OnKeys.{copies}
-use Rattle.mrdt_map.proofs.Spellings.{same-spelling}
+use Rattle.std.proofs.Common.{◌∙◌, ap, sym, subst}
+use Rattle.mrdt_map.specs.Keyed.{StandsByKey, entries_spelling}
 use Rattle.mrdt_map.proofs.map.MapMrdt.copy.Goals as goal
 
 pub returns-clause-stands : goal.returns-clause-stands
-returns-clause-stands g c =
-    let t = g.T.Mrdt in
-    let m = c.in_ok-copied in
-    rw (← c.self.view_is) (copies t.meaning c.self.inside.entries.entries m.field-0.entries m.ensures.ordered m.ensures.values)
+returns-clause-stands g c x l is = subst (λ es. StandsByKey g.T.Mrdt.meaning.stands es x) (sym (c.in_ok-shared.ensures.entries ∙ c.self.view_is)) is
 
 pub returns-clause-spelling : goal.returns-clause-spelling
-returns-clause-spelling g c =
-    let t = g.T.Mrdt in
-    let m = c.in_ok-copied in
-    let old = c.self.inside.entries.entries in
-    rw (← c.self.view_is) (sym (same-spelling t.meaning.state_spelling old m.field-0.entries m.ensures.was_ordered m.ensures.ordered m.ensures.spellings))
+returns-clause-spelling g c = ap (entries_spelling g.T.Mrdt.meaning.state_spelling) (c.in_ok-shared.ensures.entries ∙ c.self.view_is)

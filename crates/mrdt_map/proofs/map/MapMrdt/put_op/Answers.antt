@@ -9,12 +9,12 @@ pub returns-in_err-put_bytes-clause-err : goal.returns-in_err-put_bytes-clause-e
 returns-in_err-put_bytes-clause-err g c =
     let old = c.args.out.now.items in
     let new = c.put_bytes.new.out.items in
-    let part = subst (λ (key : List ℕ). AppendsPart old new (field key)) c.as_slice.ensures c.in_err-put_bytes.ensures.err in
+    let part = subst (λ (key : List ℕ). AppendsPart old new (field key)) c.as_slice.ensures.bytes c.in_err-put_bytes.ensures.err in
     on-err c.from_residual.result (part-first old new (field c.args.op.now.key) (g.T.Mrdt.meaning.op_spelling c.args.op.now.operation) part)
 
 pub returns-clause-err : goal.returns-clause-err
 returns-clause-err g c =
     let old = c.args.out.now.items in
     let mid = c.put_bytes.new.out.items in
-    let key : mid ≡ old ++ field c.args.op.now.key = c.in_ok-put_bytes.ensures.ok ∙ ap (λ k. old ++ field k) c.as_slice.ensures in
+    let key : mid ≡ old ++ field c.args.op.now.key = c.in_ok-put_bytes.ensures.ok ∙ ap (λ k. old ++ field k) c.as_slice.ensures.bytes in
     on_err_weaker c.put_op.result (part-second old mid c.put_op.new.out.items (field c.args.op.now.key) (g.T.Mrdt.meaning.op_spelling c.args.op.now.operation) key) c.put_op.ensures.err

@@ -10,7 +10,7 @@ use Rattle.mrdt_set.proofs.set.SetMrdt.answer.Goals as goal
 pub returns-in-Contains : goal.returns-in-Contains
 returns-in-Contains c x lawful is =
     let element = c.in-Contains.element in
-    ap IsIn (c.contains.ensures ∙ ap (λ k. is_some (times_at c.args.self.now k)) c.as_slice.ensures ∙ contains-holds c.args.self.now x element lawful.well_formed is) ∙ ap (set_answer x) (sym c.in-Contains.is)
+    ap IsIn (c.contains.ensures ∙ ap (λ k. is_some (times_at c.args.self.now k)) c.as_slice.ensures.bytes ∙ contains-holds c.args.self.now x element lawful.well_formed is) ∙ ap (set_answer x) (sym c.in-Contains.is)
 
 pub returns-in_ok-elements_in_order-in-Members : goal.returns-in_ok-elements_in_order-in-Members
 returns-in_ok-elements_in_order-in-Members c x lawful is =

@@ -21,7 +21,7 @@ pub returns-then-is_at_end-clause-stands : goal.returns-then-is_at_end-clause-st
 returns-then-is_at_end-clause-stands c other spelled x lawful is =
     let short : length c.args.bytes.now < 2 ^ 64 = search rules in
     let fit : c.in_ok-count.count < 2 ^ 64 = search rules in
-    let own = c.in_ok-members.members.entries in
+    let own = c.in_ok-members.members in
     let whole = taken-whole c.args.bytes.now c.take_u64.new.self c.take_members.new.cursor c.in_ok-count.count own (sym c.new-cursor.ensures ∙ c.in_ok-count.ensures.ok) c.in_ok-members.ensures.ok (c.if-is_at_end.ensures.0 refl) in
     let inside = taken-members c.take_u64.new.self c.take_members.new.cursor c.in_ok-count.count own c.in_ok-members.ensures.ok fit in
     let few = subst (λ s. length (set_spelling s) < 2 ^ 64) is (subst (λ b. length b < 2 ^ 64) (sym spelled) short) in
@@ -31,5 +31,5 @@ pub returns-else-is_at_end-clause-outside : goal.returns-else-is_at_end-clause-o
 returns-else-is_at_end-clause-outside c error inside =
     let flat = flat_map member_spelling inside.0 in
     let found = c.in_ok-count.ensures.back (length inside.0) flat inside.1.few (c.new-cursor.ensures ∙ inside.2) in
-    let none = taken-all c.take_u64.new.self c.take_members.new.cursor c.in_ok-count.count c.in_ok-members.members.entries inside.0 c.in_ok-members.ensures.ok found.0 (inside.1.rising, inside.1.each) found.1 in
+    let none = taken-all c.take_u64.new.self c.take_members.new.cursor c.in_ok-count.count c.in_ok-members.members inside.0 c.in_ok-members.ensures.ok found.0 (inside.1.rising, inside.1.each) found.1 in
     both_ways c.is_at_end.result c.if-is_at_end.false (c.is_at_end.ensures.1 none)
