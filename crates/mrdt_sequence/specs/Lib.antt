@@ -1,0 +1,13 @@
+pub mod Order
+pub mod Sequence
+pub mod Edits
+pub mod Reading
+pub mod Forest
+pub mod Laws
+pub mod Ordered
+pub mod Nodes
+pub mod InGrammar
+pub mod Unchanged
+pub mod AnyOrder
+pub mod Alike
+pub mod SequenceLaws

@@ -1,0 +1,180 @@
+// The sequence and its laws.
+ghost use Rattle.std.specs.Prelude.{◌≡◌, length, IfOk};
+ghost use Rattle.mrdt_sequence.specs.Order.{woven};
+ghost use Rattle.mrdt_sequence.specs.Sequence.{items_of, nodes_behind, reply_at, answer_at};
+
+use crate::compare::are_same;
+use crate::edit::{copies, count_of, first_behind, hidden_at, inserted, items, last_of, woven_of};
+use crate::node::Node;
+use crate::op::{SequenceAnswer, SequenceOp, SequenceQuery};
+use crate::reading::get_nodes;
+use crate::spelling::{get_op, get_reply, put_named, put_nodes, put_op};
+use live_set::shared_text;
+use mrdt_model::{Listing, Memory, Mrdt, Time, Unread};
+use std::alloc::Global;
+use std::marker::Model;
+
+/// Payloads in an order that each insert chooses. Contracts see all nodes in that order, hidden ones too.
+#[derive(Drop)]
+pub struct Sequence {
+    alloc: Global,
+    nodes: Vec<Node>,
+}
+
+impl Model for Sequence {
+    ghost use Rattle.std.specs.Prelude.{List};
+    ghost use Rattle.mrdt_sequence.specs.declared.node.Node.{Node};
+
+    ghost Value = { List Node };
+
+    ghost view = { λ s. s.nodes.items };
+}
+
+impl Sequence {
+    /// The number of the items. It takes no memory.
+    pub fn length(&self) -> u64
+        ensures { result ≡ length (items_of self.now) }
+    {
+        count_of(&self.nodes)
+    }
+
+    // A sequence of the same nodes, with payloads that both share.
+    fn shared(&self) -> Result<Sequence, Memory>
+        ensures { IfOk result (λ sequence. sequence ≡ self.now) }
+    {
+        Ok(Sequence {
+            alloc: self.alloc,
+            nodes: copies(self.alloc, &self.nodes)?,
+        })
+    }
+
+    // What an operation replies.
+    fn reply(&self, op: &SequenceOp) -> Option<Time>
+        ensures value { result ≡ reply_at self.now op.now }
+    {
+        match op {
+            SequenceOp::Insert(place, _) => last_of(&self.nodes, *place),
+            SequenceOp::Delete(place) => first_behind(&self.nodes, *place),
+        }
+    }
+
+    // The sequence behind an operation with this reply.
+    fn behind(&self, op: &SequenceOp, time: Time, reply: Option<Time>) -> Result<Sequence, Memory>
+        ensures { IfOk result (λ made. made ≡ nodes_behind time op.now reply self.now) }
+    {
+        let nodes = match op {
+            SequenceOp::Insert(_, payload) => inserted(
+                self.alloc,
+                &self.nodes,
+                Node {
+                    time,
+                    parent: reply,
+                    hidden: false,
+                    payload: shared_text(self.alloc, payload.as_slice())?,
+                },
+            )?,
+            SequenceOp::Delete(_) => hidden_at(self.alloc, &self.nodes, reply)?,
+        };
+        Ok(Sequence {
+            alloc: self.alloc,
+            nodes,
+        })
+    }
+
+    // Two sequences, woven.
+    fn joined(left: &Sequence, right: &Sequence) -> Result<Sequence, Memory>
+        ensures { IfOk result (λ made. made ≡ woven left.now right.now) }
+    {
+        Ok(Sequence {
+            alloc: left.alloc,
+            nodes: woven_of(left.alloc, &left.nodes, &right.nodes)?,
+        })
+    }
+
+    // What it answers.
+    fn answered(&self, query: &SequenceQuery) -> Result<SequenceAnswer, Memory>
+        ensures { IfOk result (λ answer. answer ≡ answer_at self.now query.now) }
+    {
+        match query {
+            SequenceQuery::Read => {
+                let list = items(self.alloc, &self.nodes)?;
+                Ok(SequenceAnswer::OnItems(Listing::from_vec(list)))
+            }
+            SequenceQuery::Length => Ok(SequenceAnswer::OnLength(self.length())),
+        }
+    }
+}
+
+impl Mrdt for Sequence {
+    ghost use Rattle.mrdt_sequence.specs.Sequence.{sequence_meaning};
+    ghost use Rattle.mrdt_sequence.specs.SequenceLaws.{sequence_laws};
+
+    type Op = SequenceOp;
+
+    type Query = SequenceQuery;
+
+    type Answer = SequenceAnswer;
+
+    type Reply = Option<Time>;
+
+    ghost meaning = { sequence_meaning };
+
+    fn initial(alloc: Global) -> Sequence {
+        Sequence {
+            alloc,
+            nodes: Vec::new(alloc),
+        }
+    }
+
+    fn copy(&self) -> Result<Sequence, Memory> {
+        self.shared()
+    }
+
+    fn same(&self, other: &Sequence) -> bool {
+        let (mine, theirs) = (&self.nodes, &other.nodes);
+        mine.len() == theirs.len() && are_same(mine, theirs)
+    }
+
+    fn apply(&self, op: &SequenceOp, time: Time) -> Result<(Sequence, Option<Time>), Memory> {
+        op.known();
+        let reply = self.reply(op);
+        Ok((self.behind(op, time, reply)?, reply))
+    }
+
+    fn merge(_base: &Sequence, left: &Sequence, right: &Sequence) -> Result<Sequence, Memory> {
+        Sequence::joined(left, right)
+    }
+
+    fn answer(&self, query: &SequenceQuery) -> Result<SequenceAnswer, Memory> {
+        self.answered(query)
+    }
+
+    fn put(&self, out: &mut Vec<u8>) -> Result<(), Memory> {
+        put_nodes(&self.nodes, out)
+    }
+
+    fn get(alloc: Global, bytes: &[u8]) -> Result<Sequence, Unread> {
+        Ok(Sequence {
+            alloc,
+            nodes: get_nodes(alloc, bytes)?,
+        })
+    }
+
+    fn put_op(op: &SequenceOp, out: &mut Vec<u8>) -> Result<(), Memory> {
+        put_op(op, out)
+    }
+
+    fn get_op(alloc: Global, bytes: &[u8]) -> Result<SequenceOp, Unread> {
+        get_op(alloc, bytes)
+    }
+
+    fn put_reply(reply: &Option<Time>, out: &mut Vec<u8>) -> Result<(), Memory> {
+        put_named(*reply, out)
+    }
+
+    fn get_reply(_alloc: Global, bytes: &[u8]) -> Result<Option<Time>, Unread> {
+        get_reply(bytes)
+    }
+
+    ghost laws = { sequence_laws };
+}
