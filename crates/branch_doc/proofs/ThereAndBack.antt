@@ -46,7 +46,7 @@ use Rattle.branch_doc.specs.declared.plain.PlainReply.{PlainReply}
 use Rattle.branch_doc.specs.declared.plain.PlainReply.TheVariants as reply
 use Rattle.branch_doc.specs.declared.plain.PlainAnswer.{PlainAnswer}
 use Rattle.branch_doc.specs.declared.plain.PlainAnswer.TheVariants as answer
-use Rattle.branch_doc.specs.Sides.{at_counters, at_flags, at_lasts, at_multis, at_sets, at_logs, at_queues}
+use Rattle.branch_doc.specs.Sides.{at_counters, at_flags, at_last_writes, at_multis, at_sets, at_logs, at_queues}
 use Rattle.branch_doc.specs.Forms.{DocOp, DocQuery, DocReply, DocAnswer, on, doc_op, doc_query, plain_reply, plain_answer}
 
 -- the plain form of an operation
@@ -102,7 +102,7 @@ flag-back : (key : List ℕ) (o : FlagOp) → doc_op (flag_form key o) ≡ at_fl
 flag-back key flag_op.Enable = refl
 flag-back key flag_op.Disable = refl
 
-lww-back : (key : List ℕ) (o : RegisterOp) → doc_op (lww_form key o) ≡ at_lasts (on key o)
+lww-back : (key : List ℕ) (o : RegisterOp) → doc_op (lww_form key o) ≡ at_last_writes (on key o)
 lww-back key (register_op.Set payload) = refl
 
 multi-back : (key : List ℕ) (o : RegisterOp) → doc_op (multi_form key o) ≡ at_multis (on key o)
@@ -221,7 +221,7 @@ took_reply (Some kept) = Took kept
 abbrev pub doc_reply : PlainReply → DocReply
 doc_reply reply.Counter = at_counters tt
 doc_reply reply.Flag = at_flags tt
-doc_reply reply.Lww = at_lasts tt
+doc_reply reply.Lww = at_last_writes tt
 doc_reply reply.Multi = at_multis tt
 doc_reply reply.Set = at_sets tt
 doc_reply reply.Log = at_logs tt
@@ -257,7 +257,7 @@ reply-back (reply.QueueTook first) = took-back first
 abbrev keys_answer : Kind → List (List ℕ) → DocAnswer
 keys_answer kind.Counter keys = at_counters (OnKeys keys)
 keys_answer kind.Flag keys = at_flags (OnKeys keys)
-keys_answer kind.Lww keys = at_lasts (OnKeys keys)
+keys_answer kind.Lww keys = at_last_writes (OnKeys keys)
 keys_answer kind.Multi keys = at_multis (OnKeys keys)
 keys_answer kind.Set keys = at_sets (OnKeys keys)
 keys_answer kind.Log keys = at_logs (OnKeys keys)
@@ -266,7 +266,7 @@ keys_answer kind.Queue keys = at_queues (OnKeys keys)
 abbrev pub doc_answer : PlainAnswer → DocAnswer
 doc_answer (answer.CounterValue n) = at_counters (OnValue n)
 doc_answer (answer.FlagIsOn b) = at_flags (OnValue b)
-doc_answer (answer.LwwGet payload) = at_lasts (OnValue payload)
+doc_answer (answer.LwwGet payload) = at_last_writes (OnValue payload)
 doc_answer (answer.MultiValues payloads) = at_multis (OnValue payloads)
 doc_answer (answer.SetContains b) = at_sets (OnValue (IsIn b))
 doc_answer (answer.SetMembers members) = at_sets (OnValue (All members))

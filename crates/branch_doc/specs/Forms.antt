@@ -50,7 +50,7 @@ use Rattle.branch_doc.specs.declared.plain.PlainReply.{PlainReply}
 use Rattle.branch_doc.specs.declared.plain.PlainReply.TheVariants as reply
 use Rattle.branch_doc.specs.declared.plain.PlainAnswer.{PlainAnswer}
 use Rattle.branch_doc.specs.declared.plain.PlainAnswer.TheVariants as answer
-use Rattle.branch_doc.specs.Sides.{OfKinds, at_counters, at_flags, at_lasts, at_multis, at_sets, at_logs, at_queues}
+use Rattle.branch_doc.specs.Sides.{OfKinds, at_counters, at_flags, at_last_writes, at_multis, at_sets, at_logs, at_queues}
 
 -- a document's own operations, queries, replies and answers
 abbrev pub DocOp : Type 0
@@ -73,7 +73,7 @@ abbrev pub doc_op : PlainOp → DocOp
 doc_op (CounterAdd key amount) = at_counters (on key (counter_op.Add amount))
 doc_op (FlagEnable key) = at_flags (on key flag_op.Enable)
 doc_op (FlagDisable key) = at_flags (on key flag_op.Disable)
-doc_op (LwwSet key payload) = at_lasts (on key (register_op.Set payload))
+doc_op (LwwSet key payload) = at_last_writes (on key (register_op.Set payload))
 doc_op (MultiSet key payload) = at_multis (on key (register_op.Set payload))
 doc_op (SetAdd key element) = at_sets (on key (set_op.Add element))
 doc_op (SetRemove key element) = at_sets (on key (set_op.Remove element))
@@ -85,7 +85,7 @@ doc_op (QueueDequeue key) = at_queues (on key queue_op.Dequeue)
 abbrev pub keys_query : Kind → DocQuery
 keys_query kind.Counter = at_counters map_query.Keys
 keys_query kind.Flag = at_flags map_query.Keys
-keys_query kind.Lww = at_lasts map_query.Keys
+keys_query kind.Lww = at_last_writes map_query.Keys
 keys_query kind.Multi = at_multis map_query.Keys
 keys_query kind.Set = at_sets map_query.Keys
 keys_query kind.Log = at_logs map_query.Keys
@@ -95,7 +95,7 @@ keys_query kind.Queue = at_queues map_query.Keys
 abbrev pub doc_query : PlainQuery → DocQuery
 doc_query (CounterValue key) = at_counters (map_query.AtKey key counter_query.Value)
 doc_query (FlagIsOn key) = at_flags (map_query.AtKey key flag_query.IsOn)
-doc_query (LwwGet key) = at_lasts (map_query.AtKey key lww_query.Get)
+doc_query (LwwGet key) = at_last_writes (map_query.AtKey key lww_query.Get)
 doc_query (MultiValues key) = at_multis (map_query.AtKey key multi_query.Values)
 doc_query (SetContains key element) = at_sets (map_query.AtKey key (set_query.Contains element))
 doc_query (SetMembers key) = at_sets (map_query.AtKey key set_query.Members)

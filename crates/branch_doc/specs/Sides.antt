@@ -13,8 +13,8 @@ at_counters x = First x
 abbrev pub at_flags : {A X Y : Type 0} → X → Side A (Side X Y)
 at_flags x = Second (First x)
 
-abbrev pub at_lasts : {A B X Y : Type 0} → X → Side A (Side B (Side X Y))
-at_lasts x = Second (Second (First x))
+abbrev pub at_last_writes : {A B X Y : Type 0} → X → Side A (Side B (Side X Y))
+at_last_writes x = Second (Second (First x))
 
 abbrev pub at_multis : {A B C X Y : Type 0} → X → Side A (Side B (Side C (Side X Y)))
 at_multis x = Second (Second (Second (First x)))

@@ -11,19 +11,19 @@ use mrdt_set::Set;
 
 /// A map for each kind of value: counters, flags, registers of the last write, registers of several values, sets,
 /// logs and queues.
-pub type Doc = Both<
+pub type Product = Both<
     Map<Counter>,
     Both<Map<Flag>, Both<Map<Lww>, Both<Map<Multi>, Both<Map<Set>, Both<Map<Log>, Map<Queue>>>>>>,
 >;
 
 /// An operation of a document.
-pub type DocOp = <Doc as Mrdt>::Op;
+pub type DocOp = <Product as Mrdt>::Op;
 
 /// A query of a document.
-pub type DocQuery = <Doc as Mrdt>::Query;
+pub type DocQuery = <Product as Mrdt>::Query;
 
 /// The reply to an operation of a document.
-pub type DocReply = <Doc as Mrdt>::Reply;
+pub type DocReply = <Product as Mrdt>::Reply;
 
 /// The answer to a query of a document.
-pub type DocAnswer = <Doc as Mrdt>::Answer;
+pub type DocAnswer = <Product as Mrdt>::Answer;

@@ -2,12 +2,12 @@
 ghost use Rattle.std.specs.Prelude.{◌≡◌};
 ghost use Rattle.branch_doc.specs.declared.plain.Kind.TheVariants as kinds;
 ghost use Rattle.branch_doc.specs.declared.plain.PlainAnswer.TheVariants as answers;
-ghost use Rattle.branch_doc.specs.Sides.{at_counters, at_flags, at_lasts, at_multis, at_sets, at_logs, at_queues};
+ghost use Rattle.branch_doc.specs.Sides.{at_counters, at_flags, at_last_writes, at_multis, at_sets, at_logs, at_queues};
 ghost use Rattle.branch_doc.specs.Forms.{doc_op, doc_query, keys_query, plain_reply, plain_answer, queue_reply_form, map_answer_form, set_answer_form, log_answer_form, queue_answer_form};
 
 use crate::doc::{DocAnswer, DocOp, DocQuery, DocReply};
 use crate::plain::{Kind, PlainAnswer, PlainOp, PlainQuery, PlainReply};
-use crate::sides::{of_flags, of_lasts, of_logs, of_multis, of_queues, of_sets};
+use crate::sides::{of_flags, of_last_writes, of_logs, of_multis, of_queues, of_sets};
 use mrdt_both::Side;
 use mrdt_counter::{CounterOp, CounterQuery};
 use mrdt_flag::{FlagOp, FlagQuery};
@@ -33,7 +33,7 @@ pub fn op(plain: PlainOp) -> DocOp
         PlainOp::CounterAdd { key, amount } => Side::First(on(key, CounterOp::Add(amount))),
         PlainOp::FlagEnable { key } => of_flags(on(key, FlagOp::Enable)),
         PlainOp::FlagDisable { key } => of_flags(on(key, FlagOp::Disable)),
-        PlainOp::LwwSet { key, payload } => of_lasts(on(key, RegisterOp::Set(payload))),
+        PlainOp::LwwSet { key, payload } => of_last_writes(on(key, RegisterOp::Set(payload))),
         PlainOp::MultiSet { key, payload } => of_multis(on(key, RegisterOp::Set(payload))),
         PlainOp::SetAdd { key, element } => of_sets(on(key, SetOp::Add(element))),
         PlainOp::SetRemove { key, element } => of_sets(on(key, SetOp::Remove(element))),
@@ -50,7 +50,7 @@ fn keys_of(kind: Kind) -> DocQuery
     match kind {
         Kind::Counter => Side::First(MapQuery::Keys),
         Kind::Flag => of_flags(MapQuery::Keys),
-        Kind::Lww => of_lasts(MapQuery::Keys),
+        Kind::Lww => of_last_writes(MapQuery::Keys),
         Kind::Multi => of_multis(MapQuery::Keys),
         Kind::Set => of_sets(MapQuery::Keys),
         Kind::Log => of_logs(MapQuery::Keys),
@@ -65,7 +65,7 @@ pub fn query(plain: PlainQuery) -> DocQuery
     match plain {
         PlainQuery::CounterValue { key } => Side::First(MapQuery::AtKey(key, CounterQuery::Value)),
         PlainQuery::FlagIsOn { key } => of_flags(MapQuery::AtKey(key, FlagQuery::IsOn)),
-        PlainQuery::LwwGet { key } => of_lasts(MapQuery::AtKey(key, LwwQuery::Get)),
+        PlainQuery::LwwGet { key } => of_last_writes(MapQuery::AtKey(key, LwwQuery::Get)),
         PlainQuery::MultiValues { key } => of_multis(MapQuery::AtKey(key, MultiQuery::Values)),
         PlainQuery::SetContains { key, element } => {
             of_sets(MapQuery::AtKey(key, SetQuery::Contains(element)))

@@ -8,9 +8,6 @@ pub mod laws;
 pub mod plain;
 mod sides;
 
-pub use doc::{Doc, DocAnswer, DocOp, DocQuery, DocReply};
+pub use doc::{DocAnswer, DocOp, DocQuery, DocReply, Product};
 pub use forms::{answer, op, query, reply};
 pub use plain::{Kind, PlainAnswer, PlainOp, PlainQuery, PlainReply};
-
-#[cfg(test)]
-mod tests;

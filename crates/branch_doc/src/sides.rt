@@ -1,6 +1,6 @@
 // Which side of the nested product each kind is.
 ghost use Rattle.std.specs.Prelude.{◌≡◌};
-ghost use Rattle.branch_doc.specs.Sides.{at_flags, at_lasts, at_multis, at_sets, at_logs, at_queues};
+ghost use Rattle.branch_doc.specs.Sides.{at_flags, at_last_writes, at_multis, at_sets, at_logs, at_queues};
 
 use mrdt_both::Side;
 
@@ -12,8 +12,8 @@ pub(crate) fn of_flags<A, X, Y>(x: X) -> Side<A, Side<X, Y>>
 }
 
 // One of the third kind.
-pub(crate) fn of_lasts<A, B, X, Y>(x: X) -> Side<A, Side<B, Side<X, Y>>>
-    ensures { result ≡ at_lasts x }
+pub(crate) fn of_last_writes<A, B, X, Y>(x: X) -> Side<A, Side<B, Side<X, Y>>>
+    ensures { result ≡ at_last_writes x }
 {
     Side::Second(of_flags(x))
 }
@@ -22,7 +22,7 @@ pub(crate) fn of_lasts<A, B, X, Y>(x: X) -> Side<A, Side<B, Side<X, Y>>>
 pub(crate) fn of_multis<A, B, C, X, Y>(x: X) -> Side<A, Side<B, Side<C, Side<X, Y>>>>
     ensures { result ≡ at_multis x }
 {
-    Side::Second(of_lasts(x))
+    Side::Second(of_last_writes(x))
 }
 
 // One of the fifth kind.

@@ -1,0 +1,9 @@
+//! The document of the store as a type of its own: a struct round the product of maps, so that what stands above meets
+//! one type and not the nested pairs.
+#![tactic(auto)]
+
+pub mod doc;
+#[cfg(test)]
+mod tests;
+
+pub use doc::Doc;
