@@ -7,9 +7,9 @@ use mathlib.Core.List.{IsPrefix}
 use lib.ListN.{get_elem?}
 use Rattle.atomic_table.specs.Table.{State, Me, keeps, Allows, Splits, Joins}
 use Rattle.atomic_table.proofs.Lists.{set_again, set_else}
-use Rattle.branch_front.specs.declared.view.View.{View}
+use Rattle.branch_front.specs.declared.seat_view.SeatView.{SeatView}
 use Rattle.branch_front.specs.declared.rule.Counts.{Counts}
-use Rattle.branch_front.specs.Views.{spent, with_entry, idle_writer, taken_over, less_parts, newcomer, with_caller, together}
+use Rattle.branch_front.specs.SeatViews.{spent, with_entry, idle_writer, taken_over, less_parts, newcomer, with_caller, together}
 use Rattle.branch_front.specs.Lists.{longer, shorter, RisesWithin}
 use Rattle.branch_front.specs.Rules.{Fits, Seated, CountsOneHistory, Added, WriterLooked, CallerLooked}
 use Rattle.branch_front.proofs.Prefixes.{prefix_self, prefix_none, prefix_more, prefix_trans, prefix_length, prefix_shorter}
@@ -18,10 +18,10 @@ use Rattle.branch_front.proofs.Rising.{rises_further, rises_on}
 use Rattle.branch_front.proofs.Keeps.{fits_spent, as_writer, writer_changes, caller_changes, caller_comes}
 
 abbrev Table : Type 0 → Type 0
-Table M = State (Unit {0}) (View M)
+Table M = State (Unit {0}) (SeatView M)
 
 abbrev Seat : Type 0 → Type 0
-Seat M = Me (Unit {0}) (View M)
+Seat M = Me (Unit {0}) (SeatView M)
 
 abbrev Holds : {M : Type 0} → Counts → Table M → Type 0
 Holds counts table = CountsOneHistory counts table.words table.views
@@ -40,15 +40,15 @@ found_word words n is = ap (λ ws. slice_index ws 0) is
 
 module _ {M : Type 0} where
   -- a load that changes no view keeps the rule
-  stays : (counts : Counts) (id : ℕ) (v : View M) (table : Table M) → Holds counts table → get_elem? table.views id ≡ some v
+  stays : (counts : Counts) (id : ℕ) (v : SeatView M) (table : Table M) → Holds counts table → get_elem? table.views id ≡ some v
       → Holds counts record { words = slice_set table.words 0 (slice_index table.words 0); homes = table.homes; views = set table.views id v }
   stays counts id v table rule at =
-      let P : List (View M) → Type 0 = λ views. CountsOneHistory counts (slice_set table.words 0 (slice_index table.words 0)) views in
+      let P : List (SeatView M) → Type 0 = λ views. CountsOneHistory counts (slice_set table.words 0 (slice_index table.words 0)) views in
       subst P (sym (set_again table.views id v at))
       record { seat = rule.seat; writer = rule.writer; seated = rule.seated; word = same_word table.words (counts.begun + length rule.writer.moves) rule.word; parts = rule.parts; receipts = rule.receipts }
 
   -- the writer's view fits itself after an entry too
-  entry_fits : (begun : ℕ) (entry : List M) (v : View M) → 0 < v.parts → length entry ≡ 1 → Fits begun v v → Fits begun (with_entry entry begun v) (with_entry entry begun v)
+  entry_fits : (begun : ℕ) (entry : List M) (v : SeatView M) → 0 < v.parts → length entry ≡ 1 → Fits begun v v → Fits begun (with_entry entry begun v) (with_entry entry begun v)
   entry_fits begun entry v part one fits =
       let long = length-append v.moves entry in record {
         moves = prefix_self (v.moves ++ entry);
@@ -63,8 +63,8 @@ module _ {M : Type 0} where
       → me.0.writes ≡ true → 0 < me.0.parts → length entry ≡ 1 → begun ≡ counts.begun → counts.begun + length me.0.moves + 1 < 2 ^ 64
       → Allows (Holds counts) slots id me 0 (λ n. (n + 1) % 2 ^ 64) (λ n w. (w.1 ≡ me.1) × Added entry begun me.0 n w.0)
   adds counts slots id me entry begun writes part one is room table rule no_slots at below =
-      let v : View M = me.0 in
-      let w : View M = with_entry entry counts.begun v in
+      let v : SeatView M = me.0 in
+      let w : SeatView M = with_entry entry counts.begun v in
       let own = as_writer counts table.words table.views id v rule at writes in
       let fits = own.seated.each id v at in
       let long = length-append v.moves entry in
@@ -90,8 +90,8 @@ module _ {M : Type 0} where
   pub writer_looks : (counts : Counts) (slots id : ℕ) (me : Seat M) (begun parts faults : ℕ) → me.0.writes ≡ true → begun ≡ counts.begun → parts ≡ counts.parts → me.0.faults ≤ faults
       → Allows (Holds counts) slots id me 0 (λ n. n) (λ n w. (w.1 ≡ me.1) × WriterLooked begun parts faults me.0 n w.0)
   writer_looks counts slots id me begun parts faults writes is are rise table rule no_slots at below =
-      let v : View M = me.0 in
-      let w : View M = record v { faults = faults } in
+      let v : SeatView M = me.0 in
+      let w : SeatView M = record v { faults = faults } in
       let own = as_writer counts table.words table.views id v rule at writes in
       let fits = own.seated.each id v at in
       let parts_same = total_set (λ u. u.parts) table.views id v w at in
@@ -124,7 +124,7 @@ module _ {M : Type 0} where
 
   pub caller_looks : (counts : Counts) (slots id : ℕ) (me : Seat M) → Allows (Holds counts) slots id me 0 (λ n. n) (λ n w. (w.1 ≡ me.1) × CallerLooked me.0 n w.0)
   caller_looks counts slots id me table rule no_slots at below =
-      let v : View M = me.0 in
+      let v : SeatView M = me.0 in
       let fits = rule.seated.each id v at in
       let found = found_word table.words (counts.begun + length rule.writer.moves) rule.word in (
         v,
@@ -141,9 +141,9 @@ module _ {M : Type 0} where
         ),
       )
 
-  pub gives_over : (counts : Counts) (id : ℕ) (v : View M) → v.writes ≡ true → Splits (Holds counts) id v (idle_writer v) (taken_over v)
+  pub gives_over : (counts : Counts) (id : ℕ) (v : SeatView M) → v.writes ≡ true → Splits (Holds counts) id v (idle_writer v) (taken_over v)
   gives_over counts id v writes table rule at =
-      let w : View M = idle_writer v in
+      let w : SeatView M = idle_writer v in
       let own = as_writer counts table.words table.views id v rule at writes in
       let fits = own.seated.each id v at in
       let left : Seated counts.begun id w (set table.views id w) = writer_changes counts.begun id v w table.views own.seated writes record { moves = prefix_self v.moves; faults = omega arith }
@@ -162,9 +162,9 @@ module _ {M : Type 0} where
         receipts = omega (arith, own.receipts);
       }
 
-  pub splits_off : (counts : Counts) (id : ℕ) (v : View M) (n : ℕ) → v.writes ≡ false → n < v.parts → Splits (Holds counts) id v (less_parts n v) (newcomer n v)
+  pub splits_off : (counts : Counts) (id : ℕ) (v : SeatView M) (n : ℕ) → v.writes ≡ false → n < v.parts → Splits (Holds counts) id v (less_parts n v) (newcomer n v)
   splits_off counts id v n calls some_left table rule at =
-      let w : View M = less_parts n v in
+      let w : SeatView M = less_parts n v in
       let fits = rule.seated.each id v at in
       let left : Seated counts.begun rule.seat rule.writer (set table.views id w) = caller_changes counts.begun rule.seat id rule.writer v w table.views rule.seated at calls calls
       record { moves = fits.moves; faults = fits.faults; mine = fits.mine; idle = λ none. absurd (omega arith); heard = fits.heard; heard_faults = fits.heard_faults } in
@@ -183,12 +183,12 @@ module _ {M : Type 0} where
       }
 
   -- what stands at another place before a view is set
-  elsewhere : (views : List (View M)) (id other : ℕ) (b w : View M) → ¬ (other ≡ id) → get_elem? (set views id b) other ≡ some w → get_elem? views other ≡ some w
+  elsewhere : (views : List (SeatView M)) (id other : ℕ) (b w : SeatView M) → ¬ (other ≡ id) → get_elem? (set views id b) other ≡ some w → get_elem? views other ≡ some w
   elsewhere views id other b w apart e = sym (set_else views id other b apart) ∙ e
 
-  pub into_writer : (counts : Counts) (id : ℕ) (v : View M) (other : ℕ) (w : View M) → v.writes ≡ true → w.writes ≡ false → Joins (Holds counts) id v other w (with_caller v w) spent
+  pub into_writer : (counts : Counts) (id : ℕ) (v : SeatView M) (other : ℕ) (w : SeatView M) → v.writes ≡ true → w.writes ≡ false → Joins (Holds counts) id v other w (with_caller v w) spent
   into_writer counts id v other w writes calls table rule at apart e =
-      let both : View M = with_caller v w in
+      let both : SeatView M = with_caller v w in
       let own = as_writer counts table.words table.views id v rule at writes in
       let fits = own.seated.each id v at in
       let theirs = own.seated.each other w (elsewhere table.views id other both w apart e) in
@@ -223,9 +223,9 @@ module _ {M : Type 0} where
   longer_least : (xs ys : List M) → length xs ≤ length (longer xs ys)
   longer_least xs ys = grind (arith, nat_tests)
 
-  pub into_caller : (counts : Counts) (id : ℕ) (v : View M) (other : ℕ) (w : View M) → v.writes ≡ false → w.writes ≡ false → Joins (Holds counts) id v other w (together v w) spent
+  pub into_caller : (counts : Counts) (id : ℕ) (v : SeatView M) (other : ℕ) (w : SeatView M) → v.writes ≡ false → w.writes ≡ false → Joins (Holds counts) id v other w (together v w) spent
   into_caller counts id v other w calls calls' table rule at apart e =
-      let both : View M = together v w in
+      let both : SeatView M = together v w in
       let fits = rule.seated.each id v at in
       let theirs = rule.seated.each other w (elsewhere table.views id other both w apart e) in
       let joined : Seated counts.begun rule.seat rule.writer (set table.views id both) = caller_changes counts.begun rule.seat id rule.writer v both table.views rule.seated at calls calls

@@ -4,10 +4,10 @@ use mathlib.Core.Option.{some, some-ne-none, some-injective}
 use mathlib.Core.List.{IsPrefix}
 use lib.ListN.{get_elem?}
 use Rattle.atomic_table.proofs.Lists.{at_set, at_snoc, at_longer, set_else}
-use Rattle.branch_front.specs.declared.view.View.{View}
+use Rattle.branch_front.specs.declared.seat_view.SeatView.{SeatView}
 use Rattle.branch_front.specs.declared.rule.Counts.{Counts}
 use Rattle.branch_front.specs.Lists.{total}
-use Rattle.branch_front.specs.Views.{spent, opening_view}
+use Rattle.branch_front.specs.SeatViews.{spent, opening_view}
 use Rattle.branch_front.specs.Rules.{Fits, Seated, CountsOneHistory}
 use Rattle.branch_front.proofs.Prefixes.{prefix_none, prefix_trans}
 
@@ -20,12 +20,12 @@ there (x ∷ xs) zero v w e = refl
 there (x ∷ xs) (suc i) v w e = there xs i v w e
 
 -- one view has seen no more than another
-pub record Precedes {M : Type 0} (v w : View M) : Type 0 where
+pub record Precedes {M : Type 0} (v w : SeatView M) : Type 0 where
   pub moves : IsPrefix v.moves w.moves
   pub faults : v.faults ≤ w.faults
 
 module _ {M : Type 0} (begun : ℕ) where
-  pub fits_more : (writer later v : View M) → Precedes writer later → Fits begun writer v → Fits begun later v
+  pub fits_more : (writer later v : SeatView M) → Precedes writer later → Fits begun writer v → Fits begun later v
   fits_more writer later v grows fits = record {
     moves = prefix_trans v.moves writer.moves later.moves fits.moves grows.moves;
     faults = omega (arith, fits.faults, grows.faults);
@@ -35,7 +35,7 @@ module _ {M : Type 0} (begun : ℕ) where
     heard_faults = omega (arith, fits.heard_faults, grows.faults);
   }
 
-  pub fits_spent : (writer : View M) → Fits begun writer spent
+  pub fits_spent : (writer : SeatView M) → Fits begun writer spent
   fits_spent writer = record {
     moves = prefix_none writer.moves;
     faults = omega arith;
@@ -46,7 +46,7 @@ module _ {M : Type 0} (begun : ℕ) where
   }
 
   -- the writer's view changes
-  pub writer_changes : (id : ℕ) (v w : View M) (views : List (View M)) → Seated begun id v views → w.writes ≡ true → Precedes v w → Fits begun w w → Seated begun id w (set views id w)
+  pub writer_changes : (id : ℕ) (v w : SeatView M) (views : List (SeatView M)) → Seated begun id v views → w.writes ≡ true → Precedes v w → Fits begun w w → Seated begun id w (set views id w)
   writer_changes id v w views seated writes grows fits = record {
     here = there views id v w seated.here;
     writes = writes;
@@ -61,7 +61,7 @@ module _ {M : Type 0} (begun : ℕ) where
   }
 
   -- a caller's view changes
-  pub caller_changes : (seat id : ℕ) (writer v w : View M) (views : List (View M))
+  pub caller_changes : (seat id : ℕ) (writer v w : SeatView M) (views : List (SeatView M))
       → Seated begun seat writer views → get_elem? views id ≡ some v → v.writes ≡ false → w.writes ≡ false → Fits begun writer w
       → Seated begun seat writer (set views id w)
   caller_changes seat id writer v w views seated at calls calls' fits =
@@ -79,7 +79,7 @@ module _ {M : Type 0} (begun : ℕ) where
       }
 
   -- a new caller's view
-  pub caller_comes : (seat : ℕ) (writer w : View M) (views : List (View M))
+  pub caller_comes : (seat : ℕ) (writer w : SeatView M) (views : List (SeatView M))
       → Seated begun seat writer views → w.writes ≡ false → Fits begun writer w
       → Seated begun seat writer (views ++ w ∷ [])
   caller_comes seat writer w views seated calls fits = record {
@@ -96,19 +96,19 @@ module _ {M : Type 0} (begun : ℕ) where
   }
 
 -- the rule, with the writer's view at this seat
-pub record AsWriter {M : Type 0} (counts : Counts) (words : List ℕ) (views : List (View M)) (seat : ℕ) (writer : View M) : Type 0 where
+pub record AsWriter {M : Type 0} (counts : Counts) (words : List ℕ) (views : List (SeatView M)) (seat : ℕ) (writer : SeatView M) : Type 0 where
   pub seated : Seated counts.begun seat writer views
   pub word : words ≡ (counts.begun + length writer.moves) ∷ []
   pub parts : total (λ v. v.parts) views ≡ counts.parts
   pub receipts : total (λ v. v.receipts) views ≡ length writer.moves
 
 -- a view that writes is the writer's
-pub as_writer : {M : Type 0} (counts : Counts) (words : List ℕ) (views : List (View M)) (id : ℕ) (v : View M)
+pub as_writer : {M : Type 0} (counts : Counts) (words : List ℕ) (views : List (SeatView M)) (id : ℕ) (v : SeatView M)
     → CountsOneHistory counts words views → get_elem? views id ≡ some v → v.writes ≡ true → AsWriter counts words views id v
 as_writer {M} counts words views id v rule at writes =
     let here : id ≡ rule.seat = rule.seated.alone id v at writes in
     let same : rule.writer ≡ v = some-injective rule.writer v (sym rule.seated.here ∙ (ap (get_elem? views) (sym here) ∙ at)) in
-    subst (λ (u : View M). AsWriter counts words views id u) same
+    subst (λ (u : SeatView M). AsWriter counts words views id u) same
     (subst (λ (seat : ℕ). AsWriter counts words views seat rule.writer) (sym here)
     record { seated = rule.seated; word = rule.word; parts = rule.parts; receipts = rule.receipts })
 
@@ -122,14 +122,14 @@ begins {M} counts = record {
   receipts = refl;
 }
   where
-    writer : View M
+    writer : SeatView M
     writer = opening_view counts.parts
 
-    only : (by : ℕ) (v : View M) → get_elem? (opening_view counts.parts ∷ []) by ≡ some v → v.writes ≡ true → by ≡ 0
+    only : (by : ℕ) (v : SeatView M) → get_elem? (opening_view counts.parts ∷ []) by ≡ some v → v.writes ≡ true → by ≡ 0
     only zero v e is_writer = refl
     only (suc by) v e is_writer = absurd (some-ne-none v (sym e))
 
-    one : (by : ℕ) (v : View M) → get_elem? (opening_view counts.parts ∷ []) by ≡ some v → Fits counts.begun (opening_view counts.parts) v
+    one : (by : ℕ) (v : SeatView M) → get_elem? (opening_view counts.parts ∷ []) by ≡ some v → Fits counts.begun (opening_view counts.parts) v
     one zero v e = subst (Fits counts.begun (opening_view counts.parts)) (some-injective (opening_view counts.parts) v e)
         record { moves = prefix_none []; faults = omega arith; mine = omega arith; idle = λ _. refl; heard = prefix_none []; heard_faults = omega arith }
     one (suc by) v e = absurd (some-ne-none v (sym e))

@@ -1,4 +1,4 @@
 pub mod Lists
-pub mod Views
+pub mod SeatViews
 pub mod Rules
-pub mod Sights
+pub mod Views

@@ -1,39 +1,47 @@
--- What one seat at the word knows, its view: how it is cut in two, and how two are put together.
-use Rattle.std.specs.Prelude.{ℕ, ◌+◌, ◌-◌, true, false, List, [], ◌∷◌, ◌++◌, length, max}
-use Rattle.branch_front.specs.declared.view.View.{View}
-use Rattle.branch_front.specs.Lists.{longer, shorter}
+-- What a front, a writer and a pass are to a contract.
+use Rattle.std.specs.Prelude.{◌≡◌, ℕ, false, List, [], ◌∷◌}
+use Rattle.atomic_table.specs.Seated.{TableId}
+use Rattle.atomic_table.specs.declared.shared.Seat.{Seat}
+use Rattle.branch_front.specs.declared.seat_view.SeatView.{SeatView}
+use Rattle.branch_front.specs.SeatViews.{spent}
+
+-- which front it is, the length at which its word began, and the number of its parts
+pub record Opening : Type 0 where
+  pub table : TableId
+  pub begun : ℕ
+  pub parts : ℕ
+
+-- of which front it is; the entries that its holder has seen, from the first that came after the front was made; the rising
+-- lengths of the history at which its own entries landed; the disk's faults as last seen; its share of the front's parts;
+-- and the number of entries that landed by it and by the passes that were joined to it
+pub record View (M : Type 0) : Type 0 where
+  pub table : TableId
+  pub moves : List M
+  pub mine : List ℕ
+  pub faults : ℕ
+  pub parts : ℕ
+  pub receipts : ℕ
 
 module _ {M : Type 0} where
-  -- a caller's view that has seen nothing and holds nothing
-  abbrev pub spent : View M
-  spent = record { writes = false; moves = []; mine = []; faults = 0; parts = 0; receipts = 0; heard = []; heard_faults = 0 }
+  -- the writer holds nothing for a caller
+  abbrev pub IsIdle : View M → Type 0
+  IsIdle writer = (writer.mine ≡ []) × (writer.parts ≡ 0) × (writer.receipts ≡ 0)
 
-  -- the first view is the writer's, and holds all parts
-  abbrev pub opening_view : ℕ → View M
-  opening_view parts = record spent { writes = true; parts = parts }
+  -- what a contract sees of a view
+  abbrev pub view_of : TableId → SeatView M → View M
+  view_of table v = record { table = table; moves = v.moves; mine = v.mine; faults = v.faults; parts = v.parts; receipts = v.receipts }
 
-  -- the writer's view after an entry, where `begun` came before the first of the list
-  abbrev pub with_entry : List M → ℕ → View M → View M
-  with_entry entry begun v = record v { moves = v.moves ++ entry; mine = v.mine ++ (begun + length (v.moves ++ entry)) ∷ []; receipts = v.receipts + 1 }
+  -- the one view of a badge
+  abbrev pub only_view : List (SeatView M) → SeatView M
+  only_view [] = spent
+  only_view (v ∷ vs) = v
 
-  -- the writer's view without what it held for a caller, and the caller's, which takes that over
-  abbrev pub idle_writer : View M → View M
-  idle_writer v = record v { mine = []; parts = 0; receipts = 0 }
+  -- a badge has one view, a caller's, with these receipts
+  pub record IsCallers (views : List (SeatView M)) (receipts : ℕ) : Type 0 where
+    pub one : views ≡ only_view views ∷ []
+    pub caller : (only_view views).writes ≡ false
+    pub counted : receipts ≡ (only_view views).receipts
 
-  abbrev pub taken_over : View M → View M
-  taken_over v = record v { writes = false }
-
-  -- a caller's view without some of its parts, and the new caller's, which has them
-  abbrev pub less_parts : ℕ → View M → View M
-  less_parts n v = record v { parts = v.parts - n }
-
-  abbrev pub newcomer : ℕ → View M → View M
-  newcomer n v = record spent { moves = v.moves; faults = v.faults; parts = n }
-
-  -- the writer's view, which now holds a caller's
-  abbrev pub with_caller : View M → View M → View M
-  with_caller v w = record v { mine = w.mine; parts = v.parts + w.parts; receipts = v.receipts + w.receipts; heard = w.moves; heard_faults = w.faults }
-
-  -- a caller's view, to which another's was joined
-  abbrev pub together : View M → View M → View M
-  together v w = record v { moves = longer v.moves w.moves; faults = max v.faults w.faults; parts = v.parts + w.parts; receipts = v.receipts + w.receipts; heard = shorter v.moves w.moves }
+  -- the seat is at this front's word. Such a seat never holds a slot, of which the word's table has none
+  abbrev pub IsAt : TableId → Seat (Unit {0}) (SeatView M) → Type 0
+  IsAt table seat = (seat.table_id ≡ table) × (seat.me.1 ≡ [])

@@ -1,23 +1,24 @@
+// The front: the word that all threads share.
 ghost use Rattle.std.specs.Prelude.{◌≡◌, [], IfOk};
-ghost use Rattle.branch_front.specs.Views.{opening_view};
+ghost use Rattle.branch_front.specs.SeatViews.{opening_view};
 
-use crate::errors::Memory;
 use crate::rule::{Counts, OneHistory};
+use crate::seat_view::SeatView;
 use crate::steps::At;
-use crate::view::View;
 use crate::writer::Writer;
 use atomic_table::Table;
+use mrdt_model::Memory;
 use std::alloc::Global;
 use std::marker::Model;
 
 /// The word that all threads share: the length of the history.
 pub struct Front<M> {
-    pub(crate) table: Table<(), View<M>, Counts, OneHistory, Global>,
+    pub(crate) table: Table<(), SeatView<M>, Counts, OneHistory, Global>,
 }
 
 impl<M> Model for Front<M> {
     ghost use Rattle.std.specs.Prelude.{◌≡◌};
-    ghost use Rattle.branch_front.specs.Sights.{Opening};
+    ghost use Rattle.branch_front.specs.Views.{Opening};
 
     ghost Value = { Opening };
 

@@ -4,16 +4,14 @@
 //! The history itself lies elsewhere. Here it is a list that only proofs see, of entries of any type.
 #![tactic(auto)]
 
-mod errors;
 mod front;
 mod pass;
 mod rule;
+mod seat_view;
 mod steps;
 mod told;
-mod view;
 mod writer;
 
-pub use errors::Memory;
 pub use front::Front;
 pub use pass::Pass;
 pub use told::Told;

@@ -1,11 +1,12 @@
+// The passes of callers.
 ghost use Rattle.std.specs.Prelude.{◌≡◌, ◌+◌, ◌-◌, ◌<◌, false, [], ◌∷◌, max};
 ghost use mathlib.Core.List.{IsPrefix};
 ghost use Rattle.branch_front.specs.Lists.{longer};
-ghost use Rattle.branch_front.specs.Sights.{IsAt, sight, only_view};
+ghost use Rattle.branch_front.specs.Views.{IsAt, view_of, only_view};
 
 use crate::front::Front;
+use crate::seat_view::SeatView;
 use crate::steps::At;
-use crate::view::View;
 use atomic_table::Badge;
 use std::marker::Model;
 use std::mem;
@@ -13,22 +14,22 @@ use std::mem;
 /// What a caller carries: which entries it has seen, and where its own landed. Of these it stores its receipts alone.
 /// A pass that is dropped takes its parts and its receipts with it.
 pub struct Pass<M> {
-    pub(crate) badge: Badge<View<M>>,
+    pub(crate) badge: Badge<SeatView<M>>,
     pub(crate) receipts: u64,
 }
 
 impl<M> Model for Pass<M> {
-    ghost use Rattle.branch_front.specs.Sights.{Sight, sight, only_view, IsCallers};
+    ghost use Rattle.branch_front.specs.Views.{View, view_of, only_view, IsCallers};
 
-    ghost Value = { Sight M };
+    ghost Value = { View M };
 
-    ghost view = { λ p. sight p.badge.table_id (only_view p.badge.views) };
+    ghost view = { λ p. view_of p.badge.table_id (only_view p.badge.views) };
 
     ghost invariant = { λ p. IsCallers p.badge.views p.receipts };
 }
 
 /// Takes the seat out of a pass's badge, for the length of a call.
-pub(crate) fn seat_of<M>(badge: &mut Badge<View<M>>) -> At<M>
+pub(crate) fn seat_of<M>(badge: &mut Badge<SeatView<M>>) -> At<M>
     requires { badge.old.views ≡ only_view badge.old.views ∷ [] }
     ensures seat { IsAt badge.old.table_id result }
     ensures view { result.me.0 ≡ only_view badge.old.views }
@@ -84,7 +85,7 @@ impl<M> Pass<M> {
     /// The seat of a pass that ends.
     pub(crate) fn into_seat(self) -> At<M>
         ensures seat { IsAt self.table result }
-        ensures sight { sight result.table_id result.me.0 ≡ self }
+        ensures view { view_of result.table_id result.me.0 ≡ self }
         ensures caller { result.me.0.writes ≡ false }
     {
         let Pass { badge, receipts: _ } = self;

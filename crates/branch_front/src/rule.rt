@@ -1,6 +1,6 @@
 // The rule of the word, and what each atomic step tells the one that makes it.
+use crate::seat_view::SeatView;
 use crate::told::{Keyed, Numbered, Told};
-use crate::view::View;
 use atomic_table::{Join, Play, Split, TableRule};
 use std::marker::PhantomData;
 
@@ -14,8 +14,8 @@ pub(crate) struct Counts {
 /// The word counts one history, of which every view has seen a beginning.
 pub(crate) struct OneHistory;
 
-impl<M> TableRule<(), View<M>, Counts> for OneHistory {
-    ghost use Rattle.branch_front.specs.Views.{opening_view};
+impl<M> TableRule<(), SeatView<M>, Counts> for OneHistory {
+    ghost use Rattle.branch_front.specs.SeatViews.{opening_view};
     ghost use Rattle.branch_front.specs.Rules.{CountsOneHistory};
 
     ghost holds = { λ counts table. CountsOneHistory counts table.words table.views };
@@ -28,7 +28,7 @@ pub(crate) struct Adds<E, K> {
     of: PhantomData<(E, K)>,
 }
 
-impl<M, E: Told<M>, K: Keyed> Play<(), View<M>> for Adds<E, K> {
+impl<M, E: Told<M>, K: Keyed> Play<(), SeatView<M>> for Adds<E, K> {
     ghost use Rattle.std.specs.Prelude.{◌≡◌};
     ghost use Rattle.branch_front.specs.Rules.{Added};
 
@@ -40,7 +40,7 @@ pub(crate) struct WriterLooks<E, K> {
     of: PhantomData<(E, K)>,
 }
 
-impl<M, E: Told<M>, K: Keyed> Play<(), View<M>> for WriterLooks<E, K> {
+impl<M, E: Told<M>, K: Keyed> Play<(), SeatView<M>> for WriterLooks<E, K> {
     ghost use Rattle.std.specs.Prelude.{◌≡◌};
     ghost use Rattle.branch_front.specs.Rules.{WriterLooked};
 
@@ -50,7 +50,7 @@ impl<M, E: Told<M>, K: Keyed> Play<(), View<M>> for WriterLooks<E, K> {
 /// A caller looks.
 pub(crate) struct CallerLooks;
 
-impl<M> Play<(), View<M>> for CallerLooks {
+impl<M> Play<(), SeatView<M>> for CallerLooks {
     ghost use Rattle.std.specs.Prelude.{◌≡◌};
     ghost use Rattle.branch_front.specs.Rules.{CallerLooked};
 
@@ -60,8 +60,8 @@ impl<M> Play<(), View<M>> for CallerLooks {
 /// A caller's view comes off the writer's, with all that the writer holds for it.
 pub(crate) struct OffWriter;
 
-impl<M> Split<View<M>> for OffWriter {
-    ghost use Rattle.branch_front.specs.Views.{idle_writer, taken_over};
+impl<M> Split<SeatView<M>> for OffWriter {
+    ghost use Rattle.branch_front.specs.SeatViews.{idle_writer, taken_over};
 
     ghost left = { idle_writer };
 
@@ -73,8 +73,8 @@ pub(crate) struct OffCaller<N> {
     of: PhantomData<N>,
 }
 
-impl<M, N: Numbered> Split<View<M>> for OffCaller<N> {
-    ghost use Rattle.branch_front.specs.Views.{less_parts, newcomer};
+impl<M, N: Numbered> Split<SeatView<M>> for OffCaller<N> {
+    ghost use Rattle.branch_front.specs.SeatViews.{less_parts, newcomer};
 
     ghost left = { less_parts N.number };
 
@@ -84,8 +84,8 @@ impl<M, N: Numbered> Split<View<M>> for OffCaller<N> {
 /// A caller's view goes into the writer's.
 pub(crate) struct IntoWriter;
 
-impl<M> Join<View<M>> for IntoWriter {
-    ghost use Rattle.branch_front.specs.Views.{with_caller, spent};
+impl<M> Join<SeatView<M>> for IntoWriter {
+    ghost use Rattle.branch_front.specs.SeatViews.{with_caller, spent};
 
     ghost both = { with_caller };
 
@@ -95,8 +95,8 @@ impl<M> Join<View<M>> for IntoWriter {
 /// A caller's view goes into another caller's.
 pub(crate) struct IntoCaller;
 
-impl<M> Join<View<M>> for IntoCaller {
-    ghost use Rattle.branch_front.specs.Views.{together, spent};
+impl<M> Join<SeatView<M>> for IntoCaller {
+    ghost use Rattle.branch_front.specs.SeatViews.{together, spent};
 
     ghost both = { together };
 

@@ -1,19 +1,19 @@
 // The four kinds of atomic step at a front's word: the writer's adding of 1, a load, a split, and a join with the load that follows it.
 ghost use Rattle.std.specs.Prelude.{◌≡◌, ◌+◌, ◌<◌, ◌≤◌, ◌^◌, length, true, false};
 ghost use mathlib.Core.List.{IsPrefix};
-ghost use Rattle.branch_front.specs.Views.{idle_writer, taken_over, less_parts, newcomer, with_caller, together};
+ghost use Rattle.branch_front.specs.SeatViews.{idle_writer, taken_over, less_parts, newcomer, with_caller, together};
 ghost use Rattle.branch_front.specs.Rules.{Added, WriterLooked};
-ghost use Rattle.branch_front.specs.Sights.{IsAt};
+ghost use Rattle.branch_front.specs.Views.{IsAt};
 
 use crate::front::Front;
 use crate::rule::{Adds, CallerLooks, IntoCaller, IntoWriter, OffCaller, OffWriter, WriterLooks};
+use crate::seat_view::SeatView;
 use crate::told::{Keyed, Numbered, Told};
-use crate::view::View;
 use atomic_table::Seat;
 use std::marker::Brand;
 
 /// What a thread steps with.
-pub(crate) type At<M> = Seat<(), View<M>>;
+pub(crate) type At<M> = Seat<(), SeatView<M>>;
 
 impl<M> Front<M> {
     /// The writer adds the entry, for the caller whose view it holds. Answers the length before.

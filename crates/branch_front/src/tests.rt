@@ -1,5 +1,5 @@
 ghost use Rattle.std.specs.Prelude.{◌≡◌, ◌+◌, ◌<◌, [], ◌∷◌};
-ghost use Rattle.branch_front.specs.Sights.{IsIdle};
+ghost use Rattle.branch_front.specs.Views.{IsIdle};
 
 use super::*;
 use std::marker::{Brand, Model, PhantomData};
@@ -33,9 +33,9 @@ struct Desk<N: Named> {
 
 impl<N: Named> Model for Desk<N> {
     ghost use Rattle.std.specs.Prelude.{◌≡◌, ℕ, length};
-    ghost use Rattle.branch_front.specs.Sights.{Sight, IsIdle};
+    ghost use Rattle.branch_front.specs.Views.{View, IsIdle};
 
-    ghost Value = { Sight ℕ };
+    ghost Value = { View ℕ };
 
     ghost view = { λ d. d.writer };
 

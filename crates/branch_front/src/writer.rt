@@ -1,7 +1,8 @@
+// The writer, which lies beside the history under one lock.
 ghost use Rattle.std.specs.Prelude.{◌≡◌, ◌+◌, ◌<◌, ◌≤◌, ◌^◌, [], ◌∷◌, ◌++◌, length};
 ghost use mathlib.Core.List.{IsPrefix};
 ghost use Rattle.branch_front.specs.Lists.{RisesWithin};
-ghost use Rattle.branch_front.specs.Sights.{IsIdle};
+ghost use Rattle.branch_front.specs.Views.{IsIdle};
 
 use crate::front::Front;
 use crate::pass::{Pass, seat_of};
@@ -17,11 +18,11 @@ pub struct Writer<M> {
 
 impl<M> Model for Writer<M> {
     ghost use Rattle.std.specs.Prelude.{◌≡◌, true, []};
-    ghost use Rattle.branch_front.specs.Sights.{Sight, sight};
+    ghost use Rattle.branch_front.specs.Views.{View, view_of};
 
-    ghost Value = { Sight M };
+    ghost Value = { View M };
 
-    ghost view = { λ w. sight w.seat.table_id w.seat.me.0 };
+    ghost view = { λ w. view_of w.seat.table_id w.seat.me.0 };
 
     ghost invariant = { λ w. (w.seat.me.1 ≡ []) × (w.seat.me.0.writes ≡ true) };
 }

@@ -1,16 +1,18 @@
 // The table of branches.
-ghost use Rattle.std.specs.Prelude.{◌≡◌, ◌≢◌, ℕ, ◌-◌, ◌<◌, ◌≤◌, ◌↔◌, None, Some, length, take, IfOk, IfErr, IfSome, OnOk, OnErr, IsErrOf};
+ghost use Rattle.std.specs.Prelude.{◌≡◌, ◌≢◌, ℕ, ◌-◌, ◌<◌, ◌≤◌, ◌↔◌, None, Some, length, take, IfOk, IfErr, IfSome, OnOk, OnErr, IsErrOf, IsTrue};
+ghost use Rattle.branch_names.specs.Names.{is_name};
 ghost use Rattle.branch_names.specs.Heads.{name_of, head_of, branch_named, with_head, with_branch, main_alone, AreDistinct, IsWithin};
 
 use crate::Name;
 use indexmap::IndexMap;
 use mrdt_model::Memory;
 use std::alloc::{AllocFailed, Global};
+use std::fmt;
 use std::marker::Model;
 use thiserror::Error;
 
 /// Why a branch was not forked.
-#[derive(Clone, Copy, Debug, PartialEq, Eq, Error)]
+#[derive(Clone, Copy, PartialEq, Eq, Error)]
 pub enum ForkRefused {
     /// The branch with this number has the name.
     #[error("branch {number} has this name")]
@@ -21,6 +23,13 @@ pub enum ForkRefused {
     /// Want of memory.
     #[error("out of memory")]
     Memory,
+}
+
+// The message: a derived form would be as dear to prove as `fork` is.
+impl fmt::Debug for ForkRefused {
+    fn fmt<W: fmt::Write>(&self, f: &mut fmt::Formatter<W>) -> fmt::Result {
+        fmt::Display::fmt(self, f)
+    }
 }
 
 impl<T: Drop> From<AllocFailed<T>> for ForkRefused {
@@ -77,7 +86,9 @@ impl Heads {
         ensures number { result ≡ branch_named self.now.branches name.now }
         ensures within { IfSome result (λ number. number < length self.now.branches) }
         ensures named { IfSome result (λ number. name_of self.now.branches number ≡ name.now) }
+        ensures name { IsTrue (is_name name.now) }
     {
+        let _ = name.as_bytes();
         let number = self.heads.get_index_of(name)?;
         Some(number as u32)
     }

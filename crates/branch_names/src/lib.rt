@@ -4,8 +4,6 @@
 pub mod heads;
 pub mod limits;
 pub mod name;
-#[cfg(test)]
-mod tests;
 
 pub use heads::{ForkRefused, Heads, Stale};
 pub use limits::Limits;

@@ -52,11 +52,6 @@ impl Limits {
             None
         }
     }
-
-    /// Each number is within its range: a call tells a proof so.
-    pub fn known(&self)
-        ensures { AreInRange self.now.clock self.now.commits self.now.branches self.now.value self.now.moves }
-    {}
 }
 
 impl Default for Limits {

@@ -1,5 +1,5 @@
 -- The texts of replies.
-use Rattle.std.specs.Prelude.{ℕ, Bool, Option, None, Some, List, [], ◌∷◌, ◌++◌, codes, decimal, length, if◌then◌else◌}
+use Rattle.std.specs.Prelude.{ℕ, Option, None, Some, List, [], ◌∷◌, ◌++◌, codes, decimal, length, if◌then◌else◌}
 use Rattle.std.specs.Fmt.{signed_decimal}
 use Rattle.std.specs.List.{flat_map}
 use Rattle.mrdt_model.specs.declared.time.Time.{Time}
@@ -9,13 +9,13 @@ use Rattle.branch_doc.specs.declared.plain.PlainReply.TheVariants as reply
 use Rattle.branch_doc.specs.declared.plain.PlainAnswer.{PlainAnswer}
 use Rattle.branch_doc.specs.declared.plain.PlainAnswer.TheVariants.{CounterValue, FlagIsOn, LwwGet, MultiValues, SetContains, SetMembers, SetSize, LogRead, LogLength, QueuePeek, QueueItems, QueueLength, Keys}
 use Rattle.branch_doc.specs.Forms.{DocReply, DocAnswer, plain_reply, plain_answer}
-use Rattle.branch_script.specs.declared.step.LineRefusal.{LineRefusal}
-use Rattle.branch_script.specs.declared.step.LineRefusal.TheVariants.{Syntax, BadName, BadNumber, Memory}
+use Rattle.branch_script.specs.declared.step.LineRefused.{LineRefused}
+use Rattle.branch_script.specs.declared.step.LineRefused.TheVariants.{Syntax, BadName, BadNumber, Memory}
 use Rattle.branch_history.specs.Steps.{Refusal, UnknownBranch, NameTaken, Stale, Exhausted, FullCommits, FullBranches, FullMoves, ValueTooLarge, ManyBases, Outcome, Sees, Forked, Landed, Merged, Forwarded, Same, Answered, Refused}
 
 -- each reply is a line, ended by byte 10
 abbrev pub line_end : List ℕ
-line_end = 10 ∷ []
+line_end = codes "\n"
 
 -- `clock.origin`
 abbrev pub time_text : Time → List ℕ
@@ -53,10 +53,14 @@ answer_text (QueueItems entries) = entries_text entries
 answer_text (QueueLength count) = decimal count
 answer_text (Keys kind keys) = items_text keys
 
+-- what a Dequeue took
+abbrev pub took_text : Option (Kept (List ℕ)) → List ℕ
+took_text None = codes " took nothing"
+took_text (Some entry) = codes " took " ++ entry_text entry
+
 -- what the reply to an operation adds to its text: a Dequeue says what it took
 abbrev pub reply_text : PlainReply → List ℕ
-reply_text (reply.QueueTook None) = codes " took nothing"
-reply_text (reply.QueueTook (Some entry)) = codes " took " ++ entry_text entry
+reply_text (reply.QueueTook took) = took_text took
 reply_text other = []
 
 -- a refusal, of a step on the branch of this name
@@ -101,7 +105,7 @@ outcome_text session branch (Answered answer) = answer_text (plain_answer answer
 outcome_text session branch (Refused refusal) = refusal_text branch refusal
 
 -- a line that is no step; of want of memory nothing is told
-abbrev pub line_refusal_text : LineRefusal → List ℕ
+abbrev pub line_refusal_text : LineRefused → List ℕ
 line_refusal_text Syntax = codes "error syntax"
 line_refusal_text BadName = codes "error name"
 line_refusal_text BadNumber = codes "error number"

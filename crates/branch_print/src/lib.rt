@@ -6,5 +6,3 @@
 mod pieces;
 pub mod refusals;
 pub mod replies;
-#[cfg(test)]
-mod tests;

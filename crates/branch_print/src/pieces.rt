@@ -1,103 +1,125 @@
-// Pieces of texts.
-ghost use Rattle.std.specs.Prelude.{◌≡◌, ◌++◌, codes, decimal, length, map, OnOk};
+// Texts made of pieces. After want of memory a first part of the text has been written.
+ghost use Rattle.std.specs.Prelude.{◌≡◌, ◌++◌, codes, decimal, OnOk, OnErr};
 ghost use Rattle.std.specs.Fmt.{signed_decimal};
 ghost use Rattle.std.specs.List.{flat_map};
-ghost use Rattle.branch_print.specs.Texts.{time_text, items_text, entry_text, entries_text, line_end};
+ghost use Rattle.mrdt_model.specs.Spelled.{AppendsPart};
+ghost use Rattle.branch_print.specs.Texts.{items_text, entry_text, entries_text, line_end};
 
+use itoa::Buffer;
 use live_set::Kept;
-use mrdt_model::{Bytes, Memory, Time};
-use std::alloc::Global;
+use mrdt_model::{Bytes, Memory};
 
+/// A text.
 pub fn put_text(out: &mut Vec<u8>, text: &[u8]) -> Result<(), Memory>
-    ensures { OnOk result (out.new.items ≡ out.old.items ++ text.now) }
+    ensures ok { OnOk result (out.new.items ≡ out.old.items ++ text.now) }
+    ensures err { OnErr result (AppendsPart out.old.items out.new.items text.now) }
 {
-    out.extend_from_slice(text)?;
-    Ok(())
+    Ok(out.extend_from_slice(text)?)
 }
 
-pub fn put_number(alloc: Global, out: &mut Vec<u8>, number: u64) -> Result<(), Memory>
-    ensures { OnOk result (out.new.items ≡ out.old.items ++ decimal number) }
+/// A number.
+pub fn put_number(out: &mut Vec<u8>, number: u64) -> Result<(), Memory>
+    ensures ok { OnOk result (out.new.items ≡ out.old.items ++ decimal number) }
+    ensures err { OnErr result (AppendsPart out.old.items out.new.items (decimal number)) }
 {
-    let text = number.to_string(alloc)?;
-    put_text(out, text.as_bytes())
+    let mut digits = Buffer::new();
+    put_text(out, digits.format(number).as_bytes())
 }
 
-pub fn put_signed(alloc: Global, out: &mut Vec<u8>, number: i128) -> Result<(), Memory>
-    ensures { OnOk result (out.new.items ≡ out.old.items ++ signed_decimal number) }
+/// A signed number.
+pub fn put_signed(out: &mut Vec<u8>, number: i128) -> Result<(), Memory>
+    ensures ok { OnOk result (out.new.items ≡ out.old.items ++ signed_decimal number) }
+    ensures err { OnErr result (AppendsPart out.old.items out.new.items (signed_decimal number)) }
 {
-    let text = number.to_string(alloc)?;
-    put_text(out, text.as_bytes())
+    let mut digits = Buffer::new();
+    put_text(out, digits.format(number).as_bytes())
 }
 
-pub fn put_time(alloc: Global, out: &mut Vec<u8>, time: Time) -> Result<(), Memory>
-    ensures { OnOk result (out.new.items ≡ out.old.items ++ time_text time) }
+/// The pieces, one behind the other.
+pub fn put_pieces(out: &mut Vec<u8>, pieces: &[&[u8]]) -> Result<(), Memory>
+    ensures ok { OnOk result (out.new.items ≡ out.old.items ++ flat_map (λ piece. piece.now) pieces.now) }
+    ensures err { OnErr result (AppendsPart out.old.items out.new.items (flat_map (λ piece. piece.now) pieces.now)) }
 {
-    put_number(alloc, out, time.clock)?;
-    put_text(out, b".")?;
-    put_number(alloc, out, u64::from(time.origin))
-}
-
-// Each item after a space.
-fn put_each(out: &mut Vec<u8>, items: &[Bytes]) -> Result<(), Memory>
-    ensures { OnOk result (out.new.items ≡ out.old.items ++ flat_map (λ item. codes " " ++ item) items.now) }
-{
-    for item in items {
-        put_text(out, b" ")?;
-        put_text(out, item.as_slice())?;
+    for piece in pieces {
+        put_text(out, piece)?;
     }
     Ok(())
 }
 
 /// A count in brackets.
-pub fn put_brackets(alloc: Global, out: &mut Vec<u8>, count: u64) -> Result<(), Memory>
-    ensures { OnOk result (out.new.items ≡ out.old.items ++ (codes "[" ++ decimal count ++ codes "]")) }
+pub fn put_brackets(out: &mut Vec<u8>, count: u64) -> Result<(), Memory>
+    ensures ok { OnOk result (out.new.items ≡ out.old.items ++ (codes "[" ++ decimal count ++ codes "]")) }
+    ensures err { OnErr result (AppendsPart out.old.items out.new.items (codes "[" ++ decimal count ++ codes "]")) }
 {
-    put_text(out, b"[")?;
-    put_number(alloc, out, count)?;
-    put_text(out, b"]")
+    let mut digits = Buffer::new();
+    put_pieces(out, &[b"[", digits.format(count).as_bytes(), b"]"])
+}
+
+// Each item after a space.
+fn put_each(out: &mut Vec<u8>, items: &[Bytes]) -> Result<(), Memory>
+    ensures ok { OnOk result (out.new.items ≡ out.old.items ++ flat_map (λ item. codes " " ++ item) items.now) }
+    ensures err { OnErr result (AppendsPart out.old.items out.new.items (flat_map (λ item. codes " " ++ item) items.now)) }
+{
+    for item in items {
+        put_pieces(out, &[b" ", item.as_slice()])?;
+    }
+    Ok(())
 }
 
 /// The count of items in brackets, then each after a space.
-pub fn put_items(alloc: Global, out: &mut Vec<u8>, items: &[Bytes]) -> Result<(), Memory>
-    ensures { OnOk result (out.new.items ≡ out.old.items ++ items_text items.now) }
+pub fn put_items(out: &mut Vec<u8>, items: &[Bytes]) -> Result<(), Memory>
+    ensures ok { OnOk result (out.new.items ≡ out.old.items ++ items_text items.now) }
+    ensures err { OnErr result (AppendsPart out.old.items out.new.items (items_text items.now)) }
 {
-    put_brackets(alloc, out, items.len() as u64)?;
+    put_brackets(out, items.len() as u64)?;
     put_each(out, items)
 }
 
-/// A time, and what was put then, after a space.
-pub fn put_entry(alloc: Global, out: &mut Vec<u8>, entry: &Kept<Bytes>) -> Result<(), Memory>
-    ensures { OnOk result (out.new.items ≡ out.old.items ++ (codes " " ++ entry_text entry.now)) }
+/// A text, then a time and, after a space, what was put then.
+pub fn put_entry(out: &mut Vec<u8>, text: &[u8], entry: &Kept<Bytes>) -> Result<(), Memory>
+    ensures ok { OnOk result (out.new.items ≡ out.old.items ++ (text.now ++ entry_text entry.now)) }
+    ensures err { OnErr result (AppendsPart out.old.items out.new.items (text.now ++ entry_text entry.now)) }
 {
-    put_text(out, b" ")?;
-    put_time(alloc, out, entry.time)?;
-    put_text(out, b" ")?;
-    put_text(out, entry.payload.as_slice())
+    let mut clock = Buffer::new();
+    let mut origin = Buffer::new();
+    put_pieces(
+        out,
+        &[
+            text,
+            clock.format(entry.time.clock).as_bytes(),
+            b".",
+            origin.format(entry.time.origin).as_bytes(),
+            b" ",
+            entry.payload.as_slice(),
+        ],
+    )
 }
 
 // Each entry after a space.
-fn put_each_entry(alloc: Global, out: &mut Vec<u8>, entries: &[Kept<Bytes>]) -> Result<(), Memory>
-    ensures { OnOk result (out.new.items ≡ out.old.items ++ flat_map (λ entry. codes " " ++ entry_text entry) entries.now) }
+fn put_each_entry(out: &mut Vec<u8>, entries: &[Kept<Bytes>]) -> Result<(), Memory>
+    ensures ok { OnOk result (out.new.items ≡ out.old.items ++ flat_map (λ entry. codes " " ++ entry_text entry) entries.now) }
+    ensures err { OnErr result (AppendsPart out.old.items out.new.items (flat_map (λ entry. codes " " ++ entry_text entry) entries.now)) }
 {
     for entry in entries {
-        put_entry(alloc, out, entry)?;
+        put_entry(out, b" ", entry)?;
     }
     Ok(())
 }
 
 /// The count of entries in brackets, then each after a space.
-pub fn put_entries(alloc: Global, out: &mut Vec<u8>, entries: &[Kept<Bytes>]) -> Result<(), Memory>
-    ensures { OnOk result (out.new.items ≡ out.old.items ++ entries_text entries.now) }
+pub fn put_entries(out: &mut Vec<u8>, entries: &[Kept<Bytes>]) -> Result<(), Memory>
+    ensures ok { OnOk result (out.new.items ≡ out.old.items ++ entries_text entries.now) }
+    ensures err { OnErr result (AppendsPart out.old.items out.new.items (entries_text entries.now)) }
 {
-    put_brackets(alloc, out, entries.len() as u64)?;
-    put_each_entry(alloc, out, entries)
+    put_brackets(out, entries.len() as u64)?;
+    put_each_entry(out, entries)
 }
 
 /// A text, a number and the end of the line.
-pub fn put_count(alloc: Global, out: &mut Vec<u8>, text: &[u8], number: u64) -> Result<(), Memory>
-    ensures { OnOk result (out.new.items ≡ out.old.items ++ (text.now ++ decimal number ++ line_end)) }
+pub fn put_count(out: &mut Vec<u8>, text: &[u8], number: u64) -> Result<(), Memory>
+    ensures ok { OnOk result (out.new.items ≡ out.old.items ++ (text.now ++ decimal number ++ line_end)) }
+    ensures err { OnErr result (AppendsPart out.old.items out.new.items (text.now ++ decimal number ++ line_end)) }
 {
-    put_text(out, text)?;
-    put_number(alloc, out, number)?;
-    put_text(out, b"\n")
+    let mut digits = Buffer::new();
+    put_pieces(out, &[text, digits.format(number).as_bytes(), b"\n"])
 }

@@ -6,8 +6,8 @@ use Rattle.branch_doc.specs.declared.plain.PlainQuery.TheVariants.{Keys}
 use Rattle.branch_names.specs.Names.{is_name}
 use Rattle.branch_script.specs.declared.step.Step.{Step}
 use Rattle.branch_script.specs.declared.step.Step.TheVariants.{Look, Fork, Merge, Do, Ask}
-use Rattle.branch_script.specs.declared.step.LineRefusal.{LineRefusal}
-use Rattle.branch_script.specs.declared.step.LineRefusal.TheVariants.{Syntax, BadName, Memory}
+use Rattle.branch_script.specs.declared.step.LineRefused.{LineRefused}
+use Rattle.branch_script.specs.declared.step.LineRefused.TheVariants.{Syntax, BadName, Memory}
 use Rattle.branch_script.specs.Lines.{words_of, is_silent, is_plain}
 use Rattle.branch_script.specs.Tables.{behind, kind_named, operations_at_key, operations_with_word, queries_at_key, queries_with_word}
 
@@ -16,87 +16,87 @@ abbrev pub is : List ℕ → List ℕ → Bool
 is keyword word = bytes_eq word keyword
 
 -- the step of what was found in a table; a line for which there is nothing fits no form
-abbrev pub fits : {A : Type 0} → Option A → (A → Result Step LineRefusal) → Result Step LineRefusal
+abbrev pub fits : {A : Type 0} → Option A → (A → Result Step LineRefused) → Result Step LineRefused
 fits None step = Err Syntax
 fits (Some found) step = step found
 
 -- this step, where the word is a name
-abbrev pub named : List ℕ → Result Step LineRefusal → Result Step LineRefusal
+abbrev pub named : List ℕ → Result Step LineRefused → Result Step LineRefused
 named word step = if is_name word then step else Err BadName
 
 -- a session does an operation, where its number is one
-abbrev pub do_step : List ℕ → Result PlainOp LineRefusal → Result Step LineRefusal
+abbrev pub do_step : List ℕ → Result PlainOp LineRefused → Result Step LineRefused
 do_step session (Err refusal) = Err refusal
 do_step session (Ok op) = Ok (Do session op)
 
 -- `look SESSION BRANCH`, `fork NEW BRANCH`, `merge SESSION BRANCH`
-abbrev pub three_words : List ℕ → List ℕ → List ℕ → Result Step LineRefusal
+abbrev pub three_words : List ℕ → List ℕ → List ℕ → Result Step LineRefused
 three_words verb a b =
     fits (behind verb ((codes "look", Look a b) ∷ (codes "fork", Fork a b) ∷ (codes "merge", Merge a b) ∷ []))
     (λ step. named a (named b (Ok step)))
 
 -- `ask BRANCH KIND keys`
-abbrev pub four_words : List ℕ → List ℕ → List ℕ → List ℕ → Result Step LineRefusal
+abbrev pub four_words : List ℕ → List ℕ → List ℕ → List ℕ → Result Step LineRefused
 four_words verb branch kind query =
     if is (codes "ask") verb && is (codes "keys") query
     then fits (kind_named kind) (λ kind. named branch (Ok (Ask branch (Keys kind)))) else Err Syntax
 
 -- `do SESSION KIND KEY OPERATION`
-abbrev pub do_at_key : List ℕ → Kind → List ℕ → List ℕ → Result Step LineRefusal
+abbrev pub do_at_key : List ℕ → Kind → List ℕ → List ℕ → Result Step LineRefused
 do_at_key session kind key operation =
     fits (behind operation (operations_at_key kind key)) (λ op. named session (Ok (Do session op)))
 
 -- `ask BRANCH KIND KEY QUERY`
-abbrev pub ask_at_key : List ℕ → Kind → List ℕ → List ℕ → Result Step LineRefusal
+abbrev pub ask_at_key : List ℕ → Kind → List ℕ → List ℕ → Result Step LineRefused
 ask_at_key branch kind key query =
     fits (behind query (queries_at_key kind key)) (λ found. named branch (Ok (Ask branch found)))
 
 -- `do SESSION KIND KEY OPERATION WORD`
-abbrev pub do_with_word : List ℕ → Kind → List ℕ → List ℕ → List ℕ → Result Step LineRefusal
+abbrev pub do_with_word : List ℕ → Kind → List ℕ → List ℕ → List ℕ → Result Step LineRefused
 do_with_word session kind key operation word =
     fits (behind operation (operations_with_word kind key word)) (λ op. named session (do_step session op))
 
 -- `ask BRANCH KIND KEY QUERY WORD`
-abbrev pub ask_with_word : List ℕ → Kind → List ℕ → List ℕ → List ℕ → Result Step LineRefusal
+abbrev pub ask_with_word : List ℕ → Kind → List ℕ → List ℕ → List ℕ → Result Step LineRefused
 ask_with_word branch kind key query word =
     fits (behind query (queries_with_word kind key word)) (λ found. named branch (Ok (Ask branch found)))
 
-abbrev pub five_words : List ℕ → List ℕ → List ℕ → List ℕ → List ℕ → Result Step LineRefusal
+abbrev pub five_words : List ℕ → List ℕ → List ℕ → List ℕ → List ℕ → Result Step LineRefused
 five_words verb name kind key last =
     if is (codes "do") verb then fits (kind_named kind) (λ kind. do_at_key name kind key last)
     else if is (codes "ask") verb then fits (kind_named kind) (λ kind. ask_at_key name kind key last)
     else Err Syntax
 
-abbrev pub six_words : List ℕ → List ℕ → List ℕ → List ℕ → List ℕ → List ℕ → Result Step LineRefusal
+abbrev pub six_words : List ℕ → List ℕ → List ℕ → List ℕ → List ℕ → List ℕ → Result Step LineRefused
 six_words verb name kind key last word =
     if is (codes "do") verb then fits (kind_named kind) (λ kind. do_with_word name kind key last word)
     else if is (codes "ask") verb then fits (kind_named kind) (λ kind. ask_with_word name kind key last word)
     else Err Syntax
 
 -- the step of a line's words: a line that fits no form is refused first, then a bad name, then a bad number
-abbrev pub words_step : List (List ℕ) → Result Step LineRefusal
+abbrev pub words_step : List (List ℕ) → Result Step LineRefused
 words_step (a ∷ b ∷ c ∷ []) = three_words a b c
 words_step (a ∷ b ∷ c ∷ d ∷ []) = four_words a b c d
 words_step (a ∷ b ∷ c ∷ d ∷ e ∷ []) = five_words a b c d e
 words_step (a ∷ b ∷ c ∷ d ∷ e ∷ f ∷ []) = six_words a b c d e f
 words_step words = Err Syntax
 
-abbrev pub some_step : Result Step LineRefusal → Result (Option Step) LineRefusal
+abbrev pub some_step : Result Step LineRefused → Result (Option Step) LineRefused
 some_step (Ok step) = Ok (Some step)
 some_step (Err refusal) = Err refusal
 
 -- the step of a line, or none for an empty line or a comment
-unfoldable pub step_of : List ℕ → Result (Option Step) LineRefusal
+unfoldable pub step_of : List ℕ → Result (Option Step) LineRefused
 step_of line =
     if is_silent line then Ok None
     else if is_plain line then some_step (words_step (words_of line))
     else Err Syntax
 
 -- the line is refused so, or memory was wanting
-abbrev pub IsRefusedAs : Result Step LineRefusal → LineRefusal → Type 0
+abbrev pub IsRefusedAs : Result Step LineRefused → LineRefused → Type 0
 IsRefusedAs step Memory = Unit {0}
 IsRefusedAs step refusal = step ≡ Err refusal
 
-abbrev pub IsLineRefusedAs : List ℕ → LineRefusal → Type 0
+abbrev pub IsLineRefusedAs : List ℕ → LineRefused → Type 0
 IsLineRefusedAs line Memory = Unit {0}
 IsLineRefusedAs line refusal = step_of line ≡ Err refusal

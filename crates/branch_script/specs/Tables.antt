@@ -6,8 +6,8 @@ use Rattle.branch_doc.specs.declared.plain.PlainOp.{PlainOp}
 use Rattle.branch_doc.specs.declared.plain.PlainOp.TheVariants.{CounterAdd, FlagEnable, FlagDisable, LwwSet, MultiSet, SetAdd, SetRemove, LogAppend, QueueEnqueue, QueueDequeue}
 use Rattle.branch_doc.specs.declared.plain.PlainQuery.{PlainQuery}
 use Rattle.branch_doc.specs.declared.plain.PlainQuery.TheVariants.{CounterValue, FlagIsOn, LwwGet, MultiValues, SetContains, SetMembers, SetSize, LogRead, LogLength, QueuePeek, QueueItems, QueueLength}
-use Rattle.branch_script.specs.declared.step.LineRefusal.{LineRefusal}
-use Rattle.branch_script.specs.declared.step.LineRefusal.TheVariants.{BadNumber}
+use Rattle.branch_script.specs.declared.step.LineRefused.{LineRefused}
+use Rattle.branch_script.specs.declared.step.LineRefused.TheVariants.{BadNumber}
 use Rattle.branch_script.specs.Numbers.{integer_of}
 
 -- what a table has behind a word
@@ -22,7 +22,7 @@ kind_named word = behind word (
     ∷ (codes "set", Set) ∷ (codes "log", Log) ∷ (codes "queue", Queue) ∷ [])
 
 -- an amount added to the counter at a key, where there is one
-abbrev pub counter_add : List ℕ → Option ℤ → Result PlainOp LineRefusal
+abbrev pub counter_add : List ℕ → Option ℤ → Result PlainOp LineRefused
 counter_add key None = Err BadNumber
 counter_add key (Some amount) = Ok (CounterAdd key amount)
 
@@ -37,7 +37,7 @@ operations_at_key Log key = []
 operations_at_key Queue key = (codes "dequeue", QueueDequeue key) ∷ []
 
 -- those that take a word
-abbrev pub operations_with_word : Kind → List ℕ → List ℕ → List (List ℕ × Result PlainOp LineRefusal)
+abbrev pub operations_with_word : Kind → List ℕ → List ℕ → List (List ℕ × Result PlainOp LineRefused)
 operations_with_word Counter key word = (codes "add", counter_add key (integer_of word)) ∷ []
 operations_with_word Flag key word = []
 operations_with_word Lww key word = (codes "set", Ok (LwwSet key word)) ∷ []

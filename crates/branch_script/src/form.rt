@@ -2,7 +2,7 @@
 ghost use Rattle.std.specs.Prelude.{◌≡◌, map, Ok, IfOk, IfErr};
 ghost use Rattle.branch_script.specs.Script.{three_words, four_words, do_at_key, ask_at_key, do_with_word, ask_with_word, five_words, six_words, words_step, step_of, IsRefusedAs, IsLineRefusedAs};
 
-use crate::step::{LineRefusal, Step};
+use crate::step::{LineRefused, Step};
 use crate::tables::{
     kind_named, operation_at_key, operation_with_word, query_at_key, query_with_word,
 };
@@ -12,7 +12,7 @@ use branch_names::Name;
 use mrdt_model::Bytes;
 use std::alloc::Global;
 
-fn three_words(verb: &[u8], first: &[u8], second: &[u8]) -> Result<Step, LineRefusal>
+fn three_words(verb: &[u8], first: &[u8], second: &[u8]) -> Result<Step, LineRefused>
     ensures { result ≡ three_words verb.now first.now second.now }
 {
     match verb {
@@ -28,18 +28,18 @@ fn three_words(verb: &[u8], first: &[u8], second: &[u8]) -> Result<Step, LineRef
             session: Name::read(first)?,
             branch: Name::read(second)?,
         }),
-        _ => Err(LineRefusal::Syntax),
+        _ => Err(LineRefused::Syntax),
     }
 }
 
-fn four_words(verb: &[u8], branch: &[u8], kind: &[u8], query: &[u8]) -> Result<Step, LineRefusal>
+fn four_words(verb: &[u8], branch: &[u8], kind: &[u8], query: &[u8]) -> Result<Step, LineRefused>
     ensures { result ≡ four_words verb.now branch.now kind.now query.now }
 {
     if verb != b"ask".as_slice() || query != b"keys".as_slice() {
-        return Err(LineRefusal::Syntax);
+        return Err(LineRefused::Syntax);
     }
     let Some(kind) = kind_named(kind) else {
-        return Err(LineRefusal::Syntax);
+        return Err(LineRefused::Syntax);
     };
     Ok(Step::Ask {
         branch: Name::read(branch)?,
@@ -53,13 +53,13 @@ fn do_at_key(
     kind: Kind,
     key: &[u8],
     operation: &[u8],
-) -> Result<Step, LineRefusal>
+) -> Result<Step, LineRefused>
     ensures ok { IfOk result (λ step. do_at_key session.now kind key.now operation.now ≡ Ok step) }
     ensures err { IfErr result (IsRefusedAs (do_at_key session.now kind key.now operation.now)) }
 {
     let key = Bytes::from_slice(alloc, key)?;
     let Some(op) = operation_at_key(kind, operation, key) else {
-        return Err(LineRefusal::Syntax);
+        return Err(LineRefused::Syntax);
     };
     let session = Name::read(session)?;
     Ok(Step::Do { session, op })
@@ -71,13 +71,13 @@ fn ask_at_key(
     kind: Kind,
     key: &[u8],
     query: &[u8],
-) -> Result<Step, LineRefusal>
+) -> Result<Step, LineRefused>
     ensures ok { IfOk result (λ step. ask_at_key branch.now kind key.now query.now ≡ Ok step) }
     ensures err { IfErr result (IsRefusedAs (ask_at_key branch.now kind key.now query.now)) }
 {
     let key = Bytes::from_slice(alloc, key)?;
     let Some(query) = query_at_key(kind, query, key) else {
-        return Err(LineRefusal::Syntax);
+        return Err(LineRefused::Syntax);
     };
     let branch = Name::read(branch)?;
     Ok(Step::Ask { branch, query })
@@ -90,14 +90,14 @@ fn do_with_word(
     key: &[u8],
     operation: &[u8],
     word: &[u8],
-) -> Result<Step, LineRefusal>
+) -> Result<Step, LineRefused>
     ensures ok { IfOk result (λ step. do_with_word session.now kind key.now operation.now word.now ≡ Ok step) }
     ensures err { IfErr result (IsRefusedAs (do_with_word session.now kind key.now operation.now word.now)) }
 {
     let key = Bytes::from_slice(alloc, key)?;
     let word = Bytes::from_slice(alloc, word)?;
     let Some(op) = operation_with_word(kind, operation, key, word) else {
-        return Err(LineRefusal::Syntax);
+        return Err(LineRefused::Syntax);
     };
     let session = Name::read(session)?;
     Ok(Step::Do { session, op: op? })
@@ -110,14 +110,14 @@ fn ask_with_word(
     key: &[u8],
     query: &[u8],
     word: &[u8],
-) -> Result<Step, LineRefusal>
+) -> Result<Step, LineRefused>
     ensures ok { IfOk result (λ step. ask_with_word branch.now kind key.now query.now word.now ≡ Ok step) }
     ensures err { IfErr result (IsRefusedAs (ask_with_word branch.now kind key.now query.now word.now)) }
 {
     let key = Bytes::from_slice(alloc, key)?;
     let word = Bytes::from_slice(alloc, word)?;
     let Some(query) = query_with_word(kind, query, key, word) else {
-        return Err(LineRefusal::Syntax);
+        return Err(LineRefused::Syntax);
     };
     let branch = Name::read(branch)?;
     Ok(Step::Ask { branch, query })
@@ -130,14 +130,14 @@ fn five_words(
     kind: &[u8],
     key: &[u8],
     last: &[u8],
-) -> Result<Step, LineRefusal>
+) -> Result<Step, LineRefused>
     ensures ok { IfOk result (λ step. five_words verb.now name.now kind.now key.now last.now ≡ Ok step) }
     ensures err { IfErr result (IsRefusedAs (five_words verb.now name.now kind.now key.now last.now)) }
 {
     match (verb, kind_named(kind)) {
         (b"do", Some(kind)) => do_at_key(alloc, name, kind, key, last),
         (b"ask", Some(kind)) => ask_at_key(alloc, name, kind, key, last),
-        _ => Err(LineRefusal::Syntax),
+        _ => Err(LineRefused::Syntax),
     }
 }
 
@@ -149,19 +149,19 @@ fn six_words(
     key: &[u8],
     last: &[u8],
     word: &[u8],
-) -> Result<Step, LineRefusal>
+) -> Result<Step, LineRefused>
     ensures ok { IfOk result (λ step. six_words verb.now name.now kind.now key.now last.now word.now ≡ Ok step) }
     ensures err { IfErr result (IsRefusedAs (six_words verb.now name.now kind.now key.now last.now word.now)) }
 {
     match (verb, kind_named(kind)) {
         (b"do", Some(kind)) => do_with_word(alloc, name, kind, key, last, word),
         (b"ask", Some(kind)) => ask_with_word(alloc, name, kind, key, last, word),
-        _ => Err(LineRefusal::Syntax),
+        _ => Err(LineRefused::Syntax),
     }
 }
 
 // The step of a line's words.
-fn fit_words(alloc: Global, words: &[&[u8]]) -> Result<Step, LineRefusal>
+fn fit_words(alloc: Global, words: &[&[u8]]) -> Result<Step, LineRefused>
     ensures ok { IfOk result (λ step. words_step (map (λ word. word.now) words.now) ≡ Ok step) }
     ensures err { IfErr result (IsRefusedAs (words_step (map (λ word. word.now) words.now))) }
 {
@@ -172,7 +172,7 @@ fn fit_words(alloc: Global, words: &[&[u8]]) -> Result<Step, LineRefusal>
         [verb, name, kind, key, last, word] => {
             six_words(alloc, verb, name, kind, key, last, word)
         }
-        _ => Err(LineRefusal::Syntax),
+        _ => Err(LineRefused::Syntax),
     }
 }
 
@@ -181,7 +181,7 @@ fn fit_words(alloc: Global, words: &[&[u8]]) -> Result<Step, LineRefusal>
 /// A line that fits no form is `Syntax`, whatever its words in capitals are; then a bad name is `BadName`, and
 /// then a bad number `BadNumber`.
 #[tactic(auto, unfolding(crate::specs::Script::step_of))]
-pub fn read_line(alloc: Global, line: &[u8]) -> Result<Option<Step>, LineRefusal>
+pub fn read_line(alloc: Global, line: &[u8]) -> Result<Option<Step>, LineRefused>
     ensures ok { IfOk result (λ step. step_of line.now ≡ Ok step) }
     ensures err { IfErr result (IsLineRefusedAs line.now) }
 {
@@ -190,7 +190,7 @@ pub fn read_line(alloc: Global, line: &[u8]) -> Result<Option<Step>, LineRefusal
     }
     let words = words(alloc, line)?;
     if !plain(line, &words) {
-        return Err(LineRefusal::Syntax);
+        return Err(LineRefused::Syntax);
     }
     Ok(Some(fit_words(alloc, &words)?))
 }

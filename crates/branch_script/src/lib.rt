@@ -5,9 +5,7 @@ mod form;
 mod numbers;
 pub mod step;
 mod tables;
-#[cfg(test)]
-mod tests;
 mod words;
 
 pub use form::read_line;
-pub use step::{LineRefusal, Step};
+pub use step::{LineRefused, Step};

@@ -22,7 +22,7 @@ pub enum Step {
 
 /// Why a line of a script is no step.
 #[derive(Clone, Copy, Debug, PartialEq, Eq, Error)]
-pub enum LineRefusal {
+pub enum LineRefused {
     /// The line fits no form.
     #[error("the line fits no form")]
     Syntax,
@@ -37,35 +37,35 @@ pub enum LineRefusal {
     Memory,
 }
 
-impl From<Memory> for LineRefusal {
+impl From<Memory> for LineRefused {
     ghost use Rattle.std.specs.Prelude.{◌≡◌};
-    ghost use Rattle.branch_script.specs.declared.step.LineRefusal.TheVariants as refusal;
+    ghost use Rattle.branch_script.specs.declared.step.LineRefused.TheVariants as refusal;
 
     ghost from_gives = { λ _ error. error ≡ refusal.Memory };
 
-    fn from(_: Memory) -> LineRefusal {
-        LineRefusal::Memory
+    fn from(_: Memory) -> LineRefused {
+        LineRefused::Memory
     }
 }
 
-impl From<AllocError> for LineRefusal {
+impl From<AllocError> for LineRefused {
     ghost use Rattle.std.specs.Prelude.{◌≡◌};
-    ghost use Rattle.branch_script.specs.declared.step.LineRefusal.TheVariants as refusal;
+    ghost use Rattle.branch_script.specs.declared.step.LineRefused.TheVariants as refusal;
 
     ghost from_gives = { λ _ error. error ≡ refusal.Memory };
 
-    fn from(_: AllocError) -> LineRefusal {
-        LineRefusal::Memory
+    fn from(_: AllocError) -> LineRefused {
+        LineRefused::Memory
     }
 }
 
-impl From<BadName> for LineRefusal {
+impl From<BadName> for LineRefused {
     ghost use Rattle.std.specs.Prelude.{◌≡◌};
-    ghost use Rattle.branch_script.specs.declared.step.LineRefusal.TheVariants as refusal;
+    ghost use Rattle.branch_script.specs.declared.step.LineRefused.TheVariants as refusal;
 
     ghost from_gives = { λ _ error. error ≡ refusal.BadName };
 
-    fn from(_: BadName) -> LineRefusal {
-        LineRefusal::BadName
+    fn from(_: BadName) -> LineRefused {
+        LineRefused::BadName
     }
 }

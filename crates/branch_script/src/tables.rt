@@ -4,7 +4,7 @@ ghost use Rattle.branch_script.specs.Numbers.{integer_of};
 ghost use Rattle.branch_script.specs.Tables.{behind, kind_named, counter_add, operations_at_key, operations_with_word, queries_at_key, queries_with_word};
 
 use crate::numbers::integer;
-use crate::step::LineRefusal;
+use crate::step::LineRefused;
 use branch_doc::{Kind, PlainOp, PlainQuery};
 use mrdt_model::Bytes;
 
@@ -33,12 +33,12 @@ fn is(word: &[u8], keyword: &[u8]) -> bool
 }
 
 // An amount added to a counter; `BadNumber` where the word is no number of 64 bits.
-fn counter_add(key: Bytes, amount: &[u8]) -> Result<PlainOp, LineRefusal>
+fn counter_add(key: Bytes, amount: &[u8]) -> Result<PlainOp, LineRefused>
     ensures { result ≡ counter_add key (integer_of amount.now) }
 {
     match integer(amount) {
         Some(amount) => Ok(PlainOp::CounterAdd { key, amount }),
-        None => Err(LineRefusal::BadNumber),
+        None => Err(LineRefused::BadNumber),
     }
 }
 
@@ -61,7 +61,7 @@ pub fn operation_with_word(
     operation: &[u8],
     key: Bytes,
     word: Bytes,
-) -> Option<Result<PlainOp, LineRefusal>>
+) -> Option<Result<PlainOp, LineRefused>>
     ensures { result ≡ behind operation.now (operations_with_word kind key word) }
 {
     match kind {

@@ -10,7 +10,7 @@ use std::alloc::{AllocError, Global};
 fn pieces(alloc: Global, line: &[u8]) -> Result<Vec<&[u8]>, AllocError>
     ensures { IfOk result (λ words. map (λ word. word.now) words.items ≡ words_of line.now) }
 {
-    line.split(|byte| *byte == 32).collect(alloc)
+    line.split(|byte| *byte == b' ').collect(alloc)
 }
 
 /// The words of a line.
@@ -26,7 +26,7 @@ pub fn silent(line: &[u8]) -> bool
 {
     match line.first() {
         None => true,
-        Some(byte) => *byte == 35,
+        Some(byte) => *byte == b'#',
     }
 }
 
@@ -34,7 +34,7 @@ pub fn silent(line: &[u8]) -> bool
 fn printable(line: &[u8]) -> bool
     ensures { result ≡ list_all (λ b. nat_le 32 b && nat_le b 126) line.now }
 {
-    line.iter().all(|byte| 32 <= *byte && *byte <= 126)
+    line.iter().all(|byte| b' ' <= *byte && *byte <= b'~')
 }
 
 // Whether no word is empty.

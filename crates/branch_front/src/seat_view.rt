@@ -1,7 +1,8 @@
+// The view that goes with a seat.
 use std::collections::LinkedList;
 
 /// What one seat at the word knows. It stands in proofs alone: no value of it is ever made.
-pub(crate) struct View<M> {
+pub(crate) struct SeatView<M> {
     /// It is the writer's.
     pub(crate) writes: bool,
     /// The entries that it has seen, from the first that came after the front was made.
