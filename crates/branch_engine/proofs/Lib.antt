@@ -1,5 +1,6 @@
 pub mod Played
 pub mod Turned
 pub mod Landings
-pub mod Merges
+pub mod Does
 pub mod Replies
+pub mod Merges

@@ -15,19 +15,14 @@ use Rattle.branch_history.proofs.Heads.{same_branch}
 use Rattle.branch_engine.specs.Sessions.{Sight}
 use Rattle.branch_doc.specs.Document.{document}
 use Rattle.branch_doc.specs.Forms.{DocOp, DocReply, DocQuery, DocAnswer}
-use Rattle.branch_engine.specs.Play.{History, Play, Told}
-use Rattle.branch_engine.specs.Engines.{Core, Seen, EngineView, session_named, sight_of, AreLooksAt, Puts, Plays, IsAt}
+use Rattle.branch_engine.specs.Play.{History, Play}
+use Rattle.branch_engine.specs.Engines.{Core, Seen, EngineView, session_named, sight_of, AreLooksAt, Puts, KeepsLooks, Plays}
 
 pub prefix-self : {A : Type 0} (xs : List A) → IsPrefix xs xs
 prefix-self xs = ([], append-nil xs)
 
 pub prefix-more : {A : Type 0} (xs ys added : List A) → IsPrefix xs ys → IsPrefix xs (ys ++ added)
 prefix-more xs ys added p = (p.0 ++ added, sym (append_assoc xs p.0 added) ∙ ap (λ w. w ++ added) p.1)
-
--- what follows where a call succeeded
-pub on_ok : {E : Type 0} (r : Result (Unit {0}) E) (P Q : Type 0) → OnOk r P → (P → Q) → OnOk r Q
-on_ok (Ok done) P Q p f = f p
-on_ok (Err error) P Q p f = p
 
 -- a branch that is there stays
 pub branch-stays : (old new : History) (r : ℕ) → IsPrefix old new → r < length (store_of old).branches → r < length (store_of new).branches
@@ -52,7 +47,7 @@ looks-put core old new session seen looks puts at limits name s found =
 
 -- a look was put or, for want of memory, nothing
 pub looks-set : (core : Core) (old new : List (List ℕ × Seen)) (session : List ℕ) (seen : Seen) (result : Result (Unit {0}) Memory) → AreLooksAt core old
-    → OnOk result (Puts old new session seen) → OnErr result ((name : List ℕ) → session_named new name ≡ session_named old name)
+    → OnOk result (Puts old new session seen) → OnErr result (KeepsLooks old new)
     → IsPrefix seen.history core.history → seen.limits ≡ core.limits → AreLooksAt core new
 looks-set core old new session seen (Ok done) looks puts kept at limits = looks-put core old new session seen looks puts at limits
 looks-set core old new session seen (Err memory) looks puts kept at limits = λ name s found. looks name s (sym (kept name) ∙ found)
@@ -100,7 +95,6 @@ module _ (limits : Limits) (core : Core) (sessions : List (List ℕ × Seen)) (p
         ∙ ap (cond (bytes_eq session name) (Some sight)) (at.sights name);
   }
 
--- a line or a step was told so
-pub tells-by : (limits : Limits) (new : EngineView) (old_out new_out : List ℕ) (told it : Told) → told ≡ it → IsAt limits new it.after → new_out ≡ old_out ++ it.text
-    → IsAt limits new told.after × (new_out ≡ old_out ++ told.text)
-tells-by limits new old_out new_out told it is after text = (subst (IsAt limits new) (sym (ap (λ t. t.after) is)) after, text ∙ ap (λ t. old_out ++ t.text) (sym is))
+  -- each session sees what it saw
+  pub plays-kept : (new : List (List ℕ × Seen)) → KeepsLooks sessions new → Plays limits core new p
+  plays-kept new kept = record { limits_are = at.limits_are; history = at.history; sights = λ name. ap (option_map sight_of) (kept name) ∙ at.sights name }

@@ -1,11 +1,13 @@
 -- The play of the machine that an engine stands for.
-use Rattle.std.specs.Prelude.{◌≡◌, ℕ, List, ◌++◌, Some, if◌then◌else◌}
+use Rattle.std.specs.Prelude.{◌≡◌, ◌⊎◌, ℕ, List, ◌++◌, Some, Result, OnOk, OnErr, if◌then◌else◌}
 use Rattle.std.specs.declared.option.Option.{Option}
 use Rattle.std.specs.Option.{option_map}
 use Rattle.std.specs.Map.{lookup}
 use Rattle.std.specs.Ordering.{nat_cmp, is_eq}
 use Rattle.std.specs.Cmp.Lexicographic.{slice_cmp}
 use mathlib.Core.List.{IsPrefix}
+use Rattle.mrdt_model.specs.Spelled.{AppendsPart}
+use Rattle.mrdt_model.specs.declared.errors.Memory.{Memory}
 use Rattle.branch_names.specs.declared.limits.Limits.{Limits}
 use Rattle.branch_names.specs.Heads.{head_of}
 use Rattle.branch_history.specs.History.{store_of}
@@ -45,6 +47,10 @@ AreLooksAt core sessions = (name : List ℕ) (seen : Seen) → session_named ses
 abbrev pub Puts : {S : Type 0} → List (List ℕ × S) → List (List ℕ × S) → List ℕ → S → Type 0
 Puts old new session seen = (name : List ℕ) → session_named new name ≡ (if is_eq (slice_cmp nat_cmp session name) then Some seen else session_named old name)
 
+-- each session sees what it saw
+abbrev pub KeepsLooks : {S : Type 0} → List (List ℕ × S) → List (List ℕ × S) → Type 0
+KeepsLooks old new = (name : List ℕ) → session_named new name ≡ session_named old name
+
 -- a look at the head of this branch of a core
 pub record IsLookAt (core : Core) (branch : ℕ) (seen : Seen) : Type 0 where
   pub history : seen.history ≡ core.history
@@ -67,9 +73,23 @@ abbrev pub IsAt : Limits → EngineView → Play → Type 0
 IsAt limits engine p = Plays limits engine.core engine.sessions p
 
 -- where the engine stood for a play, it stands for what a line or step told leaves of it, and the text was added
-abbrev pub Tells : (Limits → Play → Told) → EngineView → EngineView → List ℕ → List ℕ → Type 0
-Tells told old new old_out new_out =
+abbrev pub Replies : (Limits → Play → Told) → EngineView → EngineView → List ℕ → List ℕ → Type 0
+Replies told old new old_out new_out =
     (limits : Limits) (p : Play) → IsAt limits old p → IsAt limits new (told limits p).after × (new_out ≡ old_out ++ (told limits p).text)
+
+-- of what was told in part: the history is the old one or the one after it, and each session sees what it saw
+abbrev pub StandsEitherWay : Limits → EngineView → Play → Told → Type 0
+StandsEitherWay limits engine p told = IsAt limits engine p ⊎ IsAt limits engine (record { moves = told.after.moves; sessions = p.sessions })
+
+-- where the engine stood for a play, telling a line or step was broken off, and a first part of the text was added
+abbrev pub BreaksOff : (Limits → Play → Told) → EngineView → EngineView → List ℕ → List ℕ → Type 0
+BreaksOff told old new old_out new_out =
+    (limits : Limits) (p : Play) → IsAt limits old p → StandsEitherWay limits new p (told limits p) × AppendsPart old_out new_out (told limits p).text
+
+-- what a call does that tells a line or a step: it does what was told and replies or, for want of memory, breaks off
+pub record Does (told : Limits → Play → Told) (old new : EngineView) (old_out new_out : List ℕ) (result : Result (Unit {0}) Memory) : Type 0 where
+  pub ok : OnOk result (Replies told old new old_out new_out)
+  pub err : OnErr result (BreaksOff told old new old_out new_out)
 
 -- the text of what landed
 abbrev pub kind_text : Kind DocReply → List ℕ

@@ -11,7 +11,7 @@ use Rattle.branch_history.specs.Steps as machine
 use Rattle.branch_history.specs.Machine.{turn}
 use Rattle.branch_script.specs.declared.step.Step.{Step}
 use Rattle.branch_script.specs.declared.step.Step.TheVariants.{Look, Fork, Merge, Do, Ask}
-use Rattle.branch_script.specs.declared.step.LineRefusal.{LineRefusal}
+use Rattle.branch_script.specs.declared.step.LineRefused.{LineRefused}
 use Rattle.branch_script.specs.Script.{step_of}
 use Rattle.branch_print.specs.Texts.{outcome_text, line_refusal_text, unseen_text, line_end}
 use Rattle.branch_engine.specs.Sessions.{Sight, Session, seen_by}
@@ -85,7 +85,7 @@ step_told limits p (Do session op) = do_told limits p session (doc_op op) (seen_
 step_told limits p (Ask branch query) = ask_told limits p branch (doc_query query) (turn document limits p.moves (machine.Look branch)).outcome
 
 -- an empty line or a comment is not answered; another line is, also where it is no step
-abbrev pub read_told : Limits → Play → Result (Option Step) LineRefusal → Told
+abbrev pub read_told : Limits → Play → Result (Option Step) LineRefused → Told
 read_told limits p (Ok None) = record { text = []; after = p }
 read_told limits p (Ok (Some step)) = step_told limits p step
 read_told limits p (Err refusal) = says p (line_refusal_text refusal)

@@ -1,17 +1,17 @@
 -- How a script ends, by what was told so far.
-use Rattle.std.proofs.Common.{◌≡◌, ℕ, ◌+◌, ◌^◌, ◌<◌, List, [], ◌∷◌, ◌++◌, length, refl, ap, sym, subst, ◌∙◌, append_assoc, append-nil, length-append, inl, inr, arith}
+use Rattle.std.proofs.Common.{◌≡◌, ℕ, ◌+◌, ◌^◌, ◌<◌, ◌≤◌, List, [], ◌∷◌, ◌++◌, length, refl, ap, sym, subst, ◌∙◌, append_assoc, append-nil, length-append, inl, inr, arith}
 use Rattle.std.specs.Prelude.{Option, Result, Ok, Err, OnOk, OnErr, IfErr}
 use Rattle.std.specs.Io.KnownBytes.{Appends, Consumes, Keeps}
-use Rattle.std.proofs.KnownBytes.{Appends-kept, Consumes-kept, Consumes-trans, Consumes-nil, Appends-trans, Appends-nil}
+use Rattle.std.proofs.KnownBytes.{Consumes-kept, Consumes-trans, Consumes-nil, Appends-trans, Appends-nil}
 use Rattle.branch_names.specs.declared.limits.Limits.{Limits}
 use Rattle.branch_script.specs.Lines.{lines_of}
 use Rattle.branch_engine.specs.Play.{begins, text_from, after_from, text_of}
 use Rattle.branch_engine.specs.Engines.{EngineView, IsAt}
-use Rattle.branch_shell.specs.Reading.{HasNoLineEnd, AreShort}
+use Rattle.branch_shell.specs.Reading.{AreShort}
 use Rattle.branch_shell.specs.declared.status.Status.{Status}
 use Rattle.branch_shell.specs.declared.status.Status.TheVariants.{Done, Usage, ReadFault, WriteFault, LineTooLong, InputTooLong, Memory}
-use Rattle.branch_shell.specs.Statuses.{EndsAs, Wrote, status_of, TellsWholeLines, TellsPart, IsFirstPart, script_text}
-use Rattle.branch_shell.specs.Telling.{TellsLines, TellsPartOf, TellsWhole, TellsSome, Takes, StopsTaking, StopsTelling, IsReading}
+use Rattle.branch_shell.specs.Statuses.{EndsAs, status_of, TellsWholeLines, TellsPart, script_text}
+use Rattle.branch_shell.specs.Telling.{TellsLines, TellsPartOf, TellsWhole, TellsSome, Takes, StopsTelling, IsReading}
 use Rattle.branch_shell.proofs.Cuts.{lines_of-whole, unended-short, whole-append, short-append}
 use Rattle.branch_shell.proofs.Told.{after_from-append, text_from-append}
 
@@ -19,18 +19,11 @@ script_text-is : (limits : Limits) (lines : List (List ℕ)) → text_from limit
 unfolding text_of
 script_text-is limits lines = refl
 
--- a text is a first part of itself
-whole_part : (text : List ℕ) → IsFirstPart text text
-whole_part text = ([], sym (append-nil text))
-
-whole_part_of : (limits : Limits) (left : Option (List ℕ)) (input text rest : List ℕ) → TellsWholeLines limits input text rest → TellsPart limits left input text
-whole_part_of limits left input text rest w =
-    record { whole = w.whole; rest = rest; parts = w.cut.parts; ended = w.cut.ended; part = inl (subst (IsFirstPart text) w.text_is (whole_part text)) }
+-- some input was taken, and a first part of the text of lines that were read was given
+abbrev EndsInPart : Limits → Option (List ℕ) → Option (List ℕ) → Option (List ℕ) → Option (List ℕ) → Type 0
+EndsInPart limits l0 l1 g0 g1 = (input : List ℕ) × (text : List ℕ) × Consumes l0 l1 input × Appends g0 g1 text × (length input ≤ 2 ^ 32) × TellsPart limits l1 input text
 
 -- what is written of a part comes with want of memory or a fault of the sink
-abbrev EndsInPart : Limits → Option (List ℕ) → Option (List ℕ) → Option (List ℕ) → Option (List ℕ) → Type 0
-EndsInPart limits l0 l1 g0 g1 = (input : List ℕ) × (text : List ℕ) × Consumes l0 l1 input × Appends g0 g1 text × TellsPart limits l1 input text
-
 pub ends_in_part : (limits : Limits) (l0 l1 g0 g1 : Option (List ℕ)) (before now : ℕ) (status : Status) → StopsTelling before now status → EndsInPart limits l0 l1 g0 g1 → EndsAs limits l0 l1 g0 g1 status
 ends_in_part limits l0 l1 g0 g1 before now WriteFault stops e = e
 ends_in_part limits l0 l1 g0 g1 before now Memory stops e = e
@@ -40,20 +33,6 @@ ends_in_part limits l0 l1 g0 g1 before now LineTooLong stops e = absurd stops
 ends_in_part limits l0 l1 g0 g1 before now InputTooLong stops e = absurd stops
 ends_in_part limits l0 l1 g0 g1 before now Usage stops e = absurd stops
 
--- whatever a run wrote is a first part of the text
-pub is_part : (limits : Limits) (left : Option (List ℕ)) (status : Status) (input text : List ℕ) → Wrote limits left status input text → TellsPart limits left input text
-is_part limits left Done input text w = record { whole = []; rest = input; parts = refl; ended = inl refl; part = inr (w.0, subst (IsFirstPart text) w.3 (whole_part text)) }
-is_part limits left Usage input text w = record { whole = []; rest = input; parts = refl; ended = inl refl; part = inl (script_text limits [], ap (λ t. t ++ script_text limits []) (sym w.1)) }
-is_part limits left ReadFault input text w = whole_part_of limits left input text w.0 w.1
-is_part limits left WriteFault input text w = w
-is_part limits left LineTooLong input text w = whole_part_of limits left input text w.0 w.2
-is_part limits left InputTooLong input text w = whole_part_of limits left input text w.1 w.3
-is_part limits left Memory input text w = w
-
--- a run that ended so, and then could not finish
-pub ends_unfinished : (limits : Limits) (l0 l1 g0 g1 g2 : Option (List ℕ)) (status : Status) → EndsAs limits l0 l1 g0 g1 status → Keeps g1 g2 → EndsAs limits l0 l1 g0 g2 WriteFault
-ends_unfinished limits l0 l1 g0 g1 g2 status e keeps = (e.0, e.1, e.2, Appends-kept g0 g1 g2 e.1 e.3 keeps, is_part limits l1 status e.0 e.1 e.4)
-
 -- before anything was taken or given
 pub nothing_told : (limits : Limits) (l g : Option (List ℕ)) → EndsAs limits l l g g Memory
 nothing_told limits l g = (
@@ -61,7 +40,8 @@ nothing_told limits l g = (
   [],
   Consumes-nil l,
   Appends-nil g,
-  record { whole = []; rest = []; parts = refl; ended = inl refl; part = inl (script_text limits [], refl) },
+  omega arith,
+  record { lines = []; read = inl (record { whole = []; rest = []; parts = refl; ended = inl refl; lines_are = refl; short = tt }); part = (script_text limits [], refl) },
 )
 
 module _ (limits : Limits) (l0 g0 : Option (List ℕ)) (e : EngineView) (pending : List ℕ) (read : ℕ) (l1 g1 : Option (List ℕ)) (r : IsReading limits e pending read l0 l1 g0 g1) where
@@ -71,38 +51,16 @@ module _ (limits : Limits) (l0 g0 : Option (List ℕ)) (e : EngineView) (pending
   whole_lines : TellsWholeLines limits (r.done ++ pending) told pending
   whole_lines = record { whole = r.done; cut = record { parts = refl; ended = r.ended; unended = r.unended; short = r.short }; text_is = script_text-is limits (lines_of r.done) }
 
-  pub at_read_fault : (l2 : Option (List ℕ)) → Keeps l1 l2 → EndsAs limits l0 l2 g0 g1 ReadFault
-  at_read_fault l2 keeps = (r.done ++ pending, told, Consumes-kept l0 l1 l2 (r.done ++ pending) r.took keeps, r.gave, (pending, whole_lines))
+  pub at_read_fault : read < 2 ^ 32 → length pending < 4096 → (l2 : Option (List ℕ)) → Keeps l1 l2 → EndsAs limits l0 l2 g0 g1 ReadFault
+  at_read_fault room fewer l2 keeps =
+      let few : length (r.done ++ pending) < 2 ^ 32 = omega (arith, r.counted) in
+      (r.done ++ pending, told, Consumes-kept l0 l1 l2 (r.done ++ pending) r.took keeps, r.gave, omega arith, (few, pending, fewer, whole_lines))
 
-  pub at_memory : (l2 : Option (List ℕ)) (piece : List ℕ) → Consumes l1 l2 piece → EndsAs limits l0 l2 g0 g1 Memory
-  at_memory l2 piece took = (
-    (r.done ++ pending) ++ piece,
-    told,
-    Consumes-trans l0 l1 l2 (r.done ++ pending) piece r.took took,
-    r.gave,
-    record {
-      whole = r.done;
-      rest = pending ++ piece;
-      parts = append_assoc r.done pending piece;
-      ended = r.ended;
-      part = inl (subst (IsFirstPart told) (script_text-is limits (lines_of r.done)) (whole_part told));
-    },
-  )
-
-  pub at_stop : (l2 : Option (List ℕ)) (before now : ℕ) (status : Status) → StopsTaking before now l1 l2 status → EndsAs limits l0 l2 g0 g1 status
-  at_stop l2 before now ReadFault stops = at_read_fault l2 stops.1
-  at_stop l2 before now Memory stops = at_memory l2 stops.0 stops.1
-  at_stop l2 before now Done stops = absurd stops
-  at_stop l2 before now Usage stops = absurd stops
-  at_stop l2 before now WriteFault stops = absurd stops
-  at_stop l2 before now LineTooLong stops = absurd stops
-  at_stop l2 before now InputTooLong stops = absurd stops
-
-  pub at_long_line : length pending ≡ 4096 → EndsAs limits l0 l1 g0 g1 LineTooLong
-  at_long_line long = (r.done ++ pending, told, r.took, r.gave, (pending, long, whole_lines))
+  pub at_long_line : read ≤ 2 ^ 32 → length pending ≡ 4096 → EndsAs limits l0 l1 g0 g1 LineTooLong
+  at_long_line most long = (r.done ++ pending, told, r.took, r.gave, omega (arith, r.counted), (pending, long, whole_lines))
 
   pub at_long_input : read ≡ 2 ^ 32 → length pending < 4096 → EndsAs limits l0 l1 g0 g1 InputTooLong
-  at_long_input all fewer = (r.done ++ pending, told, r.took, r.gave, (sym r.counted ∙ all, pending, fewer, whole_lines))
+  at_long_input all fewer = (r.done ++ pending, told, r.took, r.gave, omega (arith, r.counted), (sym r.counted ∙ all, pending, fewer, whole_lines))
 
   module _ (more : List ℕ) (l2 : Option (List ℕ)) (count : ℕ) (t : Takes pending more l1 l2 count) where
     took_more : Consumes l0 l2 (r.done ++ more)
@@ -134,21 +92,28 @@ module _ (limits : Limits) (l0 g0 : Option (List ℕ)) (e : EngineView) (pending
         }
 
     -- a first part of the text of some of the lines that wait was given
-    pub at_some_lines : (g2 : Option (List ℕ)) → TellsSome more e g1 g2 → EndsInPart limits l0 l2 g0 g2
-    at_some_lines g2 s =
+    pub at_some_lines : read + count ≤ 2 ^ 32 → (g2 : Option (List ℕ)) → TellsSome more e g1 g2 → EndsInPart limits l0 l2 g0 g2
+    at_some_lines most g2 s =
         let p = after_from limits (begins []) (lines_of r.done) in
         let part = s.told limits p r.at in
-        let lines : lines_of (r.done ++ s.whole) ≡ lines_of r.done ++ lines_of s.whole = lines_of-whole r.done s.whole r.ended in (
+        let lines : lines_of (r.done ++ s.whole) ≡ lines_of r.done ++ lines_of s.whole = lines_of-whole r.done s.whole r.ended in
+        let size : length (r.done ++ more) ≡ read + count = count_more in (
           r.done ++ more,
           told ++ part.part,
           took_more,
           Appends-trans g0 g1 g2 told part.part r.gave part.given,
+          omega (arith, size),
           record {
-            whole = r.done ++ s.whole;
-            rest = s.rest;
-            parts = ap (λ q. r.done ++ q) s.parts ∙ sym (append_assoc r.done s.whole s.rest);
-            ended = whole-append r.done s.whole r.ended s.ended;
-            part = inl (
+            lines = lines_of (r.done ++ s.whole);
+            read = inl (record {
+              whole = r.done ++ s.whole;
+              rest = s.rest;
+              parts = ap (λ q. r.done ++ q) s.parts ∙ sym (append_assoc r.done s.whole s.rest);
+              ended = whole-append r.done s.whole r.ended s.ended;
+              lines_are = refl;
+              short = subst AreShort (sym lines) (short-append (lines_of r.done) (lines_of s.whole) r.short s.short);
+            });
+            part = (
               part.rest,
               sym (script_text-is limits (lines_of (r.done ++ s.whole))) ∙ ap (text_from limits (begins [])) lines ∙ text_from-append limits (begins []) (lines_of r.done) (lines_of s.whole)
                   ∙ ap (λ t. told ++ t) part.whole ∙ sym (append_assoc told part.part part.rest),
@@ -157,7 +122,7 @@ module _ (limits : Limits) (l0 g0 : Option (List ℕ)) (e : EngineView) (pending
         )
 
     -- the source is at its end
-    module _ (none : count ≡ 0) (room : read < 2 ^ 32) where
+    module _ (none : count ≡ 0) (room : read < 2 ^ 32) (fewer : length pending < 4096) where
       same_pending : more ≡ pending
       same_pending = t.added ∙ ap (λ p. pending ++ p) (empty t.piece (t.counted ∙ none)) ∙ append-nil pending
         where
@@ -165,48 +130,54 @@ module _ (limits : Limits) (l0 g0 : Option (List ℕ)) (e : EngineView) (pending
           empty [] h = refl
           empty (x ∷ xs) h = absurd (omega (arith, h))
 
-      few : length (r.done ++ more) < 2 ^ 32
-      few = let c = count_more in omega (arith, c, none, room)
+      end_took : Consumes l0 l2 (r.done ++ pending)
+      end_took = subst (λ p. Consumes l0 l2 (r.done ++ p)) same_pending took_more
 
-      open_more : HasNoLineEnd more
-      open_more = subst HasNoLineEnd (sym same_pending) r.unended
+      few : length (r.done ++ pending) < 2 ^ 32
+      few = omega (arith, r.counted, room)
 
-      all_lines : lines_of (r.done ++ more) ≡ lines_of r.done ++ lines_of more
-      all_lines = lines_of-whole r.done more r.ended
+      all_lines : lines_of (r.done ++ pending) ≡ lines_of r.done ++ lines_of pending
+      all_lines = lines_of-whole r.done pending r.ended
 
-      all_text : script_text limits (lines_of (r.done ++ more)) ≡ told ++ text_from limits (after_from limits (begins []) (lines_of r.done)) (lines_of more)
+      all_short : AreShort (lines_of (r.done ++ pending))
+      all_short = subst AreShort (sym all_lines) (short-append (lines_of r.done) (lines_of pending) r.short (unended-short pending r.unended fewer))
+
+      all_text : script_text limits (lines_of (r.done ++ pending)) ≡ told ++ text_from limits (after_from limits (begins []) (lines_of r.done)) (lines_of pending)
       all_text =
-          sym (script_text-is limits (lines_of (r.done ++ more))) ∙ ap (text_from limits (begins [])) all_lines
-          ∙ text_from-append limits (begins []) (lines_of r.done) (lines_of more)
+          sym (script_text-is limits (lines_of (r.done ++ pending))) ∙ ap (text_from limits (begins [])) all_lines
+          ∙ text_from-append limits (begins []) (lines_of r.done) (lines_of pending)
 
-      pub at_last : length more < 4096 → (f : EngineView) (g2 : Option (List ℕ)) → TellsLines (lines_of more) e f g1 g2 → EndsAs limits l0 l2 g0 g2 Done
-      at_last fewer f g2 tells =
-          let p = after_from limits (begins []) (lines_of r.done) in (
-            r.done ++ more,
-            told ++ text_from limits p (lines_of more),
-            took_more,
-            Appends-trans g0 g1 g2 told (text_from limits p (lines_of more)) r.gave (tells limits p r.at).1,
-            (t.last none, few, subst AreShort (sym all_lines) (short-append (lines_of r.done) (lines_of more) r.short (unended-short more open_more fewer)), sym all_text),
+      at_last : (f : EngineView) (g2 : Option (List ℕ)) → TellsLines (lines_of pending) e f g1 g2 → EndsAs limits l0 l2 g0 g2 Done
+      at_last f g2 tells =
+          let p = after_from limits (begins []) (lines_of r.done) in
+          let small = few in (
+            r.done ++ pending,
+            told ++ text_from limits p (lines_of pending),
+            end_took,
+            Appends-trans g0 g1 g2 told (text_from limits p (lines_of pending)) r.gave (tells limits p r.at).1,
+            omega (arith, small),
+            (t.last none, small, all_short, sym all_text),
           )
 
-      pub in_last : (g2 : Option (List ℕ)) → TellsPartOf (lines_of more) e g1 g2 → EndsInPart limits l0 l2 g0 g2
+      in_last : (g2 : Option (List ℕ)) → TellsPartOf (lines_of pending) e g1 g2 → EndsInPart limits l0 l2 g0 g2
       in_last g2 tells =
           let p = after_from limits (begins []) (lines_of r.done) in
-          let part = tells limits p r.at in (
-            r.done ++ more,
+          let part = tells limits p r.at in
+          let small = few in (
+            r.done ++ pending,
             told ++ part.part,
-            took_more,
+            end_took,
             Appends-trans g0 g1 g2 told part.part r.gave part.given,
+            omega (arith, small),
             record {
-              whole = r.done;
-              rest = more;
-              parts = refl;
-              ended = r.ended;
-              part = inr (t.last none, (part.rest, all_text ∙ ap (λ t. told ++ t) part.whole ∙ sym (append_assoc told part.part part.rest)));
+              lines = lines_of (r.done ++ pending);
+              read = inr (t.last none, refl, all_short);
+              part = (part.rest, all_text ∙ ap (λ t. told ++ t) part.whole ∙ sym (append_assoc told part.part part.rest));
             },
           )
 
-      pub at_last_result : length more < 4096 → (f : EngineView) (g2 : Option (List ℕ)) (before now : ℕ) (result : Result (Unit {0}) Status)
-          → OnOk result (TellsLines (lines_of more) e f g1 g2) → OnErr result (TellsPartOf (lines_of more) e g1 g2) → IfErr result (StopsTelling before now) → EndsAs limits l0 l2 g0 g2 (status_of result)
-      at_last_result fewer f g2 before now (Ok done) ok err stops = at_last fewer f g2 ok
-      at_last_result fewer f g2 before now (Err status) ok err stops = ends_in_part limits l0 l2 g0 g2 before now status stops (in_last g2 err)
+      -- the last line was told, or a part of its reply was given
+      pub at_last_result : (f : EngineView) (g2 : Option (List ℕ)) (before now : ℕ) (result : Result (Unit {0}) Status)
+          → OnOk result (TellsLines (lines_of pending) e f g1 g2) → OnErr result (TellsPartOf (lines_of pending) e g1 g2) → IfErr result (StopsTelling before now) → EndsAs limits l0 l2 g0 g2 (status_of result)
+      at_last_result f g2 before now (Ok done) ok err stops = at_last f g2 ok
+      at_last_result f g2 before now (Err status) ok err stops = ends_in_part limits l0 l2 g0 g2 before now status stops (in_last g2 err)

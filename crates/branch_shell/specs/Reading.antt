@@ -1,6 +1,8 @@
 -- The part of an input that was told line by line.
 use Rattle.std.specs.Prelude.{◌≡◌, ℕ, ◌<◌, ◌⊎◌, List, [], ◌∷◌, ◌++◌, length, false, nat_eq}
+use Rattle.std.specs.declared.option.Option.{Option}
 use Rattle.std.specs.List.{AllByRecursion, list_any}
+use Rattle.std.specs.Io.KnownBytes.{IsAtEnd}
 use Rattle.branch_script.specs.Lines.{lines_of}
 
 -- nothing, or bytes of which the last ends a line
@@ -20,3 +22,19 @@ pub record IsCut (input whole rest : List ℕ) : Type 0 where
   pub ended : IsWholeLines whole
   pub unended : HasNoLineEnd rest
   pub short : AreShort (lines_of whole)
+
+-- the lines are whole ones at the front of an input, all short
+pub record AreFirstLines (input : List ℕ) (lines : List (List ℕ)) : Type 0 where
+  pub whole : List ℕ
+  pub rest : List ℕ
+  pub parts : input ≡ whole ++ rest
+  pub ended : IsWholeLines whole
+  pub lines_are : lines ≡ lines_of whole
+  pub short : AreShort lines
+
+-- the lines were read: whole ones at the front of the input or, where the source is at its end, all of it
+abbrev pub WereRead : Option (List ℕ) → List ℕ → List (List ℕ) → Type 0
+WereRead left input lines = AreFirstLines input lines ⊎ (IsAtEnd left × (lines ≡ lines_of input) × AreShort lines)
+
+abbrev pub IsFirstPart : List ℕ → List ℕ → Type 0
+IsFirstPart part text = (rest : List ℕ) × (text ≡ part ++ rest)

@@ -1,14 +1,14 @@
 -- Lines that an engine told, and what was given of their text.
 use Rattle.std.specs.Prelude.{◌≡◌, ℕ, List, [], ◌++◌, length}
 use Rattle.std.specs.declared.option.Option.{Option}
-use Rattle.std.specs.Io.KnownBytes.{Appends, Consumes, Keeps, IsAtEnd}
+use Rattle.std.specs.Io.KnownBytes.{Appends, Consumes, IsAtEnd}
 use Rattle.branch_names.specs.declared.limits.Limits.{Limits}
 use Rattle.branch_io.specs.Causes.{Rose}
 use Rattle.branch_script.specs.Lines.{lines_of}
 use Rattle.branch_engine.specs.Play.{Play, begins, text_from, after_from}
 use Rattle.branch_engine.specs.Engines.{EngineView, IsAt}
 use Rattle.branch_shell.specs.declared.status.Status.{Status}
-use Rattle.branch_shell.specs.declared.status.Status.TheVariants.{ReadFault, WriteFault, Memory}
+use Rattle.branch_shell.specs.declared.status.Status.TheVariants.{WriteFault, Memory}
 use Rattle.branch_shell.specs.Reading.{IsWholeLines, HasNoLineEnd, IsCut, AreShort}
 
 -- the sink was given a first part of a text
@@ -33,12 +33,13 @@ pub record TellsWhole (bytes rest : List ℕ) (old new : EngineView) (given_old 
   pub cut : IsCut bytes whole rest
   pub told : TellsLines (lines_of whole) old new given_old given_new
 
--- a first part of the text of some whole lines at the front of the bytes was given
+-- a first part of the text of some whole lines at the front of the bytes was given, all short
 pub record TellsSome (bytes : List ℕ) (old : EngineView) (given_old given_new : Option (List ℕ)) : Type 0 where
   pub whole : List ℕ
   pub rest : List ℕ
   pub parts : bytes ≡ whole ++ rest
   pub ended : IsWholeLines whole
+  pub short : AreShort (lines_of whole)
   pub told : TellsPartOf (lines_of whole) old given_old given_new
 
 -- the next bytes of the source were put behind those that wait; none only at the end
@@ -49,16 +50,10 @@ pub record Takes (old new : List ℕ) (left_old left_new : Option (List ℕ)) (c
   pub took : Consumes left_old left_new piece
   pub last : count ≡ 0 → IsAtEnd left_new
 
--- taking was stopped by a fault of the source, or by want of memory for the bytes that it gave
-abbrev pub StopsTaking : ℕ → ℕ → Option (List ℕ) → Option (List ℕ) → Status → Type 0
-StopsTaking before now left_old left_new ReadFault = Rose before now × Keeps left_old left_new
-StopsTaking before now left_old left_new Memory = (piece : List ℕ) × Consumes left_old left_new piece
-StopsTaking before now left_old left_new status = ⊥
-
 -- telling was stopped by want of memory, or by a fault of the sink
 abbrev pub StopsTelling : ℕ → ℕ → Status → Type 0
 StopsTelling before now WriteFault = Rose before now
-StopsTelling before now Memory = Unit {0}
+StopsTelling before now Memory = now ≡ before
 StopsTelling before now status = ⊥
 
 -- so far the source's bytes up to those that wait were told

@@ -2,6 +2,7 @@
 use crate::{Status, run};
 use branch_io::{MemorySink, MemorySource};
 use std::alloc::Global;
+use std::process::Abort;
 use std::test::Fail;
 
 // What a run over these bytes answers and writes; the listed calls of the source and of the sink fail.
@@ -18,9 +19,19 @@ fn played(
     Ok((status, sink.bytes().to_vec(alloc)?))
 }
 
+// Each script ends Done, with these replies.
+fn all_done(rt: &impl Abort, alloc: Global, rows: &[(&[u8], &[u8])]) -> Result<(), Fail> {
+    for (input, output) in rows.iter() {
+        let (status, text) = played(alloc, input, &[], &[])?;
+        assert_eq!(rt; status, Status::Done);
+        assert_eq!(rt; text.as_slice(), *output);
+    }
+    Ok(())
+}
+
 #[test]
 fn scripts_and_their_replies(rt: HostRuntime) -> Result<(), Fail> {
-    let rows: [(&[u8], &[u8]); 11] = [
+    let rows: [(&[u8], &[u8]); 12] = [
         (b"", b""),
         (b"ask main counter c value", b"0\n"),
         (
@@ -52,6 +63,10 @@ fn scripts_and_their_replies(rt: HostRuntime) -> Result<(), Fail> {
             b"error unknown nope\nerror taken 0\nerror unknown nope\n",
         ),
         (
+            b"merge a main\nlook a main\nlook b main\nmerge a none\ndo a counter c add 1\nmerge b main\n",
+            b"error unseen a\na sees main at #0\nb sees main at #0\nerror unknown none\nlanded #1 at 1.0\nstale main at #1\n",
+        ),
+        (
             b"look\nlook A main\ndo a counter c add 01\ndo a counter c add 1\n\n# x\n",
             b"error syntax\nerror name\nerror number\nerror unseen a\n",
         ),
@@ -60,12 +75,7 @@ fn scripts_and_their_replies(rt: HostRuntime) -> Result<(), Fail> {
             b"a sees main at #0\nlanded #1 at 1.0\nlanded #2 at 2.0\n[2] u v\n-9223372036854775808\n",
         ),
     ];
-    for (input, output) in rows.iter() {
-        let (status, text) = played(rt.alloc(), input, &[], &[])?;
-        assert_eq!(rt; status, Status::Done);
-        assert_eq!(rt; text.as_slice(), *output);
-    }
-    Ok(())
+    all_done(&rt, rt.alloc(), &rows)
 }
 
 #[test]
@@ -96,12 +106,7 @@ fn every_kind_merges(rt: HostRuntime) -> Result<(), Fail> {
             b"[0]\n[0]\n[0]\noff\na sees main at #0\nlanded #1 at 1.0 took nothing\n[1] j\n",
         ),
     ];
-    for (input, output) in rows.iter() {
-        let (status, text) = played(rt.alloc(), input, &[], &[])?;
-        assert_eq!(rt; status, Status::Done);
-        assert_eq!(rt; text.as_slice(), *output);
-    }
-    Ok(())
+    all_done(&rt, rt.alloc(), &rows)
 }
 
 #[test]
@@ -126,12 +131,7 @@ fn hostile_lines(rt: HostRuntime) -> Result<(), Fail> {
             b"a sees main at #0\nlanded #1 at 1.0\n[1] keys\n1\n",
         ),
     ];
-    for (input, output) in rows.iter() {
-        let (status, text) = played(rt.alloc(), input, &[], &[])?;
-        assert_eq!(rt; status, Status::Done);
-        assert_eq!(rt; text.as_slice(), *output);
-    }
-    Ok(())
+    all_done(&rt, rt.alloc(), &rows)
 }
 
 #[test]
@@ -153,15 +153,25 @@ fn lines_and_their_length(rt: HostRuntime) -> Result<(), Fail> {
 
 #[test]
 fn faults_in_mid_stream(rt: HostRuntime) -> Result<(), Fail> {
-    let alloc = rt.alloc();
-    let (status, text) = played(alloc, b"look a main\nlo", &[2], &[])?;
-    assert_eq!(rt; status, Status::ReadFault);
-    assert_eq!(rt; text.as_slice(), b"a sees main at #0\n".as_slice());
-    let (status, text) = played(alloc, b"look a main\nlook b main\n", &[], &[2])?;
-    assert_eq!(rt; status, Status::WriteFault);
-    assert_eq!(rt; text.as_slice(), b"a sees main at #0\n".as_slice());
-    let (status, _) = played(alloc, b"", &[], &[1])?;
-    assert_eq!(rt; status, Status::WriteFault);
+    let one: &[u8] = b"a sees main at #0\n";
+    let rows: [(&[u8], &[u64], &[u64], Status, &[u8]); 5] = [
+        (b"look a main\nlo", &[2], &[], Status::ReadFault, one),
+        (b"look a main\nlo", &[2], &[2], Status::WriteFault, one),
+        (
+            b"look a main\nlook b main\n",
+            &[],
+            &[2],
+            Status::WriteFault,
+            one,
+        ),
+        (b"look a main\n", &[], &[2], Status::WriteFault, one),
+        (b"", &[], &[1], Status::WriteFault, b""),
+    ];
+    for (input, source_fails, sink_fails, ends, output) in rows.iter() {
+        let (status, text) = played(rt.alloc(), input, source_fails, sink_fails)?;
+        assert_eq!(rt; status, *ends);
+        assert_eq!(rt; text.as_slice(), *output);
+    }
     Ok(())
 }
 

@@ -20,8 +20,8 @@ use Rattle.branch_history.proofs.Reach.{reaches-trans}
 use Rattle.branch_history.proofs.Heads.{same_branch, valid-rises}
 use Rattle.branch_history.proofs.Later.{IsLonger, commits-longer, longer-same_at_all, operation_refusal-same, merge_refusal-same}
 use Rattle.branch_history.proofs.Turns.{land-refused, merge-refused, forward-refused}
-use Rattle.store_core.specs.declared.answers.LandRefusal.{LandRefusal}
-use Rattle.store_core.specs.declared.answers.LandRefusal.TheVariants as land_refusal
+use Rattle.store_core.specs.declared.answers.LandRefused.{LandRefused}
+use Rattle.store_core.specs.declared.answers.LandRefused.TheVariants as land_refusal
 use Rattle.store_core.specs.Keeps.{IsSeen, IsReadyOperation, IsReadyMerge, IsReadyForward}
 use Rattle.store_core.specs.Views.{SeenView, CoreView, Work, Operation, Merge, Forward}
 use Rattle.store_core.specs.Turns.{at_head, step_of, Refuses, RefusedBy, LandRefusedAs}
@@ -154,7 +154,7 @@ module _ {S O R Q A : Type 0} (meaning : Meaning S O R Q A) (laws : KeepsLaws me
 
       -- a refusal of the move is the machine's, whatever work it is of which the machine refuses all that this refuses
       commit_refused : (work : Work O R) → ((refusal : machine.Refusal) → commit_refusal core.limits core.history seen.branch seen.head ≡ Some refusal → Refuses meaning core.limits core.history (step_of seen work) refusal)
-          → (refusal : LandRefusal) → RefusedBy (commit_refusal core.limits core.history branch head) refusal → LandRefusedAs meaning (record { seen = seen; work = work }) core refusal
+          → (refusal : LandRefused) → RefusedBy (commit_refusal core.limits core.history branch head) refusal → LandRefusedAs meaning (record { seen = seen; work = work }) core refusal
       commit_refused work turns (land_refusal.Stale newest) is =
           let here = at_seen (commit_refusal core.limits core.history) ∙ is in
           (turns (machine.Stale newest) here, commit_stale newest here)
@@ -163,7 +163,7 @@ module _ {S O R Q A : Type 0} (meaning : Meaning S O R Q A) (laws : KeepsLaws me
       commit_refused work turns land_refusal.Memory is = tt
 
       forward_refused : (work : Work O R) → ((refusal : machine.Refusal) → forward_refusal core.limits core.history seen.branch seen.head ≡ Some refusal → Refuses meaning core.limits core.history (step_of seen work) refusal)
-          → (refusal : LandRefusal) → RefusedBy (forward_refusal core.limits core.history branch head) refusal → LandRefusedAs meaning (record { seen = seen; work = work }) core refusal
+          → (refusal : LandRefused) → RefusedBy (forward_refusal core.limits core.history branch head) refusal → LandRefusedAs meaning (record { seen = seen; work = work }) core refusal
       forward_refused work turns (land_refusal.Stale newest) is =
           let here = at_seen (forward_refusal core.limits core.history) ∙ is in
           (turns (machine.Stale newest) here, forward_stale newest here)
@@ -171,7 +171,7 @@ module _ {S O R Q A : Type 0} (meaning : Meaning S O R Q A) (laws : KeepsLaws me
       forward_refused work turns (land_refusal.FullMoves count) is = turns (machine.FullMoves count) (at_seen (forward_refusal core.limits core.history) ∙ is)
       forward_refused work turns land_refusal.Memory is = tt
 
-      module _ {X : Type 0} (r : Result X LandRefusal) where
+      module _ {X : Type 0} (r : Result X LandRefused) where
         pub operation-refused : (time : Time) (value : S) (op : O) (reply : R) → IsReadyOperation meaning seen time value op reply → IfErr r (RefusedBy (commit_refusal core.limits core.history branch head)) → IfErr r (LandRefusedAs meaning (record { seen = seen; work = Operation op reply }) core)
         operation-refused time value op reply was =
             let fits = (operation-now time value op reply was).fits in

@@ -7,10 +7,10 @@ use Rattle.branch_history.specs.Commits.{graph_of}
 use Rattle.branch_history.specs.History.{store_of}
 use Rattle.branch_history.specs.Machine.{turn, answers, merge_refusal}
 use Rattle.branch_history.specs.Steps as machine
-use Rattle.store_core.specs.declared.answers.PairRefusal.{PairRefusal}
-use Rattle.store_core.specs.declared.answers.PairRefusal.TheVariants as pair_refusal
-use Rattle.store_core.specs.declared.answers.PairPrepareRefusal.{PairPrepareRefusal}
-use Rattle.store_core.specs.declared.answers.PairPrepareRefusal.TheVariants as prepare_refusal
+use Rattle.store_core.specs.declared.answers.PairRefused.{PairRefused}
+use Rattle.store_core.specs.declared.answers.PairRefused.TheVariants as pair_refusal
+use Rattle.store_core.specs.declared.answers.PairPrepareRefused.{PairPrepareRefused}
+use Rattle.store_core.specs.declared.answers.PairPrepareRefused.TheVariants as prepare_refusal
 use Rattle.store_core.specs.declared.pair.PairStep.{PairStep}
 use Rattle.store_core.specs.declared.pair.PairStep.TheVariants as step
 use Rattle.store_core.specs.Turns.{Refuses, FromOn}
@@ -26,7 +26,7 @@ pub record IsPaired {S O R Q A : Type 0} (meaning : Meaning S O R Q A) (core : C
   pub source : ℕ
   pub other : turn meaning core.limits core.history (machine.Look from) ≡ answers {A = A} (machine.Sees source pair.other)
 
-abbrev pub PairRefusedAs : {S O R Q A : Type 0} → Meaning S O R Q A → CoreView (Move O R) → List ℕ → PairRefusal → Type 0
+abbrev pub PairRefusedAs : {S O R Q A : Type 0} → Meaning S O R Q A → CoreView (Move O R) → List ℕ → PairRefused → Type 0
 PairRefusedAs meaning core from (pair_refusal.UnknownBranch named) = (named ≡ from) × Refuses meaning core.limits core.history (machine.Look from) (machine.UnknownBranch from)
 PairRefusedAs meaning core from pair_refusal.Memory = Unit {0}
 
@@ -52,7 +52,7 @@ abbrev pub IsStepOf : {S O R Q A : Type 0} → Meaning S O R Q A → PairView (M
 IsStepOf meaning pair step.Same = MergesAs meaning pair machine.Same
 IsStepOf meaning pair (step.Land made) = (made.seen ≡ seen_of pair) × IsWorkOf meaning pair made.work
 
-abbrev pub MergeRefusedAs : {S O R Q A : Type 0} → Meaning S O R Q A → PairView (Move O R) → PairPrepareRefusal → Type 0
+abbrev pub MergeRefusedAs : {S O R Q A : Type 0} → Meaning S O R Q A → PairView (Move O R) → PairPrepareRefused → Type 0
 MergeRefusedAs meaning pair (prepare_refusal.ManyBases count) = MergesAs meaning pair (machine.Refused (machine.ManyBases count))
 MergeRefusedAs meaning pair (prepare_refusal.ValueTooLarge length) = MergesAs meaning pair (machine.Refused (machine.ValueTooLarge length))
 MergeRefusedAs meaning pair prepare_refusal.Memory = Unit {0}

@@ -15,14 +15,14 @@ use Rattle.branch_history.specs.Machine.{turn, answers}
 use Rattle.store_core.specs.declared.answers.Kind.{Kind}
 use Rattle.store_core.specs.declared.answers.Kind.TheVariants as kind
 use Rattle.store_core.specs.declared.answers.Forked.{Forked}
-use Rattle.store_core.specs.declared.answers.LookRefusal.{LookRefusal}
-use Rattle.store_core.specs.declared.answers.LookRefusal.TheVariants as look_refusal
-use Rattle.store_core.specs.declared.answers.PrepareRefusal.{PrepareRefusal}
-use Rattle.store_core.specs.declared.answers.PrepareRefusal.TheVariants as prepare_refusal
-use Rattle.store_core.specs.declared.answers.LandRefusal.{LandRefusal}
-use Rattle.store_core.specs.declared.answers.LandRefusal.TheVariants as land_refusal
-use Rattle.store_core.specs.declared.answers.ForkRefusal.{ForkRefusal}
-use Rattle.store_core.specs.declared.answers.ForkRefusal.TheVariants as fork_refusal
+use Rattle.store_core.specs.declared.answers.LookRefused.{LookRefused}
+use Rattle.store_core.specs.declared.answers.LookRefused.TheVariants as look_refusal
+use Rattle.store_core.specs.declared.answers.PrepareRefused.{PrepareRefused}
+use Rattle.store_core.specs.declared.answers.PrepareRefused.TheVariants as prepare_refusal
+use Rattle.store_core.specs.declared.answers.LandRefused.{LandRefused}
+use Rattle.store_core.specs.declared.answers.LandRefused.TheVariants as land_refusal
+use Rattle.store_core.specs.declared.answers.ForkRefused.{ForkRefused}
+use Rattle.store_core.specs.declared.answers.ForkRefused.TheVariants as fork_refusal
 use Rattle.store_core.specs.Views.{CoreView, SeenView, PreparedView, Work}
 use Rattle.store_core.specs.Views as work
 
@@ -34,11 +34,11 @@ Refuses {S} {O} {R} {Q} {A} meaning limits history step refusal = turn meaning l
 abbrev pub FromOn : {S O R Q A : Type 0} → Meaning S O R Q A → Limits → List (Move O R) → (List (Move O R) → Type 0) → Type 0
 FromOn {S} {O} {R} meaning limits history P = (later : List (Move O R)) → IsPrefix history later → P later
 
-abbrev pub LookRefusedAs : {S O R Q A : Type 0} → Meaning S O R Q A → CoreView (Move O R) → List ℕ → LookRefusal → Type 0
+abbrev pub LookRefusedAs : {S O R Q A : Type 0} → Meaning S O R Q A → CoreView (Move O R) → List ℕ → LookRefused → Type 0
 LookRefusedAs meaning core name (look_refusal.UnknownBranch named) = (named ≡ name) × Refuses meaning core.limits core.history (machine.Look name) (machine.UnknownBranch name)
 LookRefusedAs meaning core name look_refusal.Memory = Unit {0}
 
-abbrev pub PrepareRefusedAs : {S O R Q A : Type 0} → Meaning S O R Q A → SeenView (Move O R) → O → PrepareRefusal → Type 0
+abbrev pub PrepareRefusedAs : {S O R Q A : Type 0} → Meaning S O R Q A → SeenView (Move O R) → O → PrepareRefused → Type 0
 PrepareRefusedAs meaning seen op (prepare_refusal.Exhausted clock) = FromOn meaning seen.limits seen.history (λ later. Refuses meaning seen.limits later (machine.Land seen.branch seen.head op) (machine.Exhausted clock))
 PrepareRefusedAs meaning seen op (prepare_refusal.ValueTooLarge length) = FromOn meaning seen.limits seen.history (λ later. Refuses meaning seen.limits later (machine.Land seen.branch seen.head op) (machine.ValueTooLarge length))
 PrepareRefusedAs meaning seen op prepare_refusal.Memory = Unit {0}
@@ -74,14 +74,14 @@ abbrev pub at_head : {M : Type 0} → CoreView M → ℕ → ℕ → SeenView M
 at_head core branch head = record { history = core.history; limits = core.limits; branch = branch; head = head }
 
 -- a refusal of the machine is this one
-abbrev pub RefusedBy : Option machine.Refusal → LandRefusal → Type 0
+abbrev pub RefusedBy : Option machine.Refusal → LandRefused → Type 0
 RefusedBy refusal (land_refusal.Stale newest) = refusal ≡ Some (machine.Stale newest)
 RefusedBy refusal (land_refusal.FullCommits count) = refusal ≡ Some (machine.FullCommits count)
 RefusedBy refusal (land_refusal.FullMoves count) = refusal ≡ Some (machine.FullMoves count)
 RefusedBy refusal land_refusal.Memory = Unit {0}
 
 -- the machine refuses what was prepared, and a head that is not the newest lies below the newest
-abbrev pub LandRefusedAs : {S O R Q A : Type 0} → Meaning S O R Q A → PreparedView O R → CoreView (Move O R) → LandRefusal → Type 0
+abbrev pub LandRefusedAs : {S O R Q A : Type 0} → Meaning S O R Q A → PreparedView O R → CoreView (Move O R) → LandRefused → Type 0
 LandRefusedAs meaning made core (land_refusal.Stale newest) =
     Refuses meaning core.limits core.history (step_of made.seen made.work) (machine.Stale newest)
     × IsTrue (reaches (graph_of (store_of core.history).commits) newest made.seen.head)
@@ -101,7 +101,7 @@ abbrev pub Forks : {S O R Q A : Type 0} → Meaning S O R Q A → List ℕ → L
 Forks {S} {O} {R} {Q} {A} meaning name from old new forked =
     (source : ℕ) × Moves meaning old new (machine.Fork name from) (move.Fork name forked.number source) (machine.Forked forked.number forked.head) forked.moves
 
-abbrev pub ForkRefusedAs : {S O R Q A : Type 0} → Meaning S O R Q A → List ℕ → List ℕ → CoreView (Move O R) → ForkRefusal → Type 0
+abbrev pub ForkRefusedAs : {S O R Q A : Type 0} → Meaning S O R Q A → List ℕ → List ℕ → CoreView (Move O R) → ForkRefused → Type 0
 ForkRefusedAs meaning name from core (fork_refusal.UnknownBranch named) = (named ≡ from) × Refuses meaning core.limits core.history (machine.Fork name from) (machine.UnknownBranch from)
 ForkRefusedAs meaning name from core (fork_refusal.NameTaken number) = Refuses meaning core.limits core.history (machine.Fork name from) (machine.NameTaken number)
 ForkRefusedAs meaning name from core (fork_refusal.FullBranches count) = Refuses meaning core.limits core.history (machine.Fork name from) (machine.FullBranches count)

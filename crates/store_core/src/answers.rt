@@ -1,12 +1,12 @@
 // What the calls of a core answer.
 use branch_names::Name;
 use mrdt_model::{Memory, Time};
-use std::alloc::{AllocError, AllocFailed};
+use std::alloc::AllocError;
 use thiserror::Error;
 
 /// Why a look was refused.
 #[derive(Clone, Copy, Debug, PartialEq, Eq, Error)]
-pub enum LookRefusal {
+pub enum LookRefused {
     /// No branch has the name.
     #[error("no branch has this name")]
     UnknownBranch { name: Name },
@@ -17,7 +17,7 @@ pub enum LookRefusal {
 
 /// Why an operation was not prepared.
 #[derive(Clone, Copy, Debug, PartialEq, Eq, Error)]
-pub enum PrepareRefusal {
+pub enum PrepareRefused {
     /// The clock of the commit that was seen is at the limit.
     #[error("the clock is at its limit, {clock}")]
     Exhausted { clock: u64 },
@@ -32,7 +32,7 @@ pub enum PrepareRefusal {
 
 /// Why a look was not paired with another branch.
 #[derive(Clone, Copy, Debug, PartialEq, Eq, Error)]
-pub enum PairRefusal {
+pub enum PairRefused {
     /// No branch has the name.
     #[error("no branch has this name")]
     UnknownBranch { name: Name },
@@ -43,7 +43,7 @@ pub enum PairRefusal {
 
 /// Why a merge was not prepared.
 #[derive(Clone, Copy, Debug, PartialEq, Eq, Error)]
-pub enum PairPrepareRefusal {
+pub enum PairPrepareRefused {
     /// The two commits have this many maximal common ancestors, not one.
     #[error("{count} maximal common ancestors")]
     ManyBases { count: u64 },
@@ -57,7 +57,7 @@ pub enum PairPrepareRefusal {
 
 /// Why what was prepared did not land.
 #[derive(Clone, Copy, Debug, PartialEq, Eq, Error)]
-pub enum LandRefusal {
+pub enum LandRefused {
     /// The branch's head is not the commit that was seen, but this newer one.
     #[error("the newest head is #{newest}")]
     Stale { newest: u32 },
@@ -74,7 +74,7 @@ pub enum LandRefusal {
 
 /// Why a branch was not forked.
 #[derive(Clone, Copy, Debug, PartialEq, Eq, Error)]
-pub enum ForkRefusal {
+pub enum ForkRefused {
     /// No branch has the name to fork from.
     #[error("no branch has this name")]
     UnknownBranch { name: Name },
@@ -122,145 +122,79 @@ pub struct Forked {
     pub head: u32,
 }
 
-impl From<Memory> for LookRefusal {
+impl From<AllocError> for LookRefused {
     ghost use Rattle.std.specs.Prelude.{◌≡◌};
-    ghost use Rattle.store_core.specs.declared.answers.LookRefusal.TheVariants as refusal;
+    ghost use Rattle.store_core.specs.declared.answers.LookRefused.TheVariants as refusal;
 
     ghost from_gives = { λ _ error. error ≡ refusal.Memory };
 
-    fn from(_: Memory) -> LookRefusal {
-        LookRefusal::Memory
+    fn from(_: AllocError) -> LookRefused {
+        LookRefused::Memory
     }
 }
 
-impl From<AllocError> for LookRefusal {
+impl From<Memory> for PrepareRefused {
     ghost use Rattle.std.specs.Prelude.{◌≡◌};
-    ghost use Rattle.store_core.specs.declared.answers.LookRefusal.TheVariants as refusal;
+    ghost use Rattle.store_core.specs.declared.answers.PrepareRefused.TheVariants as refusal;
 
     ghost from_gives = { λ _ error. error ≡ refusal.Memory };
 
-    fn from(_: AllocError) -> LookRefusal {
-        LookRefusal::Memory
+    fn from(_: Memory) -> PrepareRefused {
+        PrepareRefused::Memory
     }
 }
 
-impl From<Memory> for PrepareRefusal {
+impl From<Memory> for PairRefused {
     ghost use Rattle.std.specs.Prelude.{◌≡◌};
-    ghost use Rattle.store_core.specs.declared.answers.PrepareRefusal.TheVariants as refusal;
+    ghost use Rattle.store_core.specs.declared.answers.PairRefused.TheVariants as refusal;
 
     ghost from_gives = { λ _ error. error ≡ refusal.Memory };
 
-    fn from(_: Memory) -> PrepareRefusal {
-        PrepareRefusal::Memory
+    fn from(_: Memory) -> PairRefused {
+        PairRefused::Memory
     }
 }
 
-impl From<AllocError> for PrepareRefusal {
+impl From<Memory> for PairPrepareRefused {
     ghost use Rattle.std.specs.Prelude.{◌≡◌};
-    ghost use Rattle.store_core.specs.declared.answers.PrepareRefusal.TheVariants as refusal;
+    ghost use Rattle.store_core.specs.declared.answers.PairPrepareRefused.TheVariants as refusal;
 
     ghost from_gives = { λ _ error. error ≡ refusal.Memory };
 
-    fn from(_: AllocError) -> PrepareRefusal {
-        PrepareRefusal::Memory
+    fn from(_: Memory) -> PairPrepareRefused {
+        PairPrepareRefused::Memory
     }
 }
 
-impl From<Memory> for PairRefusal {
+impl From<Memory> for LandRefused {
     ghost use Rattle.std.specs.Prelude.{◌≡◌};
-    ghost use Rattle.store_core.specs.declared.answers.PairRefusal.TheVariants as refusal;
+    ghost use Rattle.store_core.specs.declared.answers.LandRefused.TheVariants as refusal;
 
     ghost from_gives = { λ _ error. error ≡ refusal.Memory };
 
-    fn from(_: Memory) -> PairRefusal {
-        PairRefusal::Memory
+    fn from(_: Memory) -> LandRefused {
+        LandRefused::Memory
     }
 }
 
-impl From<AllocError> for PairRefusal {
+impl From<AllocError> for LandRefused {
     ghost use Rattle.std.specs.Prelude.{◌≡◌};
-    ghost use Rattle.store_core.specs.declared.answers.PairRefusal.TheVariants as refusal;
+    ghost use Rattle.store_core.specs.declared.answers.LandRefused.TheVariants as refusal;
 
     ghost from_gives = { λ _ error. error ≡ refusal.Memory };
 
-    fn from(_: AllocError) -> PairRefusal {
-        PairRefusal::Memory
+    fn from(_: AllocError) -> LandRefused {
+        LandRefused::Memory
     }
 }
 
-impl From<Memory> for PairPrepareRefusal {
+impl From<Memory> for ForkRefused {
     ghost use Rattle.std.specs.Prelude.{◌≡◌};
-    ghost use Rattle.store_core.specs.declared.answers.PairPrepareRefusal.TheVariants as refusal;
+    ghost use Rattle.store_core.specs.declared.answers.ForkRefused.TheVariants as refusal;
 
     ghost from_gives = { λ _ error. error ≡ refusal.Memory };
 
-    fn from(_: Memory) -> PairPrepareRefusal {
-        PairPrepareRefusal::Memory
-    }
-}
-
-impl From<Memory> for LandRefusal {
-    ghost use Rattle.std.specs.Prelude.{◌≡◌};
-    ghost use Rattle.store_core.specs.declared.answers.LandRefusal.TheVariants as refusal;
-
-    ghost from_gives = { λ _ error. error ≡ refusal.Memory };
-
-    fn from(_: Memory) -> LandRefusal {
-        LandRefusal::Memory
-    }
-}
-
-impl From<AllocError> for LandRefusal {
-    ghost use Rattle.std.specs.Prelude.{◌≡◌};
-    ghost use Rattle.store_core.specs.declared.answers.LandRefusal.TheVariants as refusal;
-
-    ghost from_gives = { λ _ error. error ≡ refusal.Memory };
-
-    fn from(_: AllocError) -> LandRefusal {
-        LandRefusal::Memory
-    }
-}
-
-impl From<Memory> for ForkRefusal {
-    ghost use Rattle.std.specs.Prelude.{◌≡◌};
-    ghost use Rattle.store_core.specs.declared.answers.ForkRefusal.TheVariants as refusal;
-
-    ghost from_gives = { λ _ error. error ≡ refusal.Memory };
-
-    fn from(_: Memory) -> ForkRefusal {
-        ForkRefusal::Memory
-    }
-}
-
-impl From<AllocError> for ForkRefusal {
-    ghost use Rattle.std.specs.Prelude.{◌≡◌};
-    ghost use Rattle.store_core.specs.declared.answers.ForkRefusal.TheVariants as refusal;
-
-    ghost from_gives = { λ _ error. error ≡ refusal.Memory };
-
-    fn from(_: AllocError) -> ForkRefusal {
-        ForkRefusal::Memory
-    }
-}
-
-impl<X: Drop> From<AllocFailed<X>> for LandRefusal {
-    ghost use Rattle.std.specs.Prelude.{◌≡◌};
-    ghost use Rattle.store_core.specs.declared.answers.LandRefusal.TheVariants as refusal;
-
-    ghost from_gives = { λ _ error. error ≡ refusal.Memory };
-
-    fn from(_: AllocFailed<X>) -> LandRefusal {
-        LandRefusal::Memory
-    }
-}
-
-impl<X: Drop> From<AllocFailed<X>> for ForkRefusal {
-    ghost use Rattle.std.specs.Prelude.{◌≡◌};
-    ghost use Rattle.store_core.specs.declared.answers.ForkRefusal.TheVariants as refusal;
-
-    ghost from_gives = { λ _ error. error ≡ refusal.Memory };
-
-    fn from(_: AllocFailed<X>) -> ForkRefusal {
-        ForkRefusal::Memory
+    fn from(_: Memory) -> ForkRefused {
+        ForkRefused::Memory
     }
 }

@@ -13,8 +13,8 @@ pub mod seen;
 pub mod store;
 
 pub use answers::{
-    ForkRefusal, Forked, Kind, LandRefusal, Landed, LookRefusal, PairPrepareRefusal, PairRefusal,
-    PrepareRefusal,
+    ForkRefused, Forked, Kind, LandRefused, Landed, LookRefused, PairPrepareRefused, PairRefused,
+    PrepareRefused,
 };
 pub use pair::{Pair, PairStep};
 pub use prepared::Prepared;

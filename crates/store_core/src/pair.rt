@@ -4,7 +4,7 @@ ghost use Rattle.branch_history.specs.History.{store_of};
 ghost use Rattle.store_core.specs.Keeps.{AreApart, IsReadyMerge};
 ghost use Rattle.store_core.specs.Pairs.{seen_of, IsStepOf, MergeRefusedAs};
 
-use crate::answers::PairPrepareRefusal;
+use crate::answers::PairPrepareRefused;
 use crate::prepared::{Prepared, Ready};
 use crate::relation::Relation;
 use crate::seen::Seen;
@@ -46,7 +46,7 @@ pub enum PairStep<T: Mrdt> {
 impl<T: Mrdt> Pair<T> {
     /// Makes the merge ready to land on the head that was seen. It is refused as the machine refuses it, now and
     /// however the history goes on: `ManyBases` before `ValueTooLarge`.
-    pub fn prepare(&self) -> Result<PairStep<T>, PairPrepareRefusal>
+    pub fn prepare(&self) -> Result<PairStep<T>, PairPrepareRefused>
         ensures step { IfOk result (IsStepOf T.meaning self.now) }
         ensures refused { IfErr result (MergeRefusedAs T.meaning self.now) }
     {
@@ -56,7 +56,7 @@ impl<T: Mrdt> Pair<T> {
             Relation::Above => return Ok(PairStep::Same),
             Relation::Below => Ready::Forward { commit: self.other },
             Relation::Crossed { count } => {
-                return Err(PairPrepareRefusal::ManyBases { count: *count });
+                return Err(PairPrepareRefused::ManyBases { count: *count });
             }
             Relation::Apart { clock, base, right } => Ready::Merge {
                 commit: self.other,
@@ -73,7 +73,7 @@ impl<T: Mrdt> Pair<T> {
     }
 
     // The merged value, unless its spelling is too long.
-    fn merged(&self, clock: u64, base: &T, right: &T) -> Result<T, PairPrepareRefusal>
+    fn merged(&self, clock: u64, base: &T, right: &T) -> Result<T, PairPrepareRefused>
         requires { AreApart T.meaning (store_of self.now.history).commits self.now.head self.now.other clock base.now right.now }
         ensures ready { IfOk result (IsReadyMerge T.meaning (seen_of self.now) self.now.other clock) }
         ensures refused { IfErr result (MergeRefusedAs T.meaning self.now) }
@@ -84,7 +84,7 @@ impl<T: Mrdt> Pair<T> {
         value.put(&mut bytes)?;
         let length = bytes.len() as u64;
         if length > seen.limits.value {
-            return Err(PairPrepareRefusal::ValueTooLarge { length });
+            return Err(PairPrepareRefused::ValueTooLarge { length });
         }
         Ok(value)
     }

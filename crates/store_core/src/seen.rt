@@ -8,7 +8,7 @@ ghost use Rattle.branch_history.specs.Validity.{IsValid};
 ghost use Rattle.store_core.specs.Turns.{FromOn, PrepareRefusedAs};
 ghost use Rattle.store_core.specs.Views.{Operation};
 
-use crate::answers::PrepareRefusal;
+use crate::answers::PrepareRefused;
 use crate::prepared::{Prepared, Ready, spelled_length};
 use branch_history::Move;
 use branch_names::Limits;
@@ -88,13 +88,13 @@ impl<T: Mrdt> Seen<T> {
 
     /// Makes an operation ready to land on the head. It is refused as the machine refuses to land it, now and
     /// however the history goes on: `Exhausted` before `ValueTooLarge`.
-    pub fn prepare(&self, op: T::Op) -> Result<Prepared<T>, PrepareRefusal>
+    pub fn prepare(&self, op: T::Op) -> Result<Prepared<T>, PrepareRefused>
         ensures prepared { IfOk result (λ made. made ≡ record { seen = self.now; work = Operation op (T.meaning.reply_of (visible (store_of self.now.history).commits self.now.head) op) }) }
         ensures fits { OnOk result (operation_refusal T.meaning self.now.limits (store_of self.now.history).commits self.now.branch self.now.head op ≡ None) }
         ensures refused { IfErr result (PrepareRefusedAs T.meaning self.now op) }
     {
         if self.clock >= self.limits.clock {
-            return Err(PrepareRefusal::Exhausted { clock: self.clock });
+            return Err(PrepareRefused::Exhausted { clock: self.clock });
         }
         let time = Time {
             clock: self.clock + 1,
@@ -103,7 +103,7 @@ impl<T: Mrdt> Seen<T> {
         let (value, reply) = self.value.apply(&op, time)?;
         let length = spelled_length(self.alloc, &value, &op, &reply)?;
         if length > self.limits.value {
-            return Err(PrepareRefusal::ValueTooLarge { length });
+            return Err(PrepareRefused::ValueTooLarge { length });
         }
         Ok(Prepared {
             seen: Snapshot::of(self),

@@ -15,14 +15,14 @@ ghost use Rattle.store_core.specs.Nodes.{AddsCommit};
 ghost use Rattle.store_core.specs.Pairs.{IsPaired, PairRefusedAs};
 ghost use Rattle.store_core.specs.Turns.{at_head, outcome_of, Moves, LookRefusedAs, LandsAs, LandRefusedAs, RefusedBy, BranchAdded, Forks, ForkRefusedAs};
 
-use crate::answers::{ForkRefusal, Forked, Kind, LandRefusal, Landed, LookRefusal, PairRefusal};
+use crate::answers::{ForkRefused, Forked, Kind, LandRefused, Landed, LookRefused, PairRefused};
 use crate::pair::Pair;
 use crate::prepared::{Prepared, Ready, same_reply};
 use crate::relation::Relation;
 use crate::seen::Seen;
 use branch_graph::{Graph, PushRefused};
 use branch_history::Move;
-use branch_names::{ForkRefused, Heads, Limits, Name};
+use branch_names::{Heads, Limits, Name};
 use mrdt_model::{Memory, Mrdt, Time};
 use std::alloc::Global;
 use std::marker::Model;
@@ -124,13 +124,13 @@ impl<T: Mrdt> Core<T> {
     }
 
     /// Looks at the branch with a name. `UnknownBranch` comes exactly where no branch has it.
-    pub fn look(&self, name: &Name) -> Result<Seen<T>, LookRefusal>
+    pub fn look(&self, name: &Name) -> Result<Seen<T>, LookRefused>
         ensures on { IfOk result (λ seen. (seen.history ≡ self.now.history) × (seen.limits ≡ self.now.limits)) }
         ensures sees { IfOk result (λ seen. turn T.meaning self.now.limits self.now.history (machine.Look name.now) ≡ answers (machine.Sees seen.branch seen.head)) }
         ensures refused { IfErr result (LookRefusedAs T.meaning self.now name.now) }
     {
         let Some(branch) = self.heads.find(name) else {
-            return Err(LookRefusal::UnknownBranch { name: *name });
+            return Err(LookRefused::UnknownBranch { name: *name });
         };
         let head = self.heads.head(branch);
         let node = &self.nodes[head as usize];
@@ -148,14 +148,14 @@ impl<T: Mrdt> Core<T> {
 
     /// Pairs a look at this core, taken now or earlier, with the head that a branch has now. `UnknownBranch` comes
     /// exactly where no branch has the name.
-    pub fn pair(&self, seen: &Seen<T>, from: &Name) -> Result<Pair<T>, PairRefusal>
+    pub fn pair(&self, seen: &Seen<T>, from: &Name) -> Result<Pair<T>, PairRefused>
         requires history { IsPrefix seen.now.history self.now.history }
         requires limits { seen.now.limits ≡ self.now.limits }
         ensures paired { IfOk result (IsPaired T.meaning self.now seen.now from.now) }
         ensures refused { IfErr result (PairRefusedAs T.meaning self.now from.now) }
     {
         let Some(source) = self.heads.find(from) else {
-            return Err(PairRefusal::UnknownBranch { name: *from });
+            return Err(PairRefused::UnknownBranch { name: *from });
         };
         let other = self.heads.head(source);
         let seen = self.seen_again(seen)?;
@@ -227,26 +227,25 @@ impl<T: Mrdt> Core<T> {
 
     /// Forks a new branch from the head of another. It is refused exactly as the machine refuses it, and then
     /// nothing has changed: `UnknownBranch` before `NameTaken` before `FullBranches` before `FullMoves`.
-    pub fn fork(&mut self, new: Name, from: &Name) -> Result<Forked, ForkRefusal>
+    pub fn fork(&mut self, new: Name, from: &Name) -> Result<Forked, ForkRefused>
         ensures forked { IfOk result (Forks T.meaning new from.now self.old self.new) }
         ensures refused { IfErr result (ForkRefusedAs T.meaning new from.now self.old) }
         ensures kept { OnErr result (self.new ≡ self.old) }
     {
         let Some(source) = self.heads.find(from) else {
-            return Err(ForkRefusal::UnknownBranch { name: *from });
+            return Err(ForkRefused::UnknownBranch { name: *from });
         };
         if let Some(number) = self.heads.find(&new) {
-            return Err(ForkRefusal::NameTaken { number });
+            return Err(ForkRefused::NameTaken { number });
         }
         let count = self.heads.count();
         if count >= self.limits.branches {
-            return Err(ForkRefusal::FullBranches { count });
+            return Err(ForkRefused::FullBranches { count });
         }
         let moves = self.moves.len() as u64;
         if moves >= self.limits.moves {
-            return Err(ForkRefusal::FullMoves { count: moves });
+            return Err(ForkRefused::FullMoves { count: moves });
         }
-        new.known();
         Ok(self.add_branch(new, source)?)
     }
 
@@ -263,9 +262,9 @@ impl<T: Mrdt> Core<T> {
         self.moves.reserve(1)?;
         let number = match self.heads.fork(new, head) {
             Ok(number) => number,
-            Err(ForkRefused::Memory) => return Err(Memory),
-            Err(ForkRefused::Taken { .. }) => unreachable!(),
-            Err(ForkRefused::Full { .. }) => unreachable!(),
+            Err(branch_names::ForkRefused::Memory) => return Err(Memory),
+            Err(branch_names::ForkRefused::Taken { .. }) => unreachable!(),
+            Err(branch_names::ForkRefused::Full { .. }) => unreachable!(),
         };
         self.moves.push_reserved(Move::Fork {
             name: new,
@@ -282,7 +281,7 @@ impl<T: Mrdt> Core<T> {
     /// Lands what was prepared on a look at this core, now or earlier. It is refused exactly as the machine
     /// refuses it, and then nothing has changed: `Stale` before `FullCommits`, which only a new commit meets,
     /// before `FullMoves`.
-    pub fn land(&mut self, prepared: Prepared<T>) -> Result<Landed<T::Reply>, LandRefusal>
+    pub fn land(&mut self, prepared: Prepared<T>) -> Result<Landed<T::Reply>, LandRefused>
         requires history { IsPrefix prepared.seen.history self.old.history }
         requires limits { prepared.seen.limits ≡ self.old.limits }
         ensures landed { IfOk result (λ landed. LandsAs T.meaning prepared self.old self.new landed.moves landed.kind) }
@@ -322,7 +321,7 @@ impl<T: Mrdt> Core<T> {
         value: T,
         op: T::Op,
         reply: T::Reply,
-    ) -> Result<Landed<T::Reply>, LandRefusal>
+    ) -> Result<Landed<T::Reply>, LandRefused>
         requires there { branch < length (store_of self.old.history).branches }
         requires ready { IsReadyOperation T.meaning (at_head self.old branch head) time value op reply }
         ensures landed { IfOk result (λ landed. Moves T.meaning self.old self.new (machine.Land branch head op) (Move.Operation branch op reply) (outcome_of landed.kind) landed.moves) }
@@ -355,7 +354,7 @@ impl<T: Mrdt> Core<T> {
         other: u32,
         clock: u64,
         value: T,
-    ) -> Result<Landed<T::Reply>, LandRefusal>
+    ) -> Result<Landed<T::Reply>, LandRefused>
         requires there { branch < length (store_of self.old.history).branches }
         requires ready { IsReadyMerge T.meaning (at_head self.old branch head) other clock value }
         ensures landed { IfOk result (λ landed. Moves T.meaning self.old self.new (machine.Merge branch head other) (Move.Merge branch other) (outcome_of landed.kind) landed.moves) }
@@ -380,7 +379,7 @@ impl<T: Mrdt> Core<T> {
         branch: u32,
         head: u32,
         commit: u32,
-    ) -> Result<Landed<T::Reply>, LandRefusal>
+    ) -> Result<Landed<T::Reply>, LandRefused>
         requires there { branch < length (store_of self.old.history).branches }
         requires ready { IsReadyForward self.old.history head commit }
         ensures landed { IfOk result (λ landed. Moves T.meaning self.old self.new (machine.Merge branch head commit) (Move.Forward branch commit) (outcome_of landed.kind) landed.moves) }
@@ -398,7 +397,7 @@ impl<T: Mrdt> Core<T> {
     }
 
     // Whether a branch may move from the head that was seen.
-    fn may_move(&self, branch: u32, head: u32) -> Result<(), LandRefusal>
+    fn may_move(&self, branch: u32, head: u32) -> Result<(), LandRefused>
         requires { branch < length (store_of self.now.history).branches }
         ensures free { OnOk result (forward_refusal self.now.limits self.now.history branch head ≡ None) }
         ensures refused { IfErr result (RefusedBy (forward_refusal self.now.limits self.now.history branch head)) }
@@ -406,17 +405,17 @@ impl<T: Mrdt> Core<T> {
     {
         let current = self.heads.head(branch);
         if current != head {
-            return Err(LandRefusal::Stale { newest: current });
+            return Err(LandRefused::Stale { newest: current });
         }
         let moves = self.moves.len() as u64;
         if moves >= self.limits.moves {
-            return Err(LandRefusal::FullMoves { count: moves });
+            return Err(LandRefused::FullMoves { count: moves });
         }
         Ok(())
     }
 
     // Whether a branch may move from the head that was seen to a new commit.
-    fn may_add_commit(&self, branch: u32, head: u32) -> Result<(), LandRefusal>
+    fn may_add_commit(&self, branch: u32, head: u32) -> Result<(), LandRefused>
         requires { branch < length (store_of self.now.history).branches }
         ensures free { OnOk result (commit_refusal self.now.limits self.now.history branch head ≡ None) }
         ensures refused { IfErr result (RefusedBy (commit_refusal self.now.limits self.now.history branch head)) }
@@ -424,15 +423,15 @@ impl<T: Mrdt> Core<T> {
     {
         let newest = self.heads.head(branch);
         if newest != head {
-            return Err(LandRefusal::Stale { newest });
+            return Err(LandRefused::Stale { newest });
         }
         let commits = self.graph.count();
         if commits >= self.limits.commits {
-            return Err(LandRefusal::FullCommits { count: commits });
+            return Err(LandRefused::FullCommits { count: commits });
         }
         let moves = self.moves.len() as u64;
         if moves >= self.limits.moves {
-            return Err(LandRefusal::FullMoves { count: moves });
+            return Err(LandRefused::FullMoves { count: moves });
         }
         Ok(())
     }

@@ -1,7 +1,7 @@
 // Counters on branches, up to the limits.
 use crate::{
-    Core, ForkRefusal, Kind, LandRefusal, Landed, LookRefusal, PairPrepareRefusal, PairRefusal,
-    PairStep, PrepareRefusal,
+    Core, ForkRefused, Kind, LandRefused, Landed, LookRefused, PairPrepareRefused, PairRefused,
+    PairStep, PrepareRefused,
 };
 use branch_names::{Limits, Name};
 use mrdt_counter::{Counter, CounterOp, CounterQuery};
@@ -13,9 +13,9 @@ use std::test::Fail;
 // Why an addition or a merge did not land.
 #[derive(Clone, Copy, Debug, PartialEq, Eq)]
 enum Refused {
-    Prepare(PrepareRefusal),
-    Merge(PairPrepareRefusal),
-    Land(LandRefusal),
+    Prepare(PrepareRefused),
+    Merge(PairPrepareRefused),
+    Land(LandRefused),
 }
 
 fn crosses_threads<T: Send + Sync>(_value: &T) {}
@@ -52,7 +52,7 @@ fn add(
 }
 
 // Adds twice to what was seen of `main`, and says what became of the second addition.
-fn add_late(rt: &impl Abort, core: &mut Core<Counter>) -> Result<Landed<()>, LandRefusal> {
+fn add_late(rt: &impl Abort, core: &mut Core<Counter>) -> Result<Landed<()>, LandRefused> {
     let seen = core.look(&Name::main()).expect(rt, "main");
     let first = seen.prepare(CounterOp::Add(1)).expect(rt, "a first");
     let second = seen.prepare(CounterOp::Add(3)).expect(rt, "a second");
@@ -172,7 +172,7 @@ fn two_forks_add(rt: HostRuntime) -> Result<(), Fail> {
 fn a_late_addition_is_stale(rt: HostRuntime) -> Result<(), Fail> {
     let mut core = Core::fresh(rt.alloc(), Limits::default())?;
     let late = add_late(&rt, &mut core).err();
-    assert_eq!(rt; late, Some(LandRefusal::Stale { newest: 1 }));
+    assert_eq!(rt; late, Some(LandRefused::Stale { newest: 1 }));
     Ok(())
 }
 
@@ -181,12 +181,12 @@ fn names_are_taken_and_unknown(rt: HostRuntime) -> Result<(), Fail> {
     let mut core: Core<Counter> = Core::fresh(rt.alloc(), Limits::default())?;
     let (main, left) = (Name::main(), name(&rt, b"left"));
     let unknown = core.fork(main, &left).err();
-    assert_eq!(rt; unknown, Some(ForkRefusal::UnknownBranch { name: left }));
+    assert_eq!(rt; unknown, Some(ForkRefused::UnknownBranch { name: left }));
     let unknown = core.look(&left).err();
-    assert_eq!(rt; unknown, Some(LookRefusal::UnknownBranch { name: left }));
+    assert_eq!(rt; unknown, Some(LookRefused::UnknownBranch { name: left }));
     let _forked = core.fork(left, &main)?;
     let taken = core.fork(left, &main).err();
-    assert_eq!(rt; taken, Some(ForkRefusal::NameTaken { number: 1 }));
+    assert_eq!(rt; taken, Some(ForkRefused::NameTaken { number: 1 }));
     Ok(())
 }
 
@@ -197,32 +197,32 @@ fn limits_are_met(rt: HostRuntime) -> Result<(), Fail> {
     let full = refused_after(&rt, alloc, limited(&rt, 9, 2, 9, 24, 9), 1);
     assert_eq!(rt;
         full,
-        Some(Refused::Land(LandRefusal::FullCommits { count: 2 }))
+        Some(Refused::Land(LandRefused::FullCommits { count: 2 }))
     );
     let full = refused_after(&rt, alloc, limited(&rt, 9, 9, 9, 24, 1), 1);
     assert_eq!(rt;
         full,
-        Some(Refused::Land(LandRefusal::FullMoves { count: 1 }))
+        Some(Refused::Land(LandRefused::FullMoves { count: 1 }))
     );
     let exhausted = refused_after(&rt, alloc, limited(&rt, 2, 9, 9, 24, 9), 2);
     assert_eq!(rt;
         exhausted,
-        Some(Refused::Prepare(PrepareRefusal::Exhausted { clock: 2 }))
+        Some(Refused::Prepare(PrepareRefused::Exhausted { clock: 2 }))
     );
     let large = refused_after(&rt, alloc, limited(&rt, 9, 9, 9, 23, 9), 0);
     assert_eq!(rt;
         large,
-        Some(Refused::Prepare(PrepareRefusal::ValueTooLarge { length: 24 }))
+        Some(Refused::Prepare(PrepareRefused::ValueTooLarge { length: 24 }))
     );
 
     let (main, left) = (Name::main(), name(&rt, b"left"));
     let mut core: Core<Counter> = Core::fresh(alloc, limited(&rt, 9, 9, 1, 24, 9))?;
     let full = core.fork(left, &main).err();
-    assert_eq!(rt; full, Some(ForkRefusal::FullBranches { count: 1 }));
+    assert_eq!(rt; full, Some(ForkRefused::FullBranches { count: 1 }));
     let mut core: Core<Counter> = Core::fresh(alloc, limited(&rt, 9, 9, 3, 24, 1))?;
     let _forked = core.fork(left, &main)?;
     let full = core.fork(name(&rt, b"right"), &main).err();
-    assert_eq!(rt; full, Some(ForkRefusal::FullMoves { count: 1 }));
+    assert_eq!(rt; full, Some(ForkRefused::FullMoves { count: 1 }));
     Ok(())
 }
 
@@ -254,7 +254,7 @@ fn two_branches_merge(rt: HostRuntime) -> Result<(), Fail> {
     let unknown = core.pair(&seen, &name(&rt, b"none")).err();
     assert_eq!(rt;
         unknown,
-        Some(PairRefusal::UnknownBranch {
+        Some(PairRefused::UnknownBranch {
             name: name(&rt, b"none")
         })
     );
@@ -273,7 +273,7 @@ fn criss_cross_merges_have_two_bases(rt: HostRuntime) -> Result<(), Fail> {
     let refused = merge(&rt, &mut core, &main, &left).err();
     assert_eq!(rt;
         refused,
-        Some(Refused::Merge(PairPrepareRefusal::ManyBases { count: 2 }))
+        Some(Refused::Merge(PairPrepareRefused::ManyBases { count: 2 }))
     );
     Ok(())
 }

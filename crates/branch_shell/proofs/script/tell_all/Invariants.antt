@@ -1,14 +1,14 @@
-use Rattle.std.proofs.Common.{◌-◌, ◌^◌, ◌<◌, ◌≤◌, vec_len}
+use Rattle.std.proofs.Common.{◌≡◌, ◌-◌, ◌^◌, ◌<◌, ◌≤◌, take}
 use Rattle.branch_shell.specs.Telling.{IsReading}
 use Rattle.branch_shell.proofs.script.tell_all.Given as goal
 
 abbrev pub invariant-loop-read : goal.invariant-loop-read
 invariant-loop-read g l = record {
-  reading : IsReading l.fn.limits l.engine l.pending.items l.read (g.S.Source.left l.initial.source) (g.S.Source.left l.source) (g.K.Sink.given l.initial.sink) (g.K.Sink.given l.sink);
-  fewer : vec_len l.pending < 4096;
+  reading : IsReading l.fn.limits l.engine (take l.waiting l.buffer) l.read (g.S.Source.left l.initial.source) (g.S.Source.left l.source) (g.K.Sink.given l.initial.sink) (g.K.Sink.given l.sink);
+  fewer : l.waiting < 4096;
   most : l.read ≤ 2 ^ 32;
-  source_later : g.S.Source.faults l.initial.source ≤ g.S.Source.faults l.source;
-  sink_later : g.K.Sink.faults l.initial.sink ≤ g.K.Sink.faults l.sink;
+  source_same : g.S.Source.faults l.source ≡ g.S.Source.faults l.initial.source;
+  sink_same : g.K.Sink.faults l.sink ≡ g.K.Sink.faults l.initial.sink;
 }
 
 abbrev pub decreases-loop-read : goal.decreases-loop-read

@@ -1,4 +1,4 @@
-use Rattle.std.proofs.Common.{◌<◌, ◌++◌, ◌∷◌, [], length, subst, sym, arith}
+use Rattle.std.proofs.Common.{◌<◌, ◌++◌, ◌∷◌, [], length, refl, subst, sym, ◌∙◌, arith}
 use Rattle.std.proofs.lemmas.Result.{err_from_is_err_and}
 use Rattle.branch_script.specs.Lines.{lines_of}
 use Rattle.branch_shell.specs.Reading.{AreShort}
@@ -15,12 +15,14 @@ returns-in_err-tell_line-clause-err g c =
     let given = g.K.Sink.given in
     let next = next_line c.args.bytes.now before.done line behind c.loop-line.rest.now before.parts c.in-Some.ensures.some.0 before.ended c.in-Some.ensures.some.1 in
     let told : TellsPartOf (line ∷ []) c.loop-line.engine (given c.loop-line.sink) (given c.tell_line.new.sink) = c.in_err-tell_line.ensures.err in
+    let small : length line < 4096 = omega (arith, next.shorter) in
     let some : TellsSome c.args.bytes.now c.args.engine.now (given c.args.sink.now) (given c.tell_line.new.sink) =
     record {
       whole = (before.done ++ line) ++ 10 ∷ [];
       rest = behind;
       parts = next.parts;
       ended = whole-more before.done line;
+      short = subst AreShort (sym next.lines) (short-append (lines_of before.done) (line ∷ []) before.short (small, tt));
       told =
           subst (λ ls. TellsPartOf ls c.args.engine.now (given c.args.sink.now) (given c.tell_line.new.sink)) (sym next.lines)
           (tells_part-append (lines_of before.done) (line ∷ []) c.args.engine.now c.loop-line.engine (given c.args.sink.now) (given c.loop-line.sink) (given c.tell_line.new.sink) before.told told);
@@ -43,8 +45,10 @@ loop-line-preserved g c =
       parts = next.parts;
       ended = whole-more before.done line;
       short = subst AreShort (sym next.lines) (short-append (lines_of before.done) (line ∷ []) before.short (small, tt));
+      within = omega arith;
+      open_front = refl;
       told =
           subst (λ ls. TellsLines ls c.args.engine.now c.tell_line.new.engine (given c.args.sink.now) (given c.tell_line.new.sink)) (sym next.lines)
           (tells-append (lines_of before.done) (line ∷ []) c.args.engine.now c.loop-line.engine c.tell_line.new.engine (given c.args.sink.now) (given c.loop-line.sink) (given c.tell_line.new.sink) before.told told);
-      later = omega (arith, before.later, c.tell_line.ensures.later);
+      same = c.in_ok-tell_line.ensures.same ∙ before.same;
     }

@@ -1,6 +1,6 @@
-use Rattle.std.proofs.Common.{◌≡◌, ◌≤◌, ◌++◌, List, ℕ, length}
+use Rattle.std.proofs.Common.{◌≡◌, ◌≤◌, ◌++◌, List, ℕ, length, take}
 use Rattle.branch_script.specs.Lines.{lines_of}
-use Rattle.branch_shell.specs.Reading.{IsWholeLines, AreShort}
+use Rattle.branch_shell.specs.Reading.{IsWholeLines, AreShort, HasNoLineEnd}
 use Rattle.branch_shell.specs.Telling.{TellsLines}
 use Rattle.branch_shell.proofs.script.tell_whole_lines.Given as goal
 
@@ -10,8 +10,10 @@ invariant-loop-line g l = record {
   parts : l.bytes ≡ done ++ l.rest;
   ended : IsWholeLines done;
   short : AreShort (lines_of done);
+  within : l.scanned ≤ length l.rest;
+  open_front : HasNoLineEnd (take l.scanned l.rest);
   told : TellsLines (lines_of done) l.initial.engine l.engine (g.K.Sink.given l.initial.sink) (g.K.Sink.given l.sink);
-  later : g.K.Sink.faults l.initial.sink ≤ g.K.Sink.faults l.sink;
+  same : g.K.Sink.faults l.sink ≡ g.K.Sink.faults l.initial.sink;
 }
 
 abbrev pub decreases-loop-line : goal.decreases-loop-line

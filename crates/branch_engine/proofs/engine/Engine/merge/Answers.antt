@@ -1,31 +1,50 @@
-use Rattle.std.proofs.Common.{◌≡◌, ◌++◌, ◌∙◌, [], sym, ap, subst, refl, Some, None, ◌<◌, length}
+use Rattle.std.proofs.Common.{◌≡◌, ◌++◌, ◌∙◌, [], sym, ap, subst, refl, Some, None, List, ℕ, ◌<◌, length}
+use Rattle.std.specs.Prelude.{Result, OnOk, OnErr}
 use mathlib.Core.List.{IsPrefix}
+use Rattle.mrdt_model.specs.declared.errors.Memory.{Memory}
+use Rattle.mrdt_model.specs.Spelled.{AppendsPart}
+use Rattle.branch_names.specs.Heads.{name_of}
 use Rattle.branch_history.specs.History.{store_of}
 use Rattle.branch_history.specs.Steps as machine
 use Rattle.branch_history.specs.Machine.{turn, answers}
+use Rattle.store_core.specs.Pairs.{IsPaired, MergesAs}
 use Rattle.store_core.specs.Turns.{step_of}
-use Rattle.branch_print.specs.Texts.{refusal_text, unseen_text, same_text, line_end}
-use Rattle.branch_script.specs.declared.step.Step.TheVariants as step
+use Rattle.branch_print.specs.Texts.{outcome_text, refusal_text, unseen_text, same_text, line_end}
 use Rattle.branch_doc.specs.Document.{document}
-use Rattle.branch_doc.specs.Forms.{DocQuery, DocAnswer}
-use Rattle.branch_engine.specs.Play.{turn_told, step_told}
-use Rattle.branch_engine.specs.Engines.{EngineView, Seen, Tells, session_named}
-use Rattle.branch_engine.proofs.Played.{on_ok, branch-stays, prefix-self}
-use Rattle.branch_engine.proofs.Merges.{merge_of, pair-history, pair-limits, pair-branch, pair-turn, pair-work}
-use Rattle.branch_engine.proofs.Replies.{unmerged, merge_unknown, merge_told_so, turn_stays}
+use Rattle.branch_doc.specs.Forms.{DocReply, DocQuery, DocAnswer}
+use Rattle.branch_engine.specs.Play.{sight_after}
+use Rattle.branch_engine.specs.Engines.{EngineView, Core, Seen, Does, session_named}
+use Rattle.branch_engine.proofs.Played.{branch-stays, prefix-self}
+use Rattle.branch_engine.proofs.Merges.{Pair, merge_of, pair-history, pair-limits, pair-branch, pair-turn, pair-work}
+use Rattle.branch_engine.proofs.Does.{nothing_done, stays_so, does_as}
+use Rattle.branch_engine.proofs.Replies.{merge_telling, turn_telling, Refuses, LooksAt, unmerged, merge_unknown, merge_as, turn_stays}
 use Rattle.branch_engine.proofs.engine.Engine.merge.Goals as goal
+
+abbrev view_of : Core → List (List ℕ × Seen) → EngineView
+view_of core sessions = record { core = core; sessions = sessions }
+
+-- a merge that moves nothing, of an engine whose view this is
+unmoved : (old : EngineView) (out out' session from : List ℕ) (seen : Seen) (pair : Pair) (paired : IsPaired document old.core seen from pair) (r : Result (Unit {0}) Memory) (outcome : machine.Outcome DocAnswer DocReply) (words : List ℕ)
+    → session_named old.sessions session ≡ Some seen → MergesAs document pair outcome → sight_after seen.branch outcome ≡ None
+    → OnOk r (out' ≡ out ++ (words ++ line_end)) → OnErr r (AppendsPart out out' (words ++ line_end))
+    → words ≡ outcome_text session (name_of (store_of old.core.history).branches seen.branch) outcome
+    → Does (merge_telling session from) old old out out' r
+unmoved old out out' session from seen pair paired r outcome words found merges none ok err text =
+    let step = merge_of seen.branch seen.head pair.other in
+    does_as (merge_telling session from) (turn_telling session seen.branch step) old old out out' r (merge_as old session seen found from paired.source pair.other paired.other)
+    (stays_so (turn_telling session seen.branch step) old old out out' (outcome_text session (name_of (store_of old.core.history).branches seen.branch) outcome ++ line_end) r refl
+    (turn_stays old session seen.branch step outcome (pair-turn old.core seen from pair paired outcome merges) none)
+    (subst (λ t. OnOk r (out' ≡ out ++ (t ++ line_end))) text ok) (subst (λ t. OnErr r (AppendsPart out out' (t ++ line_end))) text err))
 
 pub returns-in_default : goal.returns-in_default
 returns-in_default c =
     let old = c.args.self.now in
     let session = c.args.session.now in
     let from = c.args.from.now in
-    let out = c.args.out.now.items in
-    let out' = c.put_unseen.new.out.items in
     let none : session_named c.self.inside.sessions.entries session ≡ None = sym c.in_default.ensures.value in
     let here = subst (λ (v : EngineView). session_named v.sessions session ≡ None) c.self.view_is none in
-    on_ok c.put_unseen.result (out' ≡ out ++ (unseen_text session ++ line_end)) (Tells (λ limits p. step_told limits p (step.Merge session from)) old old out out') c.put_unseen.ensures
-    (λ text. unmerged old out out' session from here text)
+    stays_so (merge_telling session from) old old c.args.out.now.items c.put_unseen.new.out.items (unseen_text session ++ line_end) c.put_unseen.result refl
+    (unmerged old session from here) c.put_unseen.ensures.ok c.put_unseen.ensures.err
 
 pub pair-requires-clause-history : goal.pair-requires-clause-history
 pair-requires-clause-history c = λ _. (c.self.invariant c.args.session.now c.in-Some.seen.now (sym c.in-Some.ensures.value)).0
@@ -38,77 +57,48 @@ returns-in-Err-UnknownBranch c =
     let old = c.args.self.now in
     let session = c.args.session.now in
     let from = c.args.from.now in
-    let out = c.args.out.now.items in
-    let out' = c.put_unknown.new.out.items in
     let seen = c.in-Some.seen.now in
+    let refusal = machine.UnknownBranch from in
     let found : session_named c.self.inside.sessions.entries session ≡ Some seen = sym c.in-Some.ensures.value in
     let there = subst (λ (v : EngineView). session_named v.sessions session ≡ Some seen) c.self.view_is found in
-    let refused = (rw c.in-Err-UnknownBranch.field-0-is at c.in-Err-UnknownBranch.ensures.refused).1 in
-    let is = subst (λ (v : EngineView). turn document v.core.limits v.core.history (machine.Look from) ≡ answers {A = DocAnswer} (machine.Refused (machine.UnknownBranch from))) c.self.view_is refused in
-    on_ok c.put_unknown.result (out' ≡ out ++ (refusal_text [] (machine.UnknownBranch from) ++ line_end)) (Tells (λ limits p. step_told limits p (step.Merge session from)) old old out out') c.put_unknown.ensures
-    (λ text. merge_unknown old out session seen there out' from (machine.UnknownBranch from) is text)
+    let is = subst (λ (v : EngineView). Refuses v (machine.Look from) refusal) c.self.view_is (rw c.in-Err-UnknownBranch.field-0-is at c.in-Err-UnknownBranch.ensures.refused).1 in
+    stays_so (merge_telling session from) old old c.args.out.now.items c.put_unknown.new.out.items (refusal_text from refusal ++ line_end) c.put_unknown.result refl
+    (merge_unknown old session seen there from refusal is) c.put_unknown.ensures.ok c.put_unknown.ensures.err
+
+pub returns-in-Err-Memory : goal.returns-in-Err-Memory
+returns-in-Err-Memory c = record { ok = tt; err = nothing_done (merge_telling c.args.session.now c.args.from.now) c.args.self.now c.args.self.now c.args.out.now.items refl }
 
 pub returns-in-Ok-Same : goal.returns-in-Ok-Same
 returns-in-Ok-Same c =
-    let old = c.args.self.now in
-    let core = c.self.inside.core in
     let session = c.args.session.now in
     let from = c.args.from.now in
     let out = c.args.out.now.items in
-    let out' = c.put_same.new.out.items in
     let seen = c.in-Some.seen.now in
-    let pair = c.in-Ok.pair in
-    let paired = c.in-Ok.ensures.paired in
-    let found : session_named c.self.inside.sessions.entries session ≡ Some seen = sym c.in-Some.ensures.value in
-    let there = subst (λ (v : EngineView). session_named v.sessions session ≡ Some seen) c.self.view_is found in
-    let merge = merge_of seen.branch seen.head pair.other in
-    let turns = pair-turn core seen from pair paired machine.Same (rw c.in-Ok-Same.field-0-is at c.in-Ok-Same.ensures.step) in
-    let is = subst (λ (v : EngineView). turn document v.core.limits v.core.history merge ≡ answers {A = DocAnswer} machine.Same) c.self.view_is turns in
-    let looks = subst (λ (v : EngineView). turn document v.core.limits v.core.history (machine.Look from) ≡ answers {A = DocAnswer} (machine.Sees paired.source pair.other)) c.self.view_is paired.other in
-    on_ok c.put_same.result (out' ≡ out ++ (same_text ++ line_end)) (Tells (λ limits p. step_told limits p (step.Merge session from)) old old out out') c.put_same.ensures
-    (λ text. merge_told_so old out session seen there old out' from paired.source pair.other looks (turn_stays old out out' session seen.branch merge machine.Same is refl text))
+    subst (λ (v : EngineView). Does (merge_telling session from) v v out c.put_same.new.out.items c.put_same.result) c.self.view_is
+    (unmoved (view_of c.self.inside.core c.self.inside.sessions.entries) out c.put_same.new.out.items session from seen c.in-Ok.pair c.in-Ok.ensures.paired c.put_same.result machine.Same same_text
+    (sym c.in-Some.ensures.value) (rw c.in-Ok-Same.field-0-is at c.in-Ok-Same.ensures.step) refl c.put_same.ensures.ok c.put_same.ensures.err refl)
 
 pub returns-in-Err-ManyBases : goal.returns-in-Err-ManyBases
 returns-in-Err-ManyBases c =
-    let old = c.args.self.now in
-    let core = c.self.inside.core in
     let session = c.args.session.now in
     let from = c.args.from.now in
     let out = c.args.out.now.items in
-    let out' = c.put_bases.new.out.items in
     let seen = c.in-Some.seen.now in
-    let pair = c.in-Ok.pair in
-    let paired = c.in-Ok.ensures.paired in
-    let refused = machine.Refused (machine.ManyBases c.in-Err-ManyBases.count) in
-    let found : session_named c.self.inside.sessions.entries session ≡ Some seen = sym c.in-Some.ensures.value in
-    let there = subst (λ (v : EngineView). session_named v.sessions session ≡ Some seen) c.self.view_is found in
-    let merge = merge_of seen.branch seen.head pair.other in
-    let turns = pair-turn core seen from pair paired refused (rw c.in-Err-ManyBases.field-0-is at c.in-Err-ManyBases.ensures.refused) in
-    let is = subst (λ (v : EngineView). turn document v.core.limits v.core.history merge ≡ answers {A = DocAnswer} refused) c.self.view_is turns in
-    let looks = subst (λ (v : EngineView). turn document v.core.limits v.core.history (machine.Look from) ≡ answers {A = DocAnswer} (machine.Sees paired.source pair.other)) c.self.view_is paired.other in
-    on_ok c.put_bases.result (out' ≡ out ++ (refusal_text [] (machine.ManyBases c.in-Err-ManyBases.count) ++ line_end)) (Tells (λ limits p. step_told limits p (step.Merge session from)) old old out out') c.put_bases.ensures
-    (λ text. merge_told_so old out session seen there old out' from paired.source pair.other looks (turn_stays old out out' session seen.branch merge refused is refl text))
+    let refusal = machine.ManyBases c.in-Err-ManyBases.count in
+    subst (λ (v : EngineView). Does (merge_telling session from) v v out c.put_bases.new.out.items c.put_bases.result) c.self.view_is
+    (unmoved (view_of c.self.inside.core c.self.inside.sessions.entries) out c.put_bases.new.out.items session from seen c.in-Ok.pair c.in-Ok.ensures.paired c.put_bases.result (machine.Refused refusal) (refusal_text [] refusal)
+    (sym c.in-Some.ensures.value) (rw c.in-Err-ManyBases.field-0-is at c.in-Err-ManyBases.ensures.refused) refl c.put_bases.ensures.ok c.put_bases.ensures.err refl)
 
 pub returns-in-Err-ValueTooLarge : goal.returns-in-Err-ValueTooLarge
 returns-in-Err-ValueTooLarge c =
-    let old = c.args.self.now in
-    let core = c.self.inside.core in
     let session = c.args.session.now in
     let from = c.args.from.now in
     let out = c.args.out.now.items in
-    let out' = c.put_too_large.new.out.items in
     let seen = c.in-Some.seen.now in
-    let pair = c.in-Ok.pair in
-    let paired = c.in-Ok.ensures.paired in
-    let refused = machine.Refused (machine.ValueTooLarge c.in-Err-ValueTooLarge.length) in
-    let found : session_named c.self.inside.sessions.entries session ≡ Some seen = sym c.in-Some.ensures.value in
-    let there = subst (λ (v : EngineView). session_named v.sessions session ≡ Some seen) c.self.view_is found in
-    let merge = merge_of seen.branch seen.head pair.other in
-    let turns = pair-turn core seen from pair paired refused (rw c.in-Err-ValueTooLarge.field-0-is at c.in-Err-ValueTooLarge.ensures.refused) in
-    let is = subst (λ (v : EngineView). turn document v.core.limits v.core.history merge ≡ answers {A = DocAnswer} refused) c.self.view_is turns in
-    let looks = subst (λ (v : EngineView). turn document v.core.limits v.core.history (machine.Look from) ≡ answers {A = DocAnswer} (machine.Sees paired.source pair.other)) c.self.view_is paired.other in
-    on_ok c.put_too_large.result (out' ≡ out ++ (refusal_text [] (machine.ValueTooLarge c.in-Err-ValueTooLarge.length) ++ line_end)) (Tells (λ limits p. step_told limits p (step.Merge session from)) old old out out') c.put_too_large.ensures
-    (λ text. merge_told_so old out session seen there old out' from paired.source pair.other looks (turn_stays old out out' session seen.branch merge refused is refl text))
+    let refusal = machine.ValueTooLarge c.in-Err-ValueTooLarge.length in
+    subst (λ (v : EngineView). Does (merge_telling session from) v v out c.put_too_large.new.out.items c.put_too_large.result) c.self.view_is
+    (unmoved (view_of c.self.inside.core c.self.inside.sessions.entries) out c.put_too_large.new.out.items session from seen c.in-Ok.pair c.in-Ok.ensures.paired c.put_too_large.result (machine.Refused refusal) (refusal_text [] refusal)
+    (sym c.in-Some.ensures.value) (rw c.in-Err-ValueTooLarge.field-0-is at c.in-Err-ValueTooLarge.ensures.refused) refl c.put_too_large.ensures.ok c.put_too_large.ensures.err refl)
 
 pub move_on-requires-clause-history : goal.move_on-requires-clause-history
 move_on-requires-clause-history c =
@@ -149,17 +139,17 @@ returns-in-Ok-Land c =
     let out = c.args.out.now.items in
     let out' = c.move_on.new.out.items in
     let new = c.move_on.new.self in
+    let result = c.move_on.result in
     let seen = c.in-Some.seen.now in
     let pair = c.in-Ok.pair in
     let paired = c.in-Ok.ensures.paired in
     let made = c.in-Ok-Land.prepared in
-    let branch = c.branch-branch.result in
     let found : session_named c.self.inside.sessions.entries session ≡ Some seen = sym c.in-Some.ensures.value in
     let there = subst (λ (v : EngineView). session_named v.sessions session ≡ Some seen) c.self.view_is found in
     let does = rw c.in-Ok-Land.field-0-is at c.in-Ok-Land.ensures.step in
     let work = pair-work core seen from pair paired made does.0 does.1 in
-    let looks = subst (λ (v : EngineView). turn document v.core.limits v.core.history (machine.Look from) ≡ answers {A = DocAnswer} (machine.Sees paired.source pair.other)) c.self.view_is paired.other in
-    on_ok c.move_on.result (Tells (λ limits p. turn_told limits p session branch (step_of {Q = DocQuery} made.seen made.work)) old new out out') (Tells (λ limits p. step_told limits p (step.Merge session from)) old new out out') c.move_on.ensures
-    (λ tells. merge_told_so old out session seen there new out' from paired.source pair.other looks
-    (subst (λ b. Tells (λ limits p. turn_told limits p session b (merge_of seen.branch seen.head pair.other)) old new out out') c.branch-branch.ensures.branch
-    (subst (λ s. Tells (λ limits p. turn_told limits p session branch s) old new out out') work tells)))
+    let looks = subst (λ (v : EngineView). LooksAt v from paired.source pair.other) c.self.view_is paired.other in
+    let step = merge_of seen.branch seen.head pair.other in
+    does_as (merge_telling session from) (turn_telling session seen.branch step) old new out out' result (merge_as old session seen there from paired.source pair.other looks)
+    (subst (λ b. Does (turn_telling session b step) old new out out' result) c.branch-branch.ensures.branch
+    (subst (λ s. Does (turn_telling session c.branch-branch.result s) old new out out' result) work c.move_on.ensures))

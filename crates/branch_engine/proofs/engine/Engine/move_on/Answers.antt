@@ -1,18 +1,19 @@
 use Rattle.std.proofs.Common.{◌≡◌, ◌++◌, ◌∷◌, [], ◌∙◌, sym, ap, subst, refl, List, ℕ, ◌<◌, length, Some}
+use Rattle.std.specs.Prelude.{Result, OnOk, OnErr}
 use mathlib.Core.List.{IsPrefix}
+use Rattle.mrdt_model.specs.declared.errors.Memory.{Memory}
+use Rattle.mrdt_model.specs.Spelled.{AppendsPart}
 use Rattle.branch_names.specs.Heads.{name_of, head_of}
 use Rattle.branch_history.specs.History.{store_of}
 use Rattle.branch_history.specs.Steps as machine
-use Rattle.branch_history.specs.Machine.{turn, answers}
 use Rattle.store_core.specs.Turns.{step_of, move_of}
 use Rattle.branch_print.specs.Texts.{refusal_text, line_end}
-use Rattle.branch_doc.specs.Document.{document}
-use Rattle.branch_doc.specs.Forms.{DocQuery, DocAnswer}
-use Rattle.branch_engine.specs.Play.{turn_told}
-use Rattle.branch_engine.specs.Engines.{EngineView, Core, Seen, AreLooksAt, Tells, SeesHead}
-use Rattle.branch_engine.proofs.Played.{on_ok, branch-stays, looks-grow}
+use Rattle.branch_doc.specs.Forms.{DocOp, DocQuery}
+use Rattle.branch_engine.specs.Engines.{EngineView, Core, Seen, AreLooksAt, Does, SeesHead, KeepsLooks, kind_text}
+use Rattle.branch_engine.proofs.Played.{branch-stays, looks-grow}
 use Rattle.branch_engine.proofs.Landings.{sight_at, lands-sees}
-use Rattle.branch_engine.proofs.Replies.{turn_stays, landed}
+use Rattle.branch_engine.proofs.Does.{nothing_done, part_written, stays_so, sees_so, broke_off}
+use Rattle.branch_engine.proofs.Replies.{turn_telling, Refuses, turn_stays, landed, landed_half}
 use Rattle.branch_engine.proofs.engine.Engine.move_on.Goals as goal
 
 abbrev view_of : Core → List (List ℕ × Seen) → EngineView
@@ -59,9 +60,38 @@ stale-requires c =
     let here = subst (λ (v : EngineView). branch < length (store_of v.core.history).branches) (sym c.self.view_is) c.requires.within in
     subst (λ (k : Core). branch < length (store_of k.history).branches) (sym c.in-Err-Stale.ensures.kept) here
 
+-- a landing that is refused, of an engine whose view this is
+refused : (old : EngineView) (core new_core : Core) (sessions : List (List ℕ × Seen)) (out out' session : List ℕ) (branch : ℕ) (step : machine.Step DocOp DocQuery) (r : Result (Unit {0}) Memory) (refusal : machine.Refusal) (words : List ℕ)
+    → view_of core sessions ≡ old → new_core ≡ core → Refuses (view_of core sessions) step refusal
+    → OnOk r (out' ≡ out ++ (words ++ line_end)) → OnErr r (AppendsPart out out' (words ++ line_end))
+    → words ≡ refusal_text (name_of (store_of core.history).branches branch) refusal
+    → Does (turn_telling session branch step) old (view_of new_core sessions) out out' r
+refused old core new_core sessions out out' session branch step r refusal words view kept is ok err text =
+    subst (λ v. Does (turn_telling session branch step) v (view_of new_core sessions) out out' r) view
+    (stays_so (turn_telling session branch step) (view_of core sessions) (view_of new_core sessions) out out' (refusal_text (name_of (store_of core.history).branches branch) refusal ++ line_end) r (ap (λ k. view_of k sessions) kept)
+    (turn_stays (view_of core sessions) session branch step (machine.Refused refusal) is refl)
+    (subst (λ t. OnOk r (out' ≡ out ++ (t ++ line_end))) text ok) (subst (λ t. OnErr r (AppendsPart out out' (t ++ line_end))) text err))
+
+pub returns-in_err-put_kind-in-Ok : goal.returns-in_err-put_kind-in-Ok
+returns-in_err-put_kind-in-Ok c =
+    let core = c.self.inside.core in
+    let sessions = c.self.inside.sessions.entries in
+    let session = c.args.session.now in
+    let branch = c.args.branch in
+    let made = c.args.prepared in
+    let step = step_of {Q = DocQuery} made.seen made.work in
+    let out = c.args.out.now.items in
+    let out' = c.put_kind.new.out.items in
+    let k = c.land.new.self in
+    let kind = c.in-Ok.landed.kind in
+    let breaks = part_written (turn_telling session branch step) (view_of core sessions) (view_of k sessions) out out' (kind_text kind ++ line_end)
+    (landed_half (view_of core sessions) session branch step k (move_of made.seen.branch made.work) kind c.in-Ok.landed.moves c.in-Ok.ensures.landed (view_of k sessions) refl (λ name. refl))
+    c.in_err-put_kind-in-Ok.ensures.err in
+    subst (λ v. Does (turn_telling session branch step) v (view_of k sessions) out out' c.from_residual.result) c.self.view_is
+    (broke_off (turn_telling session branch step) (view_of core sessions) (view_of k sessions) out out' c.from_residual.result c.from_residual.ensures.0 breaks)
+
 pub returns-in_ok-put_kind-in-Ok : goal.returns-in_ok-put_kind-in-Ok
 returns-in_ok-put_kind-in-Ok c =
-    let old = c.args.self.now in
     let core = c.self.inside.core in
     let sessions = c.self.inside.sessions.entries in
     let session = c.args.session.now in
@@ -78,64 +108,46 @@ returns-in_ok-put_kind-in-Ok c =
     let here = subst (λ (v : EngineView). branch < length (store_of v.core.history).branches) (sym c.self.view_is) c.requires.within in
     let there = subst (λ b. b < length (store_of core.history).branches) (sym c.requires.branch) here in
     let sees = lands-sees core k made.seen made.work kind moves there m in
-    on_ok c.sees_head.result (SeesHead (view_of k sessions) new session branch) (Tells (λ limits p. turn_told limits p session branch step) old new out out') c.sees_head.ensures.sees
-    (λ s. subst (λ v. Tells (λ limits p. turn_told limits p session branch step) v new out out') c.self.view_is
-    (subst (λ b. Tells (λ limits p. turn_told limits p session b step) (view_of core sessions) new out out') c.requires.branch
-    (landed (view_of core sessions) out new k out' session made.seen.branch step (move_of made.seen.branch made.work) kind moves s.0 m
+    let made_move = move_of made.seen.branch made.work in
+    subst (λ v. Does (turn_telling session branch step) v new out out' c.sees_head.result) c.self.view_is
+    (subst (λ b. Does (turn_telling session b step) (view_of core sessions) new out out' c.sees_head.result) c.requires.branch
+    (sees_so (turn_telling session made.seen.branch step) (view_of core sessions) new out out' (kind_text kind ++ line_end) c.sees_head.result
+    (SeesHead (view_of k sessions) new session branch) (KeepsLooks sessions new.sessions)
+    (λ s. landed (view_of core sessions) session made.seen.branch step k made_move kind moves m new s.0
     (sees ∙ ap (λ b. Some (sight_at b (head_of (store_of k.history).branches b))) c.requires.branch ∙ ap (λ h. Some (sight_at branch h)) (sym s.2.head_is) ∙ ap (λ b. Some (sight_at b s.0.head)) (sym s.2.branch_is))
-    c.sees_head.ensures.core s.1 c.in_ok-put_kind-in-Ok.ensures)))
+    c.sees_head.ensures.core s.1)
+    (landed_half (view_of core sessions) session made.seen.branch step k made_move kind moves m new c.sees_head.ensures.core)
+    c.sees_head.ensures.sees c.sees_head.ensures.kept c.in_ok-put_kind-in-Ok.ensures.ok))
 
 pub returns-in-Err-Stale : goal.returns-in-Err-Stale
 returns-in-Err-Stale c =
-    let old = c.args.self.now in
     let core = c.self.inside.core in
-    let sessions = c.self.inside.sessions.entries in
-    let session = c.args.session.now in
     let branch = c.args.branch in
     let made = c.args.prepared in
-    let step = step_of {Q = DocQuery} made.seen made.work in
-    let out = c.args.out.now.items in
-    let out' = c.stale.new.out.items in
     let refusal = machine.Stale c.in-Err-Stale.newest in
-    let refused = (rw c.in-Err-Stale.field-0-is at c.in-Err-Stale.ensures.refused).0 in
-    let same : view_of c.land.new.self sessions ≡ old = ap (λ k. view_of k sessions) c.in-Err-Stale.ensures.kept ∙ c.self.view_is in
-    let is = subst (λ (v : EngineView). turn document v.core.limits v.core.history step ≡ answers {A = DocAnswer} (machine.Refused refusal)) c.self.view_is refused in
-    on_ok c.stale.result (out' ≡ out ++ (refusal_text (name_of (store_of c.land.new.self.history).branches branch) refusal ++ line_end)) (Tells (λ limits p. turn_told limits p session branch step) old (view_of c.land.new.self sessions) out out') c.stale.ensures
-    (λ text. subst (λ v. Tells (λ limits p. turn_told limits p session branch step) old v out out') (sym same)
-    (turn_stays old out out' session branch step (machine.Refused refusal) is refl (text ∙ ap (λ (v : EngineView). out ++ (refusal_text (name_of (store_of v.core.history).branches branch) refusal ++ line_end)) same)))
+    let name = λ (k : Core). refusal_text (name_of (store_of k.history).branches branch) refusal in
+    refused c.args.self.now core c.land.new.self c.self.inside.sessions.entries c.args.out.now.items c.stale.new.out.items c.args.session.now branch (step_of {Q = DocQuery} made.seen made.work) c.stale.result refusal (name c.land.new.self)
+    c.self.view_is c.in-Err-Stale.ensures.kept (rw c.in-Err-Stale.field-0-is at c.in-Err-Stale.ensures.refused).0 c.stale.ensures.ok c.stale.ensures.err (ap name c.in-Err-Stale.ensures.kept)
 
 pub returns-in-Err-FullCommits : goal.returns-in-Err-FullCommits
 returns-in-Err-FullCommits c =
-    let old = c.args.self.now in
-    let sessions = c.self.inside.sessions.entries in
-    let session = c.args.session.now in
-    let branch = c.args.branch in
     let made = c.args.prepared in
-    let step = step_of {Q = DocQuery} made.seen made.work in
-    let out = c.args.out.now.items in
-    let out' = c.put_full_commits.new.out.items in
     let refusal = machine.FullCommits c.in-Err-FullCommits.count in
-    let refused = rw c.in-Err-FullCommits.field-0-is at c.in-Err-FullCommits.ensures.refused in
-    let same : view_of c.land.new.self sessions ≡ old = ap (λ k. view_of k sessions) c.in-Err-FullCommits.ensures.kept ∙ c.self.view_is in
-    let is = subst (λ (v : EngineView). turn document v.core.limits v.core.history step ≡ answers {A = DocAnswer} (machine.Refused refusal)) c.self.view_is refused in
-    on_ok c.put_full_commits.result (out' ≡ out ++ (refusal_text [] refusal ++ line_end)) (Tells (λ limits p. turn_told limits p session branch step) old (view_of c.land.new.self sessions) out out') c.put_full_commits.ensures
-    (λ text. subst (λ v. Tells (λ limits p. turn_told limits p session branch step) old v out out') (sym same)
-    (turn_stays old out out' session branch step (machine.Refused refusal) is refl text))
+    refused c.args.self.now c.self.inside.core c.land.new.self c.self.inside.sessions.entries c.args.out.now.items c.put_full_commits.new.out.items c.args.session.now c.args.branch (step_of {Q = DocQuery} made.seen made.work) c.put_full_commits.result refusal (refusal_text [] refusal)
+    c.self.view_is c.in-Err-FullCommits.ensures.kept (rw c.in-Err-FullCommits.field-0-is at c.in-Err-FullCommits.ensures.refused) c.put_full_commits.ensures.ok c.put_full_commits.ensures.err refl
 
 pub returns-in-Err-FullMoves : goal.returns-in-Err-FullMoves
 returns-in-Err-FullMoves c =
-    let old = c.args.self.now in
-    let sessions = c.self.inside.sessions.entries in
-    let session = c.args.session.now in
-    let branch = c.args.branch in
     let made = c.args.prepared in
-    let step = step_of {Q = DocQuery} made.seen made.work in
-    let out = c.args.out.now.items in
-    let out' = c.put_full_moves.new.out.items in
     let refusal = machine.FullMoves c.in-Err-FullMoves.count in
-    let refused = rw c.in-Err-FullMoves.field-0-is at c.in-Err-FullMoves.ensures.refused in
-    let same : view_of c.land.new.self sessions ≡ old = ap (λ k. view_of k sessions) c.in-Err-FullMoves.ensures.kept ∙ c.self.view_is in
-    let is = subst (λ (v : EngineView). turn document v.core.limits v.core.history step ≡ answers {A = DocAnswer} (machine.Refused refusal)) c.self.view_is refused in
-    on_ok c.put_full_moves.result (out' ≡ out ++ (refusal_text [] refusal ++ line_end)) (Tells (λ limits p. turn_told limits p session branch step) old (view_of c.land.new.self sessions) out out') c.put_full_moves.ensures
-    (λ text. subst (λ v. Tells (λ limits p. turn_told limits p session branch step) old v out out') (sym same)
-    (turn_stays old out out' session branch step (machine.Refused refusal) is refl text))
+    refused c.args.self.now c.self.inside.core c.land.new.self c.self.inside.sessions.entries c.args.out.now.items c.put_full_moves.new.out.items c.args.session.now c.args.branch (step_of {Q = DocQuery} made.seen made.work) c.put_full_moves.result refusal (refusal_text [] refusal)
+    c.self.view_is c.in-Err-FullMoves.ensures.kept (rw c.in-Err-FullMoves.field-0-is at c.in-Err-FullMoves.ensures.refused) c.put_full_moves.ensures.ok c.put_full_moves.ensures.err refl
+
+pub returns-in-Err-Memory : goal.returns-in-Err-Memory
+returns-in-Err-Memory c =
+    let made = c.args.prepared in
+    record {
+      ok = tt;
+      err = nothing_done (turn_telling c.args.session.now c.args.branch (step_of {Q = DocQuery} made.seen made.work)) c.args.self.now (view_of c.land.new.self c.self.inside.sessions.entries) c.args.out.now.items
+          (ap (λ k. view_of k c.self.inside.sessions.entries) c.in-Err-Memory.ensures.kept ∙ c.self.view_is);
+    }

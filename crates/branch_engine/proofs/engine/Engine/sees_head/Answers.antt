@@ -1,11 +1,17 @@
 use Rattle.std.proofs.Common.{◌≡◌, ◌∙◌, sym, subst, Some}
+use Rattle.std.specs.Prelude.{Result, Ok, Err, OnOk}
 use Rattle.branch_names.specs.Heads.{branch_named, head_of}
 use Rattle.branch_history.specs.History.{store_of}
 use Rattle.branch_history.proofs.Turns.{look-sees}
 use Rattle.branch_doc.specs.Document.{document}
 use Rattle.branch_engine.specs.Engines.{EngineView, Puts, IsLookAt, SeesHead}
-use Rattle.branch_engine.proofs.Played.{same-look, never-refused, on_ok}
+use Rattle.branch_engine.proofs.Played.{same-look, never-refused}
 use Rattle.branch_engine.proofs.engine.Engine.sees_head.Goals as goal
+
+-- what follows where a call succeeded
+on_ok : {E : Type 0} (r : Result (Unit {0}) E) (P Q : Type 0) → OnOk r P → (P → Q) → OnOk r Q
+on_ok (Ok done) P Q p f = f p
+on_ok (Err error) P Q p f = p
 
 pub unreachable-requires : goal.unreachable-requires
 unreachable-requires c =

@@ -33,7 +33,7 @@ add_branch-requires-clause-moves g c κs within =
     let laws = (g.met.T.Mrdt g.world.𝓛 g.world.𝓜 g.world.𝓡 ((λ s x. x), (λ x. x), (λ x. x), λ x. x)).laws in
     let counted : c.len-moves.result ≡ length c.self.inside.moves.items = omega arith in
     rw (← c.self.view_is)
-    (fork-is_move g.T.Mrdt.meaning laws c.self.inside.limits c.self.inside.moves.items c.self.inside.heads c.self.inside.graph c.self.inside.nodes.items c.self.invariant c.args.new c.args.from.now c.in-Some.source c.in-Some.ensures.number c.in_default-find.ensures.number c.count-count.result c.count-count.ensures.count c.if-count-self.false c.len-moves.result counted c.if-moves-self.false c.known.ensures)
+    (fork-is_move g.T.Mrdt.meaning laws c.self.inside.limits c.self.inside.moves.items c.self.inside.heads c.self.inside.graph c.self.inside.nodes.items c.self.invariant c.args.new c.args.from.now c.in-Some.source c.in-Some.ensures.number c.in_default-find.ensures.number c.count-count.result c.count-count.ensures.count c.if-count-self.false c.len-moves.result counted c.if-moves-self.false c.in_default-find.ensures.name)
 
 pub returns-clause-forked : goal.returns-clause-forked
 returns-clause-forked g c =
