@@ -1,5 +1,3 @@
-pub mod Cut
-pub mod Joined
 pub mod Maximal
 pub mod Members
 pub mod Painted

@@ -1,5 +1,5 @@
 -- Graphs of commits. A graph is the list of the parents of each commit, by its number.
-use Rattle.std.specs.Prelude.{ℕ, zero, suc, ◌^◌, ◌<◌, ◌≤◌, Bool, ◌&&◌, ◌||◌, ◌==◌, not, List, [], ◌∷◌, length, filter, reverse, slice_get}
+use Rattle.std.specs.Prelude.{◌≡◌, ◌⊎◌, ℕ, zero, suc, ◌^◌, ◌<◌, ◌≤◌, Bool, ◌&&◌, ◌||◌, ◌==◌, not, List, [], ◌∷◌, length, filter, reverse, slice_get}
 use Rattle.std.specs.Option.{option_map_or}
 use Rattle.std.specs.List.{list_any, AllByRecursion}
 
@@ -10,6 +10,10 @@ pub record Ancestry : Type 0 where
 
 abbrev pub parents_of : List (List ℕ) → ℕ → List ℕ
 parents_of graph n = option_map_or (λ parents. parents) (slice_get graph n) []
+
+-- the commit has these two parents, in one order or the other
+abbrev pub HasParents : List (List ℕ) → ℕ → ℕ → ℕ → Type 0
+HasParents graph n p q = (parents_of graph n ≡ p ∷ q ∷ []) ⊎ (parents_of graph n ≡ q ∷ p ∷ [])
 
 -- parents have smaller numbers
 abbrev pub IsRanked : List (List ℕ) → Type 0

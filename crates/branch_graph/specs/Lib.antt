@@ -1,5 +1,4 @@
-pub mod Chunks
 pub mod Graph
 pub mod Laws
 pub mod Paints
-pub mod Pieces
+pub mod Pairs

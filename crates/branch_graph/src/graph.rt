@@ -1,11 +1,12 @@
 // The parents of each commit.
-ghost use Rattle.std.specs.Prelude.{◌≡◌, ℕ, ◌+◌, ◌-◌, ◌/◌, ◌^◌, ◌<◌, ◌≤◌, ◌↔◌, [], ◌∷◌, ◌++◌, All, Some, length, take, IfOk, OnOk, OnErr, IsErrOf};
-ghost use Rattle.branch_graph.specs.Graph.{parents_of, reaches, maximal_common, IsRanked};
+ghost use Rattle.std.specs.Prelude.{◌≡◌, ℕ, ◌+◌, ◌-◌, ◌/◌, ◌^◌, ◌<◌, ◌≤◌, ◌↔◌, [], ◌∷◌, ◌++◌, All, Some, length, take, IfOk, IfSome, IfNone, OnOk, OnErr, IsErrOf};
+ghost use Rattle.branch_graph.specs.Graph.{parents_of, HasParents, reaches, maximal_common, IsRanked};
 
-use crate::chunks::Chunks;
+use crate::parents::Parents;
 use crate::walk;
 use counted_steps::Steps;
 use mrdt_model::{Listing, Memory};
+use shared_chunks::Chunks;
 use std::alloc::Global;
 use std::marker::{Brand, Model};
 use std::sync::ledger::{Blank, Ledger};
@@ -35,11 +36,11 @@ impl From<Memory> for PushRefused {
 
 /// The commits of a store by number, each with its parents, which have smaller numbers. Contracts see an
 /// `Ancestry`: the limit and the list of the commits' lists of parents. They are kept in chunks of 1,024 commits,
-/// and graphs share each full one.
+/// and graphs share each full one. Each chunk knows its commits by their two parents.
 #[derive(Drop)]
 pub struct Graph {
     limit: u32,
-    commits: Chunks,
+    commits: Chunks<Parents>,
 }
 
 impl Model for Graph {
@@ -79,7 +80,21 @@ impl Graph {
         ensures parents { result.now ≡ parents_of self.now.commits number }
         ensures smaller { All (λ parent. parent < number) result.now }
     {
-        self.commits.get(number as usize)
+        self.commits.get(number as usize).as_slice()
+    }
+
+    /// A commit that has these two parents, in one order or the other, if there is one.
+    pub fn merge_of(&self, one: u32, other: u32) -> Option<u32>
+        ensures there { IfSome result (λ n. n < length self.now.commits) }
+        ensures has { IfSome result (λ n. HasParents self.now.commits n one other) }
+        ensures none { IfNone result ((n : ℕ) → ¬ HasParents self.now.commits n one other) }
+    {
+        let pair = (one.min(other), one.max(other));
+        // parents have smaller numbers
+        match self.commits.find(pair, pair.1 as usize) {
+            Some(number) => Some(number as u32),
+            None => None,
+        }
     }
 
     /// Puts a commit with these parents behind the others, and says its number. `Full` comes exactly where the
@@ -96,6 +111,7 @@ impl Graph {
         if count >= self.limit {
             return Err(PushRefused::Full { count });
         }
+        let parents = Parents::from_slice(self.commits.alloc(), parents)?;
         self.commits.push(parents)?;
         Ok(count)
     }
@@ -126,6 +142,7 @@ impl Graph {
         if self.limit <= count {
             return Err(PushRefused::Full { count });
         }
+        let parents = Parents::from_slice(self.commits.alloc(), parents)?;
         let commits = self.commits.with(parents, steps)?;
         Ok(Graph {
             limit: self.limit,

@@ -2,10 +2,9 @@
 //! commits.
 #![tactic(auto)]
 
-mod chunk;
-mod chunks;
 pub mod graph;
 pub mod laws;
+mod parents;
 #[cfg(test)]
 mod tests;
 mod waiting;

@@ -131,6 +131,46 @@ fn criss_cross_merges_have_two_bases(rt: HostRuntime) -> Result<(), Fail> {
 }
 
 #[test]
+fn merges_are_found_by_their_two_parents(rt: HostRuntime) -> Result<(), Fail> {
+    let graph = criss_cross(&rt, rt.alloc());
+    for (one, other) in [(1, 2), (2, 1)] {
+        let merge = graph.merge_of(one, other);
+        assert!(rt; merge == Some(3) || merge == Some(4));
+    }
+    for (one, other) in [(0, 1), (3, 4), (0, 0), (7, 1)] {
+        assert!(rt; graph.merge_of(one, other) == None);
+    }
+    Ok(())
+}
+
+#[test]
+fn merges_are_found_in_later_chunks(rt: HostRuntime) -> Result<(), Fail> {
+    let mut graph = ladder(&rt, rt.alloc(), 1000);
+    let merge = graph.merge_of(1023, 1022);
+    assert!(rt; merge == Some(1024) || merge == Some(1025));
+    assert!(rt; graph.merge_of(3, 1500) == None);
+    let number = pushed(&rt, &mut graph, &[1500, 3]);
+    assert!(rt; number == 2002 && graph.merge_of(3, 1500) == Some(number));
+    assert!(rt; 0 < graph.count());
+    graph.pop();
+    assert!(rt; graph.merge_of(3, 1500) == None);
+    Ok(())
+}
+
+#[test]
+fn a_commit_may_have_more_than_two_parents(rt: HostRuntime) -> Result<(), Fail> {
+    let mut graph = ladder(&rt, rt.alloc(), 1000);
+    let number = pushed(&rt, &mut graph, &[3, 1500, 7]);
+    let kept = graph.copy()?;
+    let _number = pushed(&rt, &mut graph, &[number]);
+    assert!(rt; number < graph.count() && number < kept.count());
+    assert!(rt; graph.parents(number) == [3, 1500, 7].as_slice());
+    assert!(rt; kept.parents(number) == [3, 1500, 7].as_slice());
+    assert!(rt; graph.merge_of(3, 1500) == None);
+    Ok(())
+}
+
+#[test]
 fn a_copy_has_the_same_parents_and_limit(rt: HostRuntime) -> Result<(), Fail> {
     let mut graph = criss_cross(&rt, rt.alloc()).copy()?;
     assert!(rt; graph.count() == 7);
