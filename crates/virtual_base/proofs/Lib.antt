@@ -1,0 +1,5 @@
+pub mod Kept
+pub mod Folded
+pub mod Waiting
+pub mod Grown
+pub mod Popped
