@@ -14,8 +14,8 @@ ghost use Rattle.branch_script.specs.declared.step.Step.TheVariants as step;
 use branch_doc::{DocReply, PlainOp, PlainQuery};
 use branch_names::{Limits, Name};
 use branch_print::refusals::{
-    put_bases, put_exhausted, put_full_branches, put_full_commits, put_full_moves,
-    put_line_refusal, put_stale, put_taken, put_too_large, put_unknown, put_unseen,
+    put_exhausted, put_full_branches, put_full_commits, put_full_moves, put_line_refusal,
+    put_stale, put_taken, put_too_large, put_unknown, put_unseen,
 };
 use branch_print::replies::{
     put_answer, put_forked, put_forward, put_landed, put_merged, put_same, put_sees,
@@ -192,8 +192,11 @@ impl Engine {
         };
         match pair.prepare() {
             Ok(PairStep::Same) => put_same(out),
-            Ok(PairStep::Land(prepared)) => self.move_on(out, session, branch, prepared),
-            Err(PairPrepareRefused::ManyBases { count }) => put_bases(out, count),
+            Ok(PairStep::Land(prepared)) => {
+                // The core lands in place where no pair shares its nodes.
+                drop(pair);
+                self.move_on(out, session, branch, prepared)
+            }
             Err(PairPrepareRefused::ValueTooLarge { length }) => put_too_large(out, length),
             Err(PairPrepareRefused::Memory) => Err(Memory),
         }

@@ -2,6 +2,7 @@
 use Rattle.std.specs.Prelude.{ℕ, Option, None, Some, List, [], ◌∷◌, ◌++◌, codes, decimal, length, if◌then◌else◌}
 use Rattle.std.specs.Fmt.{signed_decimal}
 use Rattle.std.specs.List.{flat_map}
+use Rattle.hex.specs.Hex.{encode_lower}
 use Rattle.mrdt_model.specs.declared.time.Time.{Time}
 use Rattle.live_set.specs.declared.kept.Kept.{Kept}
 use Rattle.branch_doc.specs.declared.plain.PlainReply.{PlainReply}
@@ -11,7 +12,7 @@ use Rattle.branch_doc.specs.declared.plain.PlainAnswer.TheVariants.{CounterValue
 use Rattle.branch_doc.specs.Forms.{DocReply, DocAnswer, plain_reply, plain_answer}
 use Rattle.branch_script.specs.declared.step.LineRefused.{LineRefused}
 use Rattle.branch_script.specs.declared.step.LineRefused.TheVariants.{Syntax, BadName, BadNumber, Memory}
-use Rattle.branch_history.specs.Steps.{Refusal, UnknownBranch, NameTaken, Stale, Exhausted, FullCommits, FullBranches, FullMoves, ValueTooLarge, ManyBases, Outcome, Sees, Forked, Landed, Merged, Forwarded, Same, Answered, Refused}
+use Rattle.branch_history.specs.Steps.{Refusal, UnknownBranch, NameTaken, Stale, Exhausted, FullCommits, FullBranches, FullMoves, ValueTooLarge, Collision, Outcome, Sees, Forked, Landed, Merged, Forwarded, Same, Answered, Refused}
 
 -- each reply is a line, ended by byte 10
 abbrev pub line_end : List ℕ
@@ -73,7 +74,7 @@ refusal_text branch (FullCommits count) = codes "error full commits " ++ decimal
 refusal_text branch (FullBranches count) = codes "error full branches " ++ decimal count
 refusal_text branch (FullMoves count) = codes "error full moves " ++ decimal count
 refusal_text branch (ValueTooLarge size) = codes "error too large " ++ decimal size
-refusal_text branch (ManyBases count) = codes "error bases " ++ decimal count
+refusal_text branch (Collision address stored fresh) = codes "error collision " ++ encode_lower address
 
 abbrev pub sees_text : List ℕ → List ℕ → ℕ → List ℕ
 sees_text session branch head = session ++ codes " sees " ++ branch ++ codes " at #" ++ decimal head

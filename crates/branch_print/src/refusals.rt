@@ -1,8 +1,9 @@
 // The replies to lines that are no step, and to steps that were refused. After `Memory` a first part of the
 // text has been written.
 ghost use Rattle.std.specs.Prelude.{◌≡◌, ◌++◌, [], OnOk, OnErr};
+ghost use Rattle.hex.specs.Hex.{encode_lower};
 ghost use Rattle.mrdt_model.specs.Spelled.{AppendsPart};
-ghost use Rattle.branch_history.specs.Steps.{UnknownBranch, Stale, NameTaken, Exhausted, FullCommits, FullBranches, FullMoves, ValueTooLarge, ManyBases};
+ghost use Rattle.branch_history.specs.Steps.{UnknownBranch, Stale, NameTaken, Exhausted, FullCommits, FullBranches, FullMoves, ValueTooLarge, Collision};
 ghost use Rattle.branch_print.specs.Texts.{refusal_text, line_refusal_text, unseen_text, line_end};
 
 use crate::pieces::{put_count, put_pieces};
@@ -114,10 +115,23 @@ pub fn put_too_large(out: &mut Vec<u8>, length: u64) -> Result<(), Memory>
     put_count(out, b"error too large ", length)
 }
 
-/// The two commits to be merged have too many maximal common ancestors: `error bases 2`.
-pub fn put_bases(out: &mut Vec<u8>, count: u64) -> Result<(), Memory>
-    ensures ok { OnOk result (out.new.items ≡ out.old.items ++ (refusal_text [] (ManyBases count) ++ line_end)) }
-    ensures err { OnErr result (AppendsPart out.old.items out.new.items (refusal_text [] (ManyBases count) ++ line_end)) }
+// The address in hexadecimal digits.
+fn hex_digits(address: &[u8; 32]) -> [u8; 64]
+    ensures { result ≡ encode_lower address.now }
 {
-    put_count(out, b"error bases ", count)
+    let mut digits = [0; 64];
+    match hex::encode_to_slice(address.as_slice(), &mut digits) {
+        Ok(()) => digits,
+        Err(_) => unreachable!(),
+    }
+}
+
+/// The store has other bytes at the address of a new object: `error collision ` and the address in 64 lower-case
+/// hexadecimal digits.
+pub fn put_collision(out: &mut Vec<u8>, address: &[u8; 32]) -> Result<(), Memory>
+    ensures ok { OnOk result (out.new.items ≡ out.old.items ++ (refusal_text [] (Collision address.now [] []) ++ line_end)) }
+    ensures err { OnErr result (AppendsPart out.old.items out.new.items (refusal_text [] (Collision address.now [] []) ++ line_end)) }
+{
+    let digits = hex_digits(address);
+    put_pieces(out, &[b"error collision ", digits.as_slice(), b"\n"])
 }

@@ -43,8 +43,8 @@ fn scripts_and_their_replies(rt: HostRuntime) -> Result<(), Fail> {
             b"forked l as 1 at #0\nforked r as 2 at #0\na sees l at #0\nlanded #1 at 1.1\nb sees r at #0\nlanded #2 at 1.2\n3\nmerged #3\n-1\n-4\n",
         ),
         (
-            b"fork p main\nfork q main\nlook a p\nlook b q\ndo a counter c add 1\ndo b counter c add 10\nfork p1 p\nmerge a q\nmerge b p1\nask p counter c value\nask q counter c value\ndo a counter c add 100\ndo b counter c add 1000\nmerge a q\n",
-            b"forked p as 1 at #0\nforked q as 2 at #0\na sees p at #0\nb sees q at #0\nlanded #1 at 1.1\nlanded #2 at 1.2\nforked p1 as 3 at #1\nmerged #3\nmerged #4\n11\n11\nlanded #5 at 2.1\nlanded #6 at 2.2\nerror bases 2\n",
+            b"fork p main\nfork q main\nlook a p\nlook b q\ndo a counter c add 1\ndo b counter c add 10\nfork p1 p\nmerge a q\nmerge b p1\nask p counter c value\nask q counter c value\ndo a counter c add 100\ndo b counter c add 1000\nmerge a q\nask p counter c value\n",
+            b"forked p as 1 at #0\nforked q as 2 at #0\na sees p at #0\nb sees q at #0\nlanded #1 at 1.1\nlanded #2 at 1.2\nforked p1 as 3 at #1\nmerged #3\nmerged #4\n11\n11\nlanded #5 at 2.1\nlanded #6 at 2.2\nmerged #7\n1111\n",
         ),
         (
             b"fork r main\nlook a main\nmerge a r\nlook b r\ndo b counter c add 1\nmerge a r\ndo a counter c add 1\n",
@@ -107,6 +107,130 @@ fn every_kind_merges(rt: HostRuntime) -> Result<(), Fail> {
         ),
     ];
     all_done(&rt, rt.alloc(), &rows)
+}
+
+// Two branches p and q that an operation each lands on, and that merge each the other's; then an operation each, and
+// the two merge again. At last a query is asked.
+fn criss_cross(alloc: Global, ops: &[&[u8]; 4], query: &[u8]) -> Result<Vec<u8>, Fail> {
+    let mut lines = b"fork p main\nfork q main\nlook a p\nlook b q\ndo a ".to_vec(alloc)?;
+    for piece in [
+        ops[0],
+        b"\ndo b ",
+        ops[1],
+        b"\nfork p1 p\nmerge a q\nmerge b p1\ndo a ",
+        ops[2],
+        b"\ndo b ",
+        ops[3],
+        b"\nmerge a q\nask p ",
+        query,
+    ] {
+        lines.extend_from_slice(piece)?;
+    }
+    Ok(lines)
+}
+
+// The last merge sees all four operations. The third has seen the first two, and nothing of the fourth.
+#[test]
+fn every_kind_merges_criss_cross(rt: HostRuntime) -> Result<(), Fail> {
+    let rows: [([&[u8]; 4], &[u8], &[u8]); 7] = [
+        (
+            [
+                b"counter k add 1",
+                b"counter k add 10",
+                b"counter k add 100",
+                b"counter k add 1000",
+            ],
+            b"counter k value",
+            b"#5 at 2.1\nlanded #6 at 2.2\nmerged #7\n1111\n",
+        ),
+        (
+            [
+                b"flag k enable",
+                b"flag k enable",
+                b"flag k disable",
+                b"flag j enable",
+            ],
+            b"flag k on",
+            b"#5 at 2.1\nlanded #6 at 2.2\nmerged #7\noff\n",
+        ),
+        (
+            [
+                b"lww k set u",
+                b"lww k set v",
+                b"lww k set w",
+                b"lww k set x",
+            ],
+            b"lww k get",
+            b"#5 at 2.1\nlanded #6 at 2.2\nmerged #7\n[1] x\n",
+        ),
+        (
+            [
+                b"multi k set u",
+                b"multi k set v",
+                b"multi k set w",
+                b"multi j set x",
+            ],
+            b"multi k values",
+            b"#5 at 2.1\nlanded #6 at 2.2\nmerged #7\n[1] w\n",
+        ),
+        (
+            [
+                b"set k add x",
+                b"set k add x",
+                b"set k remove x",
+                b"set k add y",
+            ],
+            b"set k members",
+            b"#5 at 2.1\nlanded #6 at 2.2\nmerged #7\n[1] y\n",
+        ),
+        (
+            [
+                b"log k append u",
+                b"log k append v",
+                b"log k append w",
+                b"log k append x",
+            ],
+            b"log k read",
+            b"#5 at 2.1\nlanded #6 at 2.2\nmerged #7\n[4] 2.2 x 2.1 w 1.2 v 1.1 u\n",
+        ),
+        (
+            [
+                b"queue k enqueue x",
+                b"queue k enqueue y",
+                b"queue k dequeue",
+                b"queue k enqueue z",
+            ],
+            b"queue k items",
+            b"#5 at 2.1 took 1.1 x\nlanded #6 at 2.2\nmerged #7\n[2] 1.2 y 2.2 z\n",
+        ),
+    ];
+    for (ops, query, ends) in rows.iter() {
+        let (status, text) = played(rt.alloc(), &criss_cross(rt.alloc(), ops, query)?, &[], &[])?;
+        assert_eq!(rt; status, Status::Done);
+        assert!(rt; text.ends_with(ends));
+    }
+    Ok(())
+}
+
+// Rounds in which both branches add and merge each the other's addition, and then one more merge.
+fn many_rounds(alloc: Global, count: u32) -> Result<Vec<u8>, Fail> {
+    let mut lines = b"fork p main\nfork q main\nlook a p\nlook b q\n".to_vec(alloc)?;
+    for round in 1..=count {
+        let adds = b"do a counter c add 1\ndo b counter c add 1\n";
+        lines.extend_from_slice(adds)?;
+        let merges = format!(in alloc; "fork t{round} p\nmerge a q\nmerge b t{round}\n")?;
+        lines.extend_from_slice(merges.as_bytes())?;
+    }
+    lines.extend_from_slice(b"merge a q\nask p counter c value\n")?;
+    Ok(lines)
+}
+
+#[test]
+fn five_hundred_rounds(rt: HostRuntime) -> Result<(), Fail> {
+    let (status, text) = played(rt.alloc(), &many_rounds(rt.alloc(), 500)?, &[], &[])?;
+    assert_eq!(rt; status, Status::Done);
+    assert!(rt; text.ends_with(b"merged #1999\nmerged #2000\nmerged #2001\n1000\n"));
+    Ok(())
 }
 
 #[test]

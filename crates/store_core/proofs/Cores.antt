@@ -3,10 +3,9 @@ use Rattle.std.proofs.Common.{zero, suc, ◌≡◌, ℕ, ◌+◌, ◌<◌, ◌�
 use Rattle.std.proofs.lemmas.Option.{slice_get_within, slice_get-get_or}
 use mathlib.Core.List.{IsPrefix}
 use Rattle.std.specs.Option.{option_map_or}
-use Rattle.std.specs.Arc.{arc_value}
 use Rattle.mrdt_model.specs.Executions.{Event}
 use Rattle.mrdt_model.specs.Laws.{Meaning, KeepsLaws}
-use Rattle.branch_graph.specs.Graph.{Ancestry, reaches, maximal_common}
+use Rattle.branch_graph.specs.Graph.{Ancestry, reaches}
 use Rattle.branch_names.specs.declared.limits.Limits.{Limits}
 use Rattle.branch_names.specs.Names.{is_name}
 use Rattle.branch_names.specs.Heads.{Table, head_of, branch_named, with_head, with_branch, main_alone}
@@ -15,7 +14,7 @@ use Rattle.branch_history.specs.declared.moves.Move.TheVariants as move
 use Rattle.branch_history.specs.Commits.{Commit, graph_of, clock_of, visible}
 use Rattle.branch_history.specs.History.{Store, store_of, new_store}
 use Rattle.branch_history.specs.Laws.{IsWithin}
-use Rattle.branch_history.specs.Machine.{turn, answers, commit_refusal, forward_refusal, fork_refusal}
+use Rattle.branch_history.specs.Machine.{turn, answers, fork_refusal}
 use Rattle.branch_history.specs.Steps as machine
 use Rattle.branch_history.specs.Validity.{IsMove}
 use Rattle.branch_history.proofs.Grown.{length-graph, graph_of-append}
@@ -24,18 +23,23 @@ use Rattle.branch_history.proofs.Kept.{IsKept}
 use Rattle.branch_history.proofs.Later.{commits-longer, longer-same_at}
 use Rattle.branch_history.proofs.Lists.{Place, place, old, new, past, slice_get-append, slice_get-new}
 use Rattle.branch_history.proofs.Reach.{reaches-self}
-use Rattle.branch_history.proofs.Turns.{look-sees, look-unknown, fork-unknown, fork-taken, fork-refused, fork-full_branches, fork-full_moves, fork-none, fork-makes, IsMove-fork, commit-stale, commit-full_commits, commit-full_moves, commit-none, forward-stale, forward-full_moves, forward-none}
+use Rattle.branch_history.proofs.Turns.{look-sees, look-unknown, fork-unknown, fork-taken, fork-refused, fork-full_branches, fork-full_moves, fork-none, fork-makes, IsMove-fork}
 use Rattle.branch_history.proofs.Valid.{IsValid-none, IsValid-more, store_of-none, store_of-more}
-use Rattle.store_core.specs.declared.store.Node.{Node}
-use Rattle.store_core.specs.Keeps.{IsNode, IsLook, AreApart}
+use Rattle.virtual_base.specs.Nodes.{NodesView, AreNodesOf}
+use Rattle.store_core.specs.Keeps.{IsNode, IsLook}
 use Rattle.store_core.specs.Nodes.{IsCore, AddsCommit}
 use Rattle.store_core.specs.Turns.{Refuses}
 use Rattle.store_core.specs.Views.{CoreView, SeenView}
 use Rattle.store_core.proofs.Looks.{same-later}
 use Rattle.store_core.proofs.Readies.{branch-now, head-now, head-below}
-use Rattle.store_core.proofs.Pairs.{base-there}
 
-module _ {S O R Q A : Type 0} (meaning : Meaning S O R Q A) (laws : KeepsLaws meaning) (limits : Limits) (history : List (Move O R)) (table : Table) (graph : Ancestry) (nodes : List (Node S)) (core : IsCore meaning limits history table graph nodes) where
+-- what a list has at a place
+slice_get-at : {X : Type 0} (xs : List X) (n : ℕ) → n < length xs → (x : X) × (slice_get xs n ≡ Some x)
+slice_get-at [] n lt = absurd (omega arith)
+slice_get-at (x ∷ xs) zero lt = (x, refl)
+slice_get-at (x ∷ xs) (suc n) lt = slice_get-at xs n (omega arith)
+
+module _ {S O R Q A : Type 0} (meaning : Meaning S O R Q A) (laws : KeepsLaws meaning) (limits : Limits) (history : List (Move O R)) (table : Table) (graph : Ancestry) (clocks : List ℕ) (values : List S) (core : IsCore meaning limits history table graph clocks values) where
   abbrev commits : List (Commit O R)
   commits = (store_of history).commits
 
@@ -57,37 +61,31 @@ module _ {S O R Q A : Type 0} (meaning : Meaning S O R Q A) (laws : KeepsLaws me
   pub core-count : length graph.commits ≡ length commits
   core-count = ap (λ g. length g.commits) core.parents ∙ length-graph commits
 
-  -- each commit has a node
-  pub core-node : (n : ℕ) → n < length commits → n < length nodes
-  core-node n lt = let count = core.count in omega arith
+  -- each commit has a clock and a value
+  pub core-clock : (n : ℕ) → n < length commits → n < length clocks
+  core-clock n lt = let count = core.count in omega arith
 
-  -- a node stands for what is visible at its commit
-  pub node-stands : (n : ℕ) → n < length commits → (node : Node S) → node ≡ slice_index_or nodes n node → IsNode meaning commits n node.clock (arc_value node.value)
-  node-stands n lt node is = core.each n node (slice_get-get_or nodes n node (core-node n lt) ∙ ap Some (sym is))
+  pub core-value : (n : ℕ) → n < length commits → n < length graph.commits
+  core-value n lt = let count = core-count in omega arith
 
-  module _ (head other base : ℕ) (there : head < length commits) (other_there : other < length commits) (bases : maximal_common (graph_of commits) (head ∷ []) (other ∷ []) ≡ base ∷ []) where
-    base_there : base < length commits
-    base_there = let lt = base-there (graph_of commits) (head ∷ []) (other ∷ []) base bases in let e = length-graph commits in omega arith
+  -- the nodes are those of the commits
+  pub core-nodes : (addresses : List (List ℕ)) → AreNodesOf meaning commits (record { graph = graph; values = values; addresses = addresses })
+  core-nodes addresses = record {
+    parents = ap (λ g. g.commits) core.parents;
+    stand = λ n value is.
+        let lt : n < length values = slice_get_within values n value is in
+        let valued = core.valued in
+        let there : n < length commits = omega arith in
+        let timed = slice_get-at clocks n (core-clock n there) in
+        (core.each n timed.0 value timed.1 is).stands;
+  }
 
-    pub base-node : base < length nodes
-    base-node = core-node base base_there
-
-    pub core-apart : (left right bottom : Node S) → left ≡ slice_index_or nodes head left → right ≡ slice_index_or nodes other right → bottom ≡ slice_index_or nodes base bottom
-        → reaches (graph_of commits) head other ≡ false → reaches (graph_of commits) other head ≡ false → (clock : ℕ) → clock ≡ max left.clock right.clock → (b r : S) → b ≡ arc_value bottom.value → r ≡ arc_value right.value
-        → AreApart meaning commits head other clock b r
-    core-apart left right bottom at_left at_right at_base above below clock timed b r b_is r_is =
-        let l = node-stands head there left at_left in
-        let k = node-stands other other_there right at_right in
-        let n = node-stands base base_there bottom at_base in
-        record {
-          above = above;
-          below = below;
-          ancestor = base;
-          bases = bases;
-          timed = timed ∙ ap (λ t. max t right.clock) l.timed ∙ ap (λ t. max (clock_of commits head) t) k.timed;
-          base_stands = subst (λ (v : S). meaning.stands v (visible commits base)) (sym b_is) n.stands;
-          right_stands = subst (λ (v : S). meaning.stands v (visible commits other)) (sym r_is) k.stands;
-        }
+  -- the clock of a commit
+  pub clock-at : (n clock : ℕ) → n < length commits → slice_get clocks n ≡ Some clock → clock ≡ clock_of commits n
+  clock-at n clock there is =
+      let valued = core.valued in
+      let found = slice_get-at values n (omega arith) in
+      (core.each n clock found.0 is found.1).timed
 
   -- an earlier look, at the history of now
   pub look-again : (seen : SeenView (Move O R)) → IsPrefix seen.history history → seen.limits ≡ limits → (then_moves clock : ℕ) (value : S) → IsLook meaning seen then_moves clock value → (moves : ℕ) → moves ≡ length history → (again : S) → again ≡ value
@@ -122,12 +120,15 @@ module _ {S O R Q A : Type 0} (meaning : Meaning S O R Q A) (laws : KeepsLaws me
     pub head-there : n < length commits
     head-there = subst (λ (h : ℕ). h < length commits) (sym newest_at) (core-kept.ordered.heads r in_range)
 
-    pub head-node : n < length nodes
-    head-node = core-node n head-there
+    pub head-clock : n < length clocks
+    head-clock = core-clock n head-there
 
-    pub head-look : (moves : ℕ) → moves ≡ length history → (node : Node S) → slice_get nodes n ≡ Some node → (value : S) → value ≡ arc_value node.value
-        → IsLook meaning (record { history = history; limits = limits; branch = r; head = n }) moves node.clock value
-    head-look moves counted node found value same = record {
+    pub head-value : n < length graph.commits
+    head-value = core-value n head-there
+
+    pub head-look : (moves : ℕ) → moves ≡ length history → (clock : ℕ) (value : S) → slice_get clocks n ≡ Some clock → slice_get values n ≡ Some value
+        → IsLook meaning (record { history = history; limits = limits; branch = r; head = n }) moves clock value
+    head-look moves counted clock value timed found = record {
       look = record {
         valid = core.valid;
         branch = in_range;
@@ -135,7 +136,7 @@ module _ {S O R Q A : Type 0} (meaning : Meaning S O R Q A) (laws : KeepsLaws me
         below = subst (λ (h : ℕ). IsTrue (reaches (graph_of commits) (head_of (store_of history).branches r) h)) (sym newest_at) (reaches-self (graph_of commits) core-kept.ordered.ranked (head_of (store_of history).branches r));
       };
       counted = counted;
-      node = subst (λ (v : S). IsNode meaning commits n node.clock v) (sym same) (core.each n node found);
+      node = core.each n clock value timed found;
     }
 
     pub head-sees : (name : List ℕ) → Some r ≡ branch_named table.branches name → turn meaning limits history (machine.Look name) ≡ answers {O = O} {R = R} {A = A} (machine.Sees r n)
@@ -192,40 +193,6 @@ module _ {S O R Q A : Type 0} (meaning : Meaning S O R Q A) (laws : KeepsLaws me
                   ∙ ap (λ n. record { outcome = machine.Forked n (head_of (store_of history).branches r); made = move.Fork name n r ∷ [] }) (sym last)
                   ∙ ap (λ h. record { outcome = machine.Forked number h; made = move.Fork name number r ∷ [] }) (sym newest)
 
-  -- the refusals, of what the table, the graph and the moves say
-  module _ (r h newest : ℕ) (at : newest ≡ head_of table.branches r) where
-    at_newest : head_of (store_of history).branches r ≡ newest
-    at_newest = sym (at ∙ core-heads r)
-
-    pub forward-is_stale : (newest ≡ h → ⊥) → forward_refusal limits history r h ≡ Some (machine.Stale newest)
-    forward-is_stale ne = forward-stale limits history r h (λ e. ne (sym at_newest ∙ e)) ∙ ap (λ n. Some (machine.Stale n)) at_newest
-
-    pub commit-is_stale : (newest ≡ h → ⊥) → commit_refusal limits history r h ≡ Some (machine.Stale newest)
-    commit-is_stale ne = commit-stale limits history r h (λ e. ne (sym at_newest ∙ e)) ∙ ap (λ n. Some (machine.Stale n)) at_newest
-
-    module _ (e : newest ≡ h) where
-      pub forward-is_full : (count : ℕ) → count ≡ length history → limits.moves ≤ count → forward_refusal limits history r h ≡ Some (machine.FullMoves count)
-      forward-is_full count is le = forward-full_moves limits history r h (at_newest ∙ e) (subst (λ (n : ℕ). limits.moves ≤ n) is le) ∙ ap (λ n. Some (machine.FullMoves n)) (sym is)
-
-      pub forward-is_free : (count : ℕ) → count ≡ length history → count < limits.moves → forward_refusal limits history r h ≡ None
-      forward-is_free count is lt = forward-none limits history r h (at_newest ∙ e) (subst (λ (n : ℕ). n < limits.moves) is lt)
-
-      module _ (count : ℕ) (counted : count ≡ length graph.commits) where
-        pub commit-is_full : limits.commits ≤ count → commit_refusal limits history r h ≡ Some (machine.FullCommits count)
-        commit-is_full le =
-            let is : count ≡ length commits = counted ∙ core-count in
-            commit-full_commits limits history r h (at_newest ∙ e) (subst (λ (n : ℕ). limits.commits ≤ n) is le) ∙ ap (λ n. Some (machine.FullCommits n)) (sym is)
-
-        module _ (room : count < limits.commits) (moves : ℕ) (is : moves ≡ length history) where
-          room_left : length commits < limits.commits
-          room_left = subst (λ (n : ℕ). n < limits.commits) (counted ∙ core-count) room
-
-          pub commit-is_full_moves : limits.moves ≤ moves → commit_refusal limits history r h ≡ Some (machine.FullMoves moves)
-          commit-is_full_moves le = commit-full_moves limits history r h (at_newest ∙ e) room_left (subst (λ (n : ℕ). limits.moves ≤ n) is le) ∙ ap (λ n. Some (machine.FullMoves n)) (sym is)
-
-          pub commit-is_free : moves < limits.moves → commit_refusal limits history r h ≡ None
-          commit-is_free lt = commit-none limits history r h (at_newest ∙ e) room_left (subst (λ (n : ℕ). n < limits.moves) is lt)
-
   module _ (made : Move O R) (moves : IsMove meaning limits history made) where
     abbrev next : List (Move O R)
     next = history ++ made ∷ []
@@ -247,40 +214,50 @@ module _ {S O R Q A : Type 0} (meaning : Meaning S O R Q A) (laws : KeepsLaws me
       heads-later = branches ∙ ap (λ t. record { limit = t.limit; branches = (store_of next).branches }) core.heads
 
       -- a move that makes no commit
-      pub core-moved : (store_of next).commits ≡ commits → IsCore meaning limits next new_table graph nodes
+      pub core-moved : (store_of next).commits ≡ commits → IsCore meaning limits next new_table graph clocks values
       core-moved same = record {
         valid = IsValid-more meaning limits history made core.valid moves;
         heads = heads-later;
         parents = core.parents ∙ ap (λ cs. record { limit = limits.commits; commits = graph_of cs }) (sym same);
         count = core.count ∙ ap length (sym same);
-        each = λ n node is. node-later n node.clock (arc_value node.value) (core.each n node is);
+        valued = core.valued ∙ ap length (sym same);
+        each = λ n clock value timed is. node-later n clock value (core.each n clock value timed is);
       }
 
-      module _ (c : Commit O R) (same : (store_of next).commits ≡ commits ++ c ∷ []) (node : Node S) (timed : node.clock ≡ c.clock) (stands : meaning.stands (arc_value node.value) (visible (store_of next).commits (length commits))) where
+      module _ (c : Commit O R) (same : (store_of next).commits ≡ commits ++ c ∷ []) (value : S) (stands : meaning.stands value (visible (store_of next).commits (length commits))) where
         size_later : length (store_of next).commits ≡ length commits + 1
         size_later = ap length same ∙ length-append commits (c ∷ [])
 
-        each-later : (n : ℕ) (k : Node S) → slice_get (nodes ++ node ∷ []) n ≡ Some k → Place n (length nodes) → IsNode meaning (store_of next).commits n k.clock (arc_value k.value)
-        each-later n k is (old lt) = node-later n k.clock (arc_value k.value) (core.each n k (sym (slice_get-append nodes (node ∷ []) n lt) ∙ is))
-        each-later n k is (new e) =
+        new_node : IsNode meaning (store_of next).commits (length commits) c.clock value
+        new_node = let size = size_later in record {
+          there = omega arith;
+          timed = sym (ap (λ cs. clock_of cs (length commits)) same ∙ ap (λ o. option_map_or (λ d. d.clock) o 0) (slice_get-new commits c []));
+          stands = stands;
+        }
+
+        each-later : (n k : ℕ) (v : S) → slice_get (clocks ++ c.clock ∷ []) n ≡ Some k → slice_get (values ++ value ∷ []) n ≡ Some v → Place n (length commits) → IsNode meaning (store_of next).commits n k v
+        each-later n k v timed is (old lt) =
             let count = core.count in
-            let at : n ≡ length commits = e ∙ count in
-            let here : node ≡ k = let found : Some node ≡ Some k = sym (slice_get-new nodes node []) ∙ ap (slice_get (nodes ++ node ∷ [])) (sym e) ∙ is in cc in
-            let size = size_later in
-            let fresh : IsNode meaning (store_of next).commits (length commits) node.clock (arc_value node.value) = record {
-              there = omega arith;
-              timed = timed ∙ sym (ap (λ cs. clock_of cs (length commits)) same ∙ ap (λ o. option_map_or (λ d. d.clock) o 0) (slice_get-new commits c []));
-              stands = stands;
-            } in
-            subst (λ (m : ℕ). IsNode meaning (store_of next).commits m k.clock (arc_value k.value)) (sym at)
-            (subst (λ (m : Node S). IsNode meaning (store_of next).commits (length commits) m.clock (arc_value m.value)) here fresh)
-        each-later n k is (past gt) =
-            let size : length (nodes ++ node ∷ []) ≡ length nodes + 1 = length-append nodes (node ∷ []) in
-            let within = slice_get_within (nodes ++ node ∷ []) n k is in
+            let valued = core.valued in
+            node-later n k v (core.each n k v (sym (slice_get-append clocks (c.clock ∷ []) n (omega arith)) ∙ timed) (sym (slice_get-append values (value ∷ []) n (omega arith)) ∙ is))
+        each-later n k v timed is (new e) =
+            let count = core.count in
+            let valued = core.valued in
+            let at_clock : n ≡ length clocks = e ∙ sym count in
+            let at_value : n ≡ length values = e ∙ sym valued in
+            let clock_is : c.clock ≡ k = let found : Some c.clock ≡ Some k = sym (slice_get-new clocks c.clock []) ∙ ap (slice_get (clocks ++ c.clock ∷ [])) (sym at_clock) ∙ timed in cc in
+            let value_is : value ≡ v = let found : Some value ≡ Some v = sym (slice_get-new values value []) ∙ ap (slice_get (values ++ value ∷ [])) (sym at_value) ∙ is in cc in
+            subst (λ (m : ℕ). IsNode meaning (store_of next).commits m k v) (sym e)
+            (subst (λ (m : ℕ). IsNode meaning (store_of next).commits (length commits) m v) clock_is
+            (subst (λ (w : S). IsNode meaning (store_of next).commits (length commits) c.clock w) value_is new_node))
+        each-later n k v timed is (past gt) =
+            let size : length (clocks ++ c.clock ∷ []) ≡ length clocks + 1 = length-append clocks (c.clock ∷ []) in
+            let within = slice_get_within (clocks ++ c.clock ∷ []) n k timed in
+            let count = core.count in
             absurd (omega arith)
 
         -- a move that makes one
-        pub core-grown : (grown : Ancestry) → grown ≡ record graph { commits = graph.commits ++ c.parents ∷ [] } → IsCore meaning limits next new_table grown (nodes ++ node ∷ [])
+        pub core-grown : (grown : Ancestry) → grown ≡ record graph { commits = graph.commits ++ c.parents ∷ [] } → IsCore meaning limits next new_table grown (clocks ++ c.clock ∷ []) (values ++ value ∷ [])
         core-grown grown is = record {
           valid = IsValid-more meaning limits history made core.valid moves;
           heads = heads-later;
@@ -289,14 +266,15 @@ module _ {S O R Q A : Type 0} (meaning : Meaning S O R Q A) (laws : KeepsLaws me
               ∙ ap (λ g. record { limit = g.limit; commits = g.commits ++ c.parents ∷ [] }) core.parents
               ∙ ap (λ ps. record { limit = limits.commits; commits = ps }) (sym (graph_of-append commits (c ∷ [])))
               ∙ ap (λ cs. record { limit = limits.commits; commits = graph_of cs }) (sym same);
-          count = let size = size_later in let count = core.count in omega (arith, length-append nodes (node ∷ []));
-          each = λ n k found. each-later n k found (place n (length nodes));
+          count = let size = size_later in let count = core.count in omega (arith, length-append clocks (c.clock ∷ []));
+          valued = let size = size_later in let valued = core.valued in omega (arith, length-append values (value ∷ []));
+          each = λ n k v timed found. each-later n k v timed found (place n (length commits));
         }
 
   -- the three ways in which a core goes on
   module _ (moves : List (Move O R)) (new_table : Table) where
     pub fork-core : (name : List ℕ) (number source head : ℕ) → IsMove meaning limits history (move.Fork name (length (store_of history).branches) source) → number ≡ length table.branches → head ≡ head_of table.branches source
-        → moves ≡ history ++ move.Fork name number source ∷ [] → new_table ≡ record table { branches = with_branch table.branches name head } → IsCore meaning limits moves new_table graph nodes
+        → moves ≡ history ++ move.Fork name number source ∷ [] → new_table ≡ record table { branches = with_branch table.branches name head } → IsCore meaning limits moves new_table graph clocks values
     fork-core name number source head is last newest made added =
         let m = move.Fork name number source in
         let s = store_of history in
@@ -307,10 +285,10 @@ module _ {S O R Q A : Type 0} (meaning : Meaning S O R Q A) (laws : KeepsLaws me
         ∙ ap (λ t. record table { branches = with_branch t.branches name head }) core.heads
         ∙ ap (λ h. record table { branches = with_branch s.branches name h }) (newest ∙ core-heads source)
         ∙ ap (λ (t : Store O R). record table { branches = t.branches }) (sym after) in
-        subst (λ (l : List (Move O R)). IsCore meaning limits l new_table graph nodes) (sym made) (core-moved m here new_table branches (ap (λ (t : Store O R). t.commits) after))
+        subst (λ (l : List (Move O R)). IsCore meaning limits l new_table graph clocks values) (sym made) (core-moved m here new_table branches (ap (λ (t : Store O R). t.commits) after))
 
     pub forward-core : (branch commit : ℕ) → IsMove meaning limits history (move.Forward branch commit) → moves ≡ history ++ move.Forward branch commit ∷ []
-        → new_table ≡ record table { branches = with_head table.branches branch commit } → IsCore meaning limits moves new_table graph nodes
+        → new_table ≡ record table { branches = with_head table.branches branch commit } → IsCore meaning limits moves new_table graph clocks values
     forward-core branch commit is made moved =
         let m = move.Forward branch commit in
         let after = store_of-more history m in
@@ -318,22 +296,22 @@ module _ {S O R Q A : Type 0} (meaning : Meaning S O R Q A) (laws : KeepsLaws me
         moved
         ∙ ap (λ t. record table { branches = with_head t.branches branch commit }) core.heads
         ∙ ap (λ (t : Store O R). record table { branches = t.branches }) (sym after) in
-        subst (λ (l : List (Move O R)). IsCore meaning limits l new_table graph nodes) (sym made) (core-moved m is new_table branches (ap (λ (t : Store O R). t.commits) after))
+        subst (λ (l : List (Move O R)). IsCore meaning limits l new_table graph clocks values) (sym made) (core-moved m is new_table branches (ap (λ (t : Store O R). t.commits) after))
 
-    pub commit-core : (made : Move O R) (branch : ℕ) (parents : List ℕ) (node : Node S) (value : S) → AddsCommit meaning limits history made branch parents node.clock value → arc_value node.value ≡ value → moves ≡ history ++ made ∷ []
+    pub commit-core : (made : Move O R) (branch : ℕ) (parents : List ℕ) (clock : ℕ) (value : S) → AddsCommit meaning limits history made branch parents clock value → moves ≡ history ++ made ∷ []
         → (commit : ℕ) → commit ≡ length graph.commits → new_table ≡ record table { branches = with_head table.branches branch commit } → (grown : Ancestry) → grown ≡ record graph { commits = graph.commits ++ parents ∷ [] }
-        → (more : List (Node S)) → more ≡ nodes ++ node ∷ [] → IsCore meaning limits moves new_table grown more
-    commit-core made branch parents node value adds same is commit number moved grown pushed more added =
-        let c : Commit O R = record { parents = parents; branch = branch; clock = node.clock; event = adds.event } in
+        → (more_clocks : List ℕ) → more_clocks ≡ clocks ++ clock ∷ [] → (more_values : List S) → more_values ≡ values ++ value ∷ [] → IsCore meaning limits moves new_table grown more_clocks more_values
+    commit-core made branch parents clock value adds is commit number moved grown pushed more_clocks clocked more_values valued =
+        let c : Commit O R = record { parents = parents; branch = branch; clock = clock; event = adds.event } in
         let branches : new_table ≡ record table { branches = (store_of (history ++ made ∷ [])).branches } =
         moved
         ∙ ap (λ t. record table { branches = with_head t.branches branch commit }) core.heads
         ∙ ap (λ n. record table { branches = with_head (store_of history).branches branch n }) (number ∙ core-count)
         ∙ ap (λ (t : Store O R). record table { branches = t.branches }) (sym adds.store) in
-        let stands = subst (λ (v : S). meaning.stands v (visible (store_of (history ++ made ∷ [])).commits (length commits))) (sym same) adds.stands in
-        subst (λ (l : List (Move O R)). IsCore meaning limits l new_table grown more) (sym is)
-        (subst (λ (l : List (Node S)). IsCore meaning limits (history ++ made ∷ []) new_table grown l) (sym added)
-        (core-grown made adds.moves new_table branches c (ap (λ (t : Store O R). t.commits) adds.store) node refl stands grown pushed))
+        subst (λ (l : List (Move O R)). IsCore meaning limits l new_table grown more_clocks more_values) (sym is)
+        (subst (λ (l : List ℕ). IsCore meaning limits (history ++ made ∷ []) new_table grown l more_values) (sym clocked)
+        (subst (λ (l : List S). IsCore meaning limits (history ++ made ∷ []) new_table grown (clocks ++ clock ∷ []) l) (sym valued)
+        (core-grown made adds.moves new_table branches c (ap (λ (t : Store O R). t.commits) adds.store) value adds.stands grown pushed)))
 
 -- a call that is not refused does what it does where it succeeds
 pub done-ok : {X E P Q : Type 0} (r : Result X E) → OnErr r (P → ⊥) → P → OnOk r Q → Q
@@ -353,10 +331,10 @@ unfolding visible reaches
 sees_nothing = refl
 
 -- a core of no moves
-pub core-fresh : {S O R Q A : Type 0} (meaning : Meaning S O R Q A) (limits : Limits) (table : Table) (graph : Ancestry) (node : Node S)
-    → table.limit ≡ limits.branches → table.branches ≡ main_alone → graph ≡ record { limit = limits.commits; commits = [] ∷ [] } → node.clock ≡ 0 → meaning.stands (arc_value node.value) []
-    → IsCore meaning limits [] table graph (node ∷ [])
-core-fresh {S} {O} {R} {Q} {A} meaning limits table graph node most branches parents clock stands =
+pub core-fresh : {S O R Q A : Type 0} (meaning : Meaning S O R Q A) (limits : Limits) (table : Table) (graph : Ancestry) (value : S)
+    → table.limit ≡ limits.branches → table.branches ≡ main_alone → graph ≡ record { limit = limits.commits; commits = [] ∷ [] } → meaning.stands value []
+    → IsCore meaning limits [] table graph (0 ∷ []) (value ∷ [])
+core-fresh {S} {O} {R} {Q} {A} meaning limits table graph value most branches parents stands =
     let none : store_of {O = O} {R = R} [] ≡ new_store = store_of-none in
     record {
       valid = IsValid-none meaning limits;
@@ -366,14 +344,18 @@ core-fresh {S} {O} {R} {Q} {A} meaning limits table graph node most branches par
           ∙ ap (λ (s : Store O R). record { limit = limits.branches; branches = s.branches }) (sym none);
       parents = parents ∙ ap (λ (s : Store O R). record { limit = limits.commits; commits = graph_of s.commits }) (sym none);
       count = ap (λ (s : Store O R). length s.commits) (sym none);
-      each = λ n k is. fresh n k is;
+      valued = ap (λ (s : Store O R). length s.commits) (sym none);
+      each = λ n k v timed is. fresh n k v timed is;
     }
   where
-    first : IsNode meaning (store_of {O = O} {R = R} []).commits 0 node.clock (arc_value node.value)
+    first : IsNode meaning (store_of {O = O} {R = R} []).commits 0 0 value
     first =
-        subst (λ (s : Store O R). IsNode meaning s.commits 0 node.clock (arc_value node.value)) (sym store_of-none)
-        (record { there = omega arith; timed = clock; stands = subst (λ (x : List (Event O R)). meaning.stands (arc_value node.value) x) (sym (sees_nothing {O = O} {R = R})) stands })
+        subst (λ (s : Store O R). IsNode meaning s.commits 0 0 value) (sym store_of-none)
+        (record { there = omega arith; timed = refl; stands = subst (λ (x : List (Event O R)). meaning.stands value x) (sym (sees_nothing {O = O} {R = R})) stands })
 
-    fresh : (n : ℕ) (k : Node S) → slice_get (node ∷ []) n ≡ Some k → IsNode meaning (store_of {O = O} {R = R} []).commits n k.clock (arc_value k.value)
-    fresh zero k is = let e : node ≡ k = cc in subst (λ (m : Node S). IsNode meaning (store_of {O = O} {R = R} []).commits 0 m.clock (arc_value m.value)) e first
-    fresh (suc n) k is = absurd (cc)
+    fresh : (n k : ℕ) (v : S) → slice_get (0 ∷ []) n ≡ Some k → slice_get (value ∷ []) n ≡ Some v → IsNode meaning (store_of {O = O} {R = R} []).commits n k v
+    fresh zero k v timed is =
+        let at : 0 ≡ k = cc timed in
+        let e : value ≡ v = cc is in
+        subst (λ (m : ℕ). IsNode meaning (store_of {O = O} {R = R} []).commits 0 m v) at (subst (λ (w : S). IsNode meaning (store_of {O = O} {R = R} []).commits 0 0 w) e first)
+    fresh (suc n) k v timed is = absurd (cc)

@@ -85,16 +85,13 @@ module _ {S O R Q A : Type 0} (meaning : Meaning S O R Q A) (laws : KeepsLaws me
     same-pair : IsSameAtAll old new (seen.head ∷ commit ∷ []) []
     same-pair = same-all (seen.head ∷ commit ∷ []) [] (seen-there meaning laws seen is, (there, tt)) tt
 
-    same-bases : IsSameAtAll old new (seen.head ∷ []) (commit ∷ [])
-    same-bases = same-all (seen.head ∷ []) (commit ∷ []) (seen-there meaning laws seen is, tt) (there, tt)
-
     pub merge-now : (clock : ℕ) (value : S) → IsReadyMerge meaning seen commit clock value → IsReadyMerge meaning now commit clock value
     merge-now clock value was = record {
       there = omega (arith, more);
       above = same-head.reach commit ∙ was.above;
       below = same-other.reach seen.head ∙ was.below;
       fits =
-          let same = merge_refusal-same meaning seen.limits old new seen.head commit same-bases same-pair.visible ∙ was.fits in
+          let same = merge_refusal-same meaning seen.limits old new seen.head commit same-pair.visible ∙ was.fits in
           subst (λ (l : Limits). merge_refusal meaning l new seen.head commit ≡ None) limits same;
       timed = was.timed ∙ ap (λ n. max n (clock_of old commit)) (sym same-head.clock) ∙ ap (λ n. max (clock_of new seen.head) n) (sym same-other.clock);
       stands = subst (λ (y : List (Event O R)). meaning.stands value y) (sym same-pair.visible) was.stands;

@@ -1,19 +1,17 @@
 -- What looks and prepared works keep of a history.
 use Rattle.std.specs.Prelude.{◌≡◌, ℕ, ◌+◌, ◌<◌, max, false, List, [], ◌∷◌, length, None, IsTrue}
-use Rattle.std.specs.Arc.{arc_value}
 use Rattle.mrdt_model.specs.declared.time.Time.{Time}
 use Rattle.mrdt_model.specs.Laws.{Meaning}
-use Rattle.branch_graph.specs.Graph.{reaches, maximal_common}
+use Rattle.branch_graph.specs.Graph.{reaches}
 use Rattle.branch_names.specs.Heads.{head_of}
 use Rattle.branch_history.specs.declared.moves.Move.{Move}
 use Rattle.branch_history.specs.Commits.{Commit, graph_of, clock_of, visible, visible_at_all}
 use Rattle.branch_history.specs.History.{store_of}
 use Rattle.branch_history.specs.Machine.{event_made, operation_refusal, merge_refusal}
 use Rattle.branch_history.specs.Validity.{IsValid}
-use Rattle.store_core.specs.declared.relation.Relation.{Relation}
-use Rattle.store_core.specs.declared.relation.Relation.TheVariants as relation
 use Rattle.store_core.specs.declared.prepared.Ready.{Ready}
 use Rattle.store_core.specs.declared.prepared.Ready.TheVariants as ready
+use Rattle.virtual_base.specs.Nodes.{NodesView, AreNodesOf}
 use Rattle.store_core.specs.Views.{SeenView, Work, Operation, Merge, Forward}
 
 -- a clock and a value are those of a commit: the value stands for what is visible there
@@ -70,6 +68,12 @@ IsReady meaning seen (ready.Operation time value op reply) = IsReadyOperation me
 IsReady meaning seen (ready.Merge commit clock value) = IsReadyMerge meaning seen commit clock value
 IsReady meaning seen (ready.Forward commit) = IsReadyForward seen.history seen.head commit
 
+-- such a merge of this commit
+abbrev pub IsMergeReady : {S O R Q A : Type 0} → Meaning S O R Q A → SeenView (Move O R) → ℕ → Ready S O R → Type 0
+IsMergeReady meaning seen other (ready.Operation time value op reply) = ⊥
+IsMergeReady meaning seen other (ready.Merge commit clock value) = (commit ≡ other) × IsReadyMerge meaning seen commit clock value
+IsMergeReady meaning seen other (ready.Forward commit) = ⊥
+
 -- what is ready on a look, which is at a branch and its head
 pub record IsPrepared {S O R Q A : Type 0} (meaning : Meaning S O R Q A) (seen : SeenView (Move O R)) (branch head : ℕ) (made : Ready S O R) : Type 0 where
   pub look : IsSeen meaning seen
@@ -77,28 +81,8 @@ pub record IsPrepared {S O R Q A : Type 0} (meaning : Meaning S O R Q A) (seen :
   pub newest : head ≡ seen.head
   pub ready : IsReady meaning seen made
 
--- neither of two commits reaches the other; they have one maximal common ancestor; the clock is the greater one, and two values are those of the ancestor and of the second commit
-pub record AreApart {S O R Q A : Type 0} (meaning : Meaning S O R Q A) (commits : List (Commit O R)) (head other clock : ℕ) (base right : S) : Type 0 where
-  pub above : reaches (graph_of commits) head other ≡ false
-  pub below : reaches (graph_of commits) other head ≡ false
-  pub ancestor : ℕ
-  pub bases : maximal_common (graph_of commits) (head ∷ []) (other ∷ []) ≡ ancestor ∷ []
-  pub timed : clock ≡ max (clock_of commits head) (clock_of commits other)
-  pub base_stands : meaning.stands base (visible commits ancestor)
-  pub right_stands : meaning.stands right (visible commits other)
-
--- how two commits stand to each other
-abbrev pub AreRelated : {S O R Q A : Type 0} → Meaning S O R Q A → List (Commit O R) → ℕ → ℕ → Relation S → Type 0
-AreRelated meaning commits head other relation.Above = IsTrue (reaches (graph_of commits) head other)
-AreRelated meaning commits head other relation.Below = (reaches (graph_of commits) head other ≡ false) × IsTrue (reaches (graph_of commits) other head)
-AreRelated meaning commits head other (relation.Crossed count) =
-    (reaches (graph_of commits) head other ≡ false)
-    × (reaches (graph_of commits) other head ≡ false)
-    × (count ≡ length (maximal_common (graph_of commits) (head ∷ []) (other ∷ [])))
-    × ¬ (count ≡ 1)
-AreRelated meaning commits head other (relation.Apart clock base right) = AreApart meaning commits head other clock (arc_value base) (arc_value right)
-
--- a look and another commit of its history
-pub record IsPair {S O R Q A : Type 0} (meaning : Meaning S O R Q A) (seen : SeenView (Move O R)) (other : ℕ) (relation : Relation S) : Type 0 where
+-- a look and another commit of its history, with that commit's clock, and the nodes of the history's commits
+pub record IsPair {S O R Q A : Type 0} (meaning : Meaning S O R Q A) (seen : SeenView (Move O R)) (other clock : ℕ) (nodes : NodesView S) : Type 0 where
   pub there : other < length (store_of seen.history).commits
-  pub related : AreRelated meaning (store_of seen.history).commits seen.head other relation
+  pub timed : clock ≡ clock_of (store_of seen.history).commits other
+  pub nodes_are : AreNodesOf meaning (store_of seen.history).commits nodes

@@ -1,7 +1,6 @@
 -- What a core keeps of its history, and the commit that a move adds to it.
 use Rattle.std.specs.Prelude.{◌≡◌, ℕ, ◌<◌, List, [], ◌∷◌, ◌++◌, All, length, slice_get, Some}
 use Rattle.std.specs.declared.option.Option.{Option}
-use Rattle.std.specs.Arc.{arc_value}
 use Rattle.mrdt_model.specs.Executions.{Event}
 use Rattle.mrdt_model.specs.Laws.{Meaning}
 use Rattle.branch_graph.specs.Graph.{Ancestry}
@@ -11,16 +10,16 @@ use Rattle.branch_history.specs.declared.moves.Move.{Move}
 use Rattle.branch_history.specs.Commits.{graph_of, visible}
 use Rattle.branch_history.specs.History.{store_of, with_commit}
 use Rattle.branch_history.specs.Validity.{IsMove, IsValid}
-use Rattle.store_core.specs.declared.store.Node.{Node}
 use Rattle.store_core.specs.Keeps.{IsNode}
 
 -- a valid history, the table of its branches, the graph of its commits, and a clock and a value for each of these
-pub record IsCore {S O R Q A : Type 0} (meaning : Meaning S O R Q A) (limits : Limits) (history : List (Move O R)) (table : Table) (graph : Ancestry) (nodes : List (Node S)) : Type 0 where
+pub record IsCore {S O R Q A : Type 0} (meaning : Meaning S O R Q A) (limits : Limits) (history : List (Move O R)) (table : Table) (graph : Ancestry) (clocks : List ℕ) (values : List S) : Type 0 where
   pub valid : IsValid meaning limits history
   pub heads : table ≡ record { limit = limits.branches; branches = (store_of history).branches }
   pub parents : graph ≡ record { limit = limits.commits; commits = graph_of (store_of history).commits }
-  pub count : length nodes ≡ length (store_of history).commits
-  pub each : (n : ℕ) (node : Node S) → slice_get nodes n ≡ Some node → IsNode meaning (store_of history).commits n node.clock (arc_value node.value)
+  pub count : length clocks ≡ length (store_of history).commits
+  pub valued : length values ≡ length (store_of history).commits
+  pub each : (n clock : ℕ) (value : S) → slice_get clocks n ≡ Some clock → slice_get values n ≡ Some value → IsNode meaning (store_of history).commits n clock value
 
 -- after a history, a move makes a commit on a branch, with these parents, a clock and a value
 pub record AddsCommit {S O R Q A : Type 0} (meaning : Meaning S O R Q A) (limits : Limits) (history : List (Move O R)) (made : Move O R) (branch : ℕ) (parents : List ℕ) (clock : ℕ) (value : S) : Type 0 where

@@ -53,6 +53,5 @@ IsStepOf meaning pair step.Same = MergesAs meaning pair machine.Same
 IsStepOf meaning pair (step.Land made) = (made.seen ≡ seen_of pair) × IsWorkOf meaning pair made.work
 
 abbrev pub MergeRefusedAs : {S O R Q A : Type 0} → Meaning S O R Q A → PairView (Move O R) → PairPrepareRefused → Type 0
-MergeRefusedAs meaning pair (prepare_refusal.ManyBases count) = MergesAs meaning pair (machine.Refused (machine.ManyBases count))
 MergeRefusedAs meaning pair (prepare_refusal.ValueTooLarge length) = MergesAs meaning pair (machine.Refused (machine.ValueTooLarge length))
 MergeRefusedAs meaning pair prepare_refusal.Memory = Unit {0}

@@ -44,9 +44,6 @@ pub enum PairRefused {
 /// Why a merge was not prepared.
 #[derive(Clone, Copy, Debug, PartialEq, Eq, Error)]
 pub enum PairPrepareRefused {
-    /// The two commits have this many maximal common ancestors, not one.
-    #[error("{count} maximal common ancestors")]
-    ManyBases { count: u64 },
     /// The spelling of the merged value has this many bytes, more than the limit.
     #[error("{length} bytes are too many")]
     ValueTooLarge { length: u64 },
@@ -122,13 +119,13 @@ pub struct Forked {
     pub head: u32,
 }
 
-impl From<AllocError> for LookRefused {
+impl From<Memory> for LookRefused {
     ghost use Rattle.std.specs.Prelude.{◌≡◌};
     ghost use Rattle.store_core.specs.declared.answers.LookRefused.TheVariants as refusal;
 
     ghost from_gives = { λ _ error. error ≡ refusal.Memory };
 
-    fn from(_: AllocError) -> LookRefused {
+    fn from(_: Memory) -> LookRefused {
         LookRefused::Memory
     }
 }
@@ -151,6 +148,17 @@ impl From<Memory> for PairRefused {
     ghost from_gives = { λ _ error. error ≡ refusal.Memory };
 
     fn from(_: Memory) -> PairRefused {
+        PairRefused::Memory
+    }
+}
+
+impl From<AllocError> for PairRefused {
+    ghost use Rattle.std.specs.Prelude.{◌≡◌};
+    ghost use Rattle.store_core.specs.declared.answers.PairRefused.TheVariants as refusal;
+
+    ghost from_gives = { λ _ error. error ≡ refusal.Memory };
+
+    fn from(_: AllocError) -> PairRefused {
         PairRefused::Memory
     }
 }

@@ -8,7 +8,6 @@
 pub mod answers;
 pub mod pair;
 pub mod prepared;
-mod relation;
 pub mod seen;
 pub mod store;
 

@@ -1,40 +1,38 @@
 // The core: a history, and the value of each of its commits.
-ghost use Rattle.std.specs.Prelude.{◌≡◌, ◌<◌, false, [], ◌∷◌, ◌++◌, All, length, slice_get, IfOk, IfErr, IfSome, OnOk, OnErr, Some, None};
+ghost use Rattle.std.specs.Prelude.{◌≡◌, ◌≢◌, ◌<◌, ◌≤◌, ℕ, false, [], ◌∷◌, ◌++◌, All, length, slice_get, IfOk, IfErr, IfSome, OnOk, OnErr, IsErrOf, Some, None};
+ghost use Rattle.std.specs.Arc.{arc_value};
 ghost use Rattle.std.specs.Option.{option_map};
 ghost use Rattle.std.specs.List.{AllByRecursion};
 ghost use mathlib.Core.List.{IsPrefix};
 ghost use Rattle.branch_names.specs.Heads.{Branch, branch_named, head_of};
-ghost use Rattle.branch_graph.specs.Graph.{reaches, maximal_common};
-ghost use Rattle.branch_history.specs.Commits.{graph_of};
 ghost use Rattle.branch_history.specs.History.{store_of};
 ghost use Rattle.branch_history.specs.Machine.{turn, answers, commit_refusal, forward_refusal};
 ghost use Rattle.branch_history.specs.Steps as machine;
 ghost use Rattle.branch_history.specs.Validity.{IsMove, IsValid};
-ghost use Rattle.store_core.specs.Keeps.{IsReadyOperation, IsReadyMerge, IsReadyForward, AreRelated};
+ghost use Rattle.store_core.specs.Keeps.{IsReadyOperation, IsReadyMerge, IsReadyForward};
 ghost use Rattle.store_core.specs.Nodes.{AddsCommit};
 ghost use Rattle.store_core.specs.Pairs.{IsPaired, PairRefusedAs};
 ghost use Rattle.store_core.specs.Turns.{at_head, outcome_of, Moves, LookRefusedAs, LandsAs, LandRefusedAs, RefusedBy, BranchAdded, Forks, ForkRefusedAs};
+ghost use Rattle.virtual_base.specs.Nodes.{with_node};
 
 use crate::answers::{ForkRefused, Forked, Kind, LandRefused, Landed, LookRefused, PairRefused};
 use crate::pair::Pair;
 use crate::prepared::{Prepared, Ready, same_reply};
-use crate::relation::Relation;
 use crate::seen::Seen;
-use branch_graph::{Graph, PushRefused};
+use branch_graph::PushRefused;
 use branch_history::Move;
 use branch_names::{Heads, Limits, Name};
+use counted_steps::Steps;
 use mrdt_model::{Memory, Mrdt, Time};
 use std::alloc::Global;
-use std::marker::Model;
+use std::marker::{Brand, Model};
 use std::snapshot::Snapshot;
 use std::sync::Arc;
+use std::sync::ledger::{Blank, Ledger};
+use virtual_base::Nodes;
 
-/// A commit's clock and its value.
-#[derive(Drop)]
-pub struct Node<T> {
-    clock: u64,
-    value: Arc<T>,
-}
+// The commits of a store in memory alone have no stored objects.
+const NO_ADDRESS: [u8; 32] = [0; 32];
 
 /// A history of accepted moves, with what each commit of it has. Contracts see a `CoreView`: the history and
 /// the limits.
@@ -44,8 +42,8 @@ pub struct Core<T: Mrdt> {
     limits: Limits,
     moves: Vec<Move<T::Op, T::Reply>>,
     heads: Heads,
-    graph: Graph,
-    nodes: Vec<Node<T>>,
+    clocks: Vec<u64>,
+    nodes: Arc<Nodes<T>>,
 }
 
 impl<T: Mrdt> Model for Core<T> {
@@ -54,11 +52,12 @@ impl<T: Mrdt> Model for Core<T> {
 
     ghost Value = { CoreView (Move T.Op T.Reply) };
 
+    ghost use Rattle.std.specs.Arc.{arc_value};
     ghost use Rattle.store_core.specs.Nodes.{IsCore};
 
     ghost view = { λ c. record { history = c.moves.items; limits = c.limits } };
 
-    ghost invariant = { λ c. IsCore T.meaning c.limits c.moves.items c.heads c.graph c.nodes.items };
+    ghost invariant = { λ c. IsCore T.meaning c.limits c.moves.items c.heads (arc_value c.nodes).graph c.clocks.items (arc_value c.nodes).values };
 }
 
 impl<T: Mrdt> Core<T> {
@@ -67,17 +66,16 @@ impl<T: Mrdt> Core<T> {
         ensures { IfOk result (λ core. core ≡ record { history = []; limits = limits }) }
     {
         let heads = Heads::new(alloc, limits.branches)?;
-        let mut graph = Graph::new(alloc, limits.commits);
-        let _ = push_commit(&mut graph, &[])?;
-        let value = Arc::new(alloc, T::initial(alloc))?;
-        let mut nodes = Vec::new(alloc);
-        nodes.push(Node { clock: 0, value })?;
+        let mut clocks = Vec::new(alloc);
+        clocks.push(0)?;
+        let mut nodes = Arc::new(alloc, Nodes::new(alloc, limits.commits))?;
+        let _ = push_commit(&mut nodes, T::initial(alloc), &[])?;
         Ok(Core {
             alloc,
             limits,
             moves: Vec::new(alloc),
             heads,
-            graph,
+            clocks,
             nodes,
         })
     }
@@ -94,7 +92,7 @@ impl<T: Mrdt> Core<T> {
     pub fn commits(&self) -> u32
         ensures { result ≡ length (store_of self.now.history).commits }
     {
-        self.graph.count()
+        self.nodes.count()
     }
 
     /// How many branches the store holds, `main` counted.
@@ -133,7 +131,6 @@ impl<T: Mrdt> Core<T> {
             return Err(LookRefused::UnknownBranch { name: *name });
         };
         let head = self.heads.head(branch);
-        let node = &self.nodes[head as usize];
         Ok(Seen {
             alloc: self.alloc,
             history: Snapshot::of(&self.moves),
@@ -141,8 +138,8 @@ impl<T: Mrdt> Core<T> {
             moves: self.moves.len() as u64,
             branch,
             head,
-            clock: node.clock,
-            value: Arc::try_clone(&node.value)?,
+            clock: self.clocks[head as usize],
+            value: self.nodes.shared(head)?,
         })
     }
 
@@ -159,11 +156,11 @@ impl<T: Mrdt> Core<T> {
         };
         let other = self.heads.head(source);
         let seen = self.seen_again(seen)?;
-        let relation = self.relation(seen.head, other)?;
         Ok(Pair {
             seen,
             other,
-            relation,
+            clock: self.clocks[other as usize],
+            nodes: Arc::try_clone(&self.nodes)?,
         })
     }
 
@@ -182,46 +179,6 @@ impl<T: Mrdt> Core<T> {
             head: seen.head,
             clock: seen.clock,
             value: Arc::try_clone(&seen.value)?,
-        })
-    }
-
-    // How two commits stand to each other.
-    fn relation(&self, head: u32, other: u32) -> Result<Relation<T>, Memory>
-        requires head { head < length (store_of self.now.history).commits }
-        requires other { other < length (store_of self.now.history).commits }
-        ensures { IfOk result (AreRelated T.meaning (store_of self.now.history).commits head other) }
-    {
-        if self.graph.reaches(head, other)? {
-            return Ok(Relation::Above);
-        }
-        if self.graph.reaches(other, head)? {
-            return Ok(Relation::Below);
-        }
-        let bases = self.graph.maximal_common(&[head], &[other])?;
-        match bases.as_slice() {
-            [base] => self.apart(head, other, *base),
-            many => Ok(Relation::Crossed {
-                count: many.len() as u64,
-            }),
-        }
-    }
-
-    // What a merge of two commits over their one common ancestor takes.
-    fn apart(&self, head: u32, other: u32, base: u32) -> Result<Relation<T>, Memory>
-        requires head { head < length (store_of self.now.history).commits }
-        requires other { other < length (store_of self.now.history).commits }
-        requires above { reaches (graph_of (store_of self.now.history).commits) head other ≡ false }
-        requires below { reaches (graph_of (store_of self.now.history).commits) other head ≡ false }
-        requires base { maximal_common (graph_of (store_of self.now.history).commits) (head ∷ []) (other ∷ []) ≡ base ∷ [] }
-        ensures { IfOk result (AreRelated T.meaning (store_of self.now.history).commits head other) }
-    {
-        let left = &self.nodes[head as usize];
-        let right = &self.nodes[other as usize];
-        let base = &self.nodes[base as usize];
-        Ok(Relation::Apart {
-            clock: left.clock.max(right.clock),
-            base: Arc::try_clone(&base.value)?,
-            right: Arc::try_clone(&right.value)?,
         })
     }
 
@@ -403,14 +360,8 @@ impl<T: Mrdt> Core<T> {
         ensures refused { IfErr result (RefusedBy (forward_refusal self.now.limits self.now.history branch head)) }
         ensures valid { IsValid T.meaning self.now.limits self.now.history }
     {
-        let current = self.heads.head(branch);
-        if current != head {
-            return Err(LandRefused::Stale { newest: current });
-        }
-        let moves = self.moves.len() as u64;
-        if moves >= self.limits.moves {
-            return Err(LandRefused::FullMoves { count: moves });
-        }
+        self.is_newest(branch, head)?;
+        self.has_moves_left()?;
         Ok(())
     }
 
@@ -421,17 +372,39 @@ impl<T: Mrdt> Core<T> {
         ensures refused { IfErr result (RefusedBy (commit_refusal self.now.limits self.now.history branch head)) }
         ensures valid { IsValid T.meaning self.now.limits self.now.history }
     {
+        self.is_newest(branch, head)?;
+        let count = self.commits();
+        if count >= self.limits.commits {
+            return Err(LandRefused::FullCommits { count });
+        }
+        self.has_moves_left()?;
+        Ok(())
+    }
+
+    // Whether the newest head of a branch is the one that was seen.
+    fn is_newest(&self, branch: u32, head: u32) -> Result<(), LandRefused>
+        requires { branch < length (store_of self.now.history).branches }
+        ensures newest { OnOk result (head_of (store_of self.now.history).branches branch ≡ head) }
+        ensures older { OnErr result (head_of (store_of self.now.history).branches branch ≢ head) }
+        ensures refused { IfErr result (λ refused. refused ≡ LandRefused.Stale (head_of (store_of self.now.history).branches branch)) }
+        ensures valid { IsValid T.meaning self.now.limits self.now.history }
+    {
         let newest = self.heads.head(branch);
         if newest != head {
             return Err(LandRefused::Stale { newest });
         }
-        let commits = self.graph.count();
-        if commits >= self.limits.commits {
-            return Err(LandRefused::FullCommits { count: commits });
-        }
-        let moves = self.moves.len() as u64;
-        if moves >= self.limits.moves {
-            return Err(LandRefused::FullMoves { count: moves });
+        Ok(())
+    }
+
+    // Whether the history may have one move more.
+    fn has_moves_left(&self) -> Result<(), LandRefused>
+        ensures left { OnOk result (length self.now.history < self.now.limits.moves) }
+        ensures full { OnErr result (self.now.limits.moves ≤ length self.now.history) }
+        ensures refused { IfErr result (λ refused. refused ≡ LandRefused.FullMoves (length self.now.history)) }
+    {
+        let count = self.moves.len() as u64;
+        if count >= self.limits.moves {
+            return Err(LandRefused::FullMoves { count });
         }
         Ok(())
     }
@@ -450,29 +423,74 @@ impl<T: Mrdt> Core<T> {
         ensures added { OnOk result (self.new ≡ record self.old { history = self.old.history ++ made ∷ [] }) }
         ensures kept { OnErr result (self.new ≡ self.old) }
     {
-        let value = Arc::new(self.alloc, value)?;
         self.moves.reserve(1)?;
-        self.nodes.reserve(1)?;
-        let commit = push_commit(&mut self.graph, parents)?;
+        self.clocks.reserve(1)?;
+        let commit = push_commit(&mut self.nodes, value, parents)?;
         self.moves.push_reserved(made);
-        self.nodes.push_reserved(Node { clock, value });
+        self.clocks.push_reserved(clock);
         let newest = self.heads.head(branch);
         let _ = self.heads.move_from(branch, newest, commit);
         Ok(commit)
     }
 }
 
-// Puts a commit with these parents into a graph that has room for it.
-fn push_commit(graph: &mut Graph, parents: &[u32]) -> Result<u32, Memory>
-    requires below { All (λ parent. parent < length graph.old.commits) parents.now }
-    requires room { length graph.old.commits < graph.old.limit }
-    ensures number { IfOk result (λ number. number ≡ length graph.old.commits) }
-    ensures pushed { OnOk result (graph.new ≡ record graph.old { commits = graph.old.commits ++ parents.now ∷ [] }) }
-    ensures kept { OnErr result (graph.new ≡ graph.old) }
+// Puts a commit with this value and these parents behind the others of nodes that have room for it.
+fn push_commit<T: Mrdt>(nodes: &mut Arc<Nodes<T>>, value: T, parents: &[u32]) -> Result<u32, Memory>
+    requires below { All (λ parent. parent < length (arc_value nodes.old).graph.commits) parents.now }
+    requires room { length (arc_value nodes.old).graph.commits < (arc_value nodes.old).graph.limit }
+    ensures number { IfOk result (λ number. number ≡ length (arc_value nodes.old).graph.commits) }
+    ensures pushed { OnOk result (arc_value nodes.new ≡ with_node (arc_value nodes.old) parents.now value NO_ADDRESS) }
+    ensures kept { OnErr result (arc_value nodes.new ≡ arc_value nodes.old) }
 {
-    match graph.push(parents) {
+    match push_node(nodes, value, parents) {
         Ok(number) => Ok(number),
         Err(PushRefused::Memory) => Err(Memory),
         Err(PushRefused::Full { .. }) => unreachable!(),
+    }
+}
+
+// Puts it in place where nobody shares the nodes. Else longer nodes come in their place, and who shares them keeps
+// the old ones.
+fn push_node<T: Mrdt>(
+    nodes: &mut Arc<Nodes<T>>,
+    value: T,
+    parents: &[u32],
+) -> Result<u32, PushRefused>
+    requires { All (λ parent. parent < length (arc_value nodes.old).graph.commits) parents.now }
+    ensures number { IfOk result (λ number. number ≡ length (arc_value nodes.old).graph.commits) }
+    ensures pushed { OnOk result (arc_value nodes.new ≡ with_node (arc_value nodes.old) parents.now value NO_ADDRESS) }
+    ensures full { (count : ℕ) → IsErrOf result (PushRefused.Full count) → (arc_value nodes.old).graph.limit ≤ length (arc_value nodes.old).graph.commits }
+    ensures kept { OnErr result (arc_value nodes.new ≡ arc_value nodes.old) }
+{
+    match Arc::get_mut(nodes) {
+        Some(own) => own.push(value, parents, NO_ADDRESS),
+        None => put_longer::<T, Brand>(nodes, value, parents, Blank::new(1)),
+    }
+}
+
+// Puts the nodes with one commit more in the place of nodes, with steps that nobody counts.
+fn put_longer<T: Mrdt, L: Ledger>(
+    nodes: &mut Arc<Nodes<T>>,
+    value: T,
+    parents: &[u32],
+    blank: Blank,
+) -> Result<u32, PushRefused>
+    requires name { blank.name ≡ L.name }
+    requires parts { blank.parts ≡ L.parts }
+    requires some { 0 < blank.parts }
+    requires below { All (λ parent. parent < length (arc_value nodes.old).graph.commits) parents.now }
+    ensures number { IfOk result (λ number. number ≡ length (arc_value nodes.old).graph.commits) }
+    ensures pushed { OnOk result (arc_value nodes.new ≡ with_node (arc_value nodes.old) parents.now value NO_ADDRESS) }
+    ensures full { (count : ℕ) → IsErrOf result (PushRefused.Full count) → (arc_value nodes.old).graph.limit ≤ length (arc_value nodes.old).graph.commits }
+    ensures kept { OnErr result (arc_value nodes.new ≡ arc_value nodes.old) }
+{
+    let number = nodes.count();
+    let longer = nodes.with(value, parents, NO_ADDRESS, &mut Steps::<L>::none(blank))?;
+    match Arc::new(nodes.alloc(), longer) {
+        Ok(longer) => {
+            *nodes = longer;
+            Ok(number)
+        }
+        Err(_) => Err(PushRefused::Memory),
     }
 }

@@ -88,7 +88,6 @@ fn merge(
 ) -> Result<Option<Landed<()>>, Refused> {
     let seen = core.look(into).expect(rt, "a branch");
     let pair = core.pair(&seen, from).expect(rt, "another");
-    crosses_threads(&pair);
     match pair.prepare() {
         Ok(PairStep::Same) => Ok(None),
         Ok(PairStep::Land(prepared)) => match core.land(prepared) {
@@ -96,20 +95,6 @@ fn merge(
             Err(refusal) => Err(Refused::Land(refusal)),
         },
         Err(refusal) => Err(Refused::Merge(refusal)),
-    }
-}
-
-// Merges each of two branches into the other, as both stood at first, and says whether the merges landed.
-fn merge_both(rt: &impl Abort, core: &mut Core<Counter>, left: &Name, right: &Name) -> bool {
-    let seen = core.look(left).expect(rt, "a branch");
-    let first = core.pair(&seen, right).expect(rt, "two branches");
-    let seen = core.look(right).expect(rt, "the other branch");
-    let second = core.pair(&seen, left).expect(rt, "two branches");
-    match (first.prepare(), second.prepare()) {
-        (Ok(PairStep::Land(first)), Ok(PairStep::Land(second))) => {
-            core.land(first).is_ok() && core.land(second).is_ok()
-        }
-        _ => false,
     }
 }
 
@@ -261,19 +246,90 @@ fn two_branches_merge(rt: HostRuntime) -> Result<(), Fail> {
     Ok(())
 }
 
+// The letter `t` and a number.
+fn numbered(rt: &impl Abort, alloc: Global, number: u32) -> Name {
+    let text = format!(in alloc; "t{number}").expect(rt, "memory");
+    name(rt, text.as_bytes())
+}
+
+// The commit of an operation or a merge that landed.
+fn commit_of(landed: &Landed<()>) -> Option<u32> {
+    match &landed.kind {
+        Kind::Operation { commit, .. } => Some(*commit),
+        Kind::Merged { commit } => Some(*commit),
+        Kind::Forward { .. } => None,
+    }
+}
+
+// Lands an addition on each of two branches.
+fn add_to_both(
+    rt: &impl Abort,
+    core: &mut Core<Counter>,
+    left: &Name,
+    right: &Name,
+    amounts: [i64; 2],
+) -> [Option<u32>; 2] {
+    let [one, other] = amounts;
+    let first = add(rt, core, left, one).expect(rt, "an addition");
+    let second = add(rt, core, right, other).expect(rt, "an addition");
+    [commit_of(&first), commit_of(&second)]
+}
+
+// Merges each of two branches into the other, as both stood at first; a new branch keeps where the left one stood.
+fn merge_both(
+    rt: &impl Abort,
+    core: &mut Core<Counter>,
+    left: &Name,
+    right: &Name,
+    stood: Name,
+) -> [Option<u32>; 2] {
+    let _forked = core.fork(stood, left).expect(rt, "a new name");
+    let first = merge(rt, core, left, right).expect(rt, "a merge");
+    let second = merge(rt, core, right, &stood).expect(rt, "a merge");
+    [
+        first.and_then(|landed| commit_of(&landed)),
+        second.and_then(|landed| commit_of(&landed)),
+    ]
+}
+
+// A core with two branches beside `main`, both at its head.
+fn with_two_branches(rt: &impl Abort, alloc: Global, left: Name, right: Name) -> Core<Counter> {
+    let mut core = Core::fresh(alloc, Limits::default()).expect(rt, "a core");
+    let _forked = core.fork(left, &Name::main()).expect(rt, "a new name");
+    let _forked = core.fork(right, &Name::main()).expect(rt, "a new name");
+    core
+}
+
 #[test]
-fn criss_cross_merges_have_two_bases(rt: HostRuntime) -> Result<(), Fail> {
-    let mut core = Core::fresh(rt.alloc(), Limits::default())?;
-    let (main, left) = (Name::main(), name(&rt, b"left"));
-    let _forked = core.fork(left, &main)?;
-    assert!(rt; add(&rt, &mut core, &main, 1).is_ok());
-    assert!(rt; add(&rt, &mut core, &left, 2).is_ok());
-    assert!(rt; merge_both(&rt, &mut core, &main, &left));
-    assert!(rt; core.branch(0) == Some((main, 3)) && core.branch(1) == Some((left, 4)));
-    let refused = merge(&rt, &mut core, &main, &left).err();
-    assert_eq!(rt;
-        refused,
-        Some(Refused::Merge(PairPrepareRefused::ManyBases { count: 2 }))
-    );
+fn criss_cross_merges_have_a_base(rt: HostRuntime) -> Result<(), Fail> {
+    let (left, right) = (name(&rt, b"p"), name(&rt, b"q"));
+    let mut core = with_two_branches(&rt, rt.alloc(), left, right);
+    let added = add_to_both(&rt, &mut core, &left, &right, [1, 10]);
+    assert_eq!(rt; added, [Some(1), Some(2)]);
+    let landed = merge_both(&rt, &mut core, &left, &right, name(&rt, b"p1"));
+    assert_eq!(rt; landed, [Some(3), Some(4)]);
+    let added = add_to_both(&rt, &mut core, &left, &right, [100, 1000]);
+    assert_eq!(rt; added, [Some(5), Some(6)]);
+    let landed = merge(&rt, &mut core, &left, &right).expect(&rt, "a merge");
+    assert_eq!(rt; landed.and_then(|landed| commit_of(&landed)), Some(7));
+    assert_eq!(rt; core.look(&left)?.value().value(), 1111);
+    Ok(())
+}
+
+#[test]
+fn five_hundred_criss_cross_merges(rt: HostRuntime) -> Result<(), Fail> {
+    let (left, right) = (name(&rt, b"p"), name(&rt, b"q"));
+    let mut core = with_two_branches(&rt, rt.alloc(), left, right);
+    for round in 0..500 {
+        let last = 4 * round;
+        let added = add_to_both(&rt, &mut core, &left, &right, [1, 1]);
+        assert_eq!(rt; added, [Some(last + 1), Some(last + 2)]);
+        let stood = numbered(&rt, rt.alloc(), round);
+        let landed = merge_both(&rt, &mut core, &left, &right, stood);
+        assert_eq!(rt; landed, [Some(last + 3), Some(last + 4)]);
+    }
+    let landed = merge(&rt, &mut core, &left, &right).expect(&rt, "a merge");
+    assert_eq!(rt; landed.and_then(|landed| commit_of(&landed)), Some(2001));
+    assert_eq!(rt; core.look(&left)?.value().value(), 1000);
     Ok(())
 }

@@ -2,7 +2,7 @@
 use branch_doc::{PlainAnswer, PlainReply};
 use branch_names::Name;
 use branch_print::refusals::{
-    put_bases, put_exhausted, put_full_branches, put_full_commits, put_full_moves,
+    put_collision, put_exhausted, put_full_branches, put_full_commits, put_full_moves,
     put_line_refusal, put_stale, put_taken, put_too_large, put_unknown, put_unseen,
 };
 use branch_print::replies::{
@@ -53,9 +53,21 @@ fn refusals_with_a_number(rt: HostRuntime) -> Result<(), Fail> {
     put_full_branches(&mut out, 1)?;
     put_full_moves(&mut out, 1)?;
     put_too_large(&mut out, 162)?;
-    put_bases(&mut out, 2)?;
     let text =
-        b"error taken 0\nerror exhausted 2\nerror full commits 2\nerror full branches 1\nerror full moves 1\nerror too large 162\nerror bases 2\n";
+        b"error taken 0\nerror exhausted 2\nerror full commits 2\nerror full branches 1\nerror full moves 1\nerror too large 162\n";
+    assert!(rt; out.as_slice() == text.as_slice());
+    Ok(())
+}
+
+#[test]
+fn a_refusal_with_an_address(rt: HostRuntime) -> Result<(), Fail> {
+    let mut address = [0; 32];
+    address[30] = 10;
+    address[31] = 129;
+    let mut out = Vec::new(rt.alloc());
+    put_collision(&mut out, &address)?;
+    let text =
+        b"error collision 0000000000000000000000000000000000000000000000000000000000000a81\n";
     assert!(rt; out.as_slice() == text.as_slice());
     Ok(())
 }

@@ -78,17 +78,6 @@ returns-in-Ok-Same c =
     (unmoved (view_of c.self.inside.core c.self.inside.sessions.entries) out c.put_same.new.out.items session from seen c.in-Ok.pair c.in-Ok.ensures.paired c.put_same.result machine.Same same_text
     (sym c.in-Some.ensures.value) (rw c.in-Ok-Same.field-0-is at c.in-Ok-Same.ensures.step) refl c.put_same.ensures.ok c.put_same.ensures.err refl)
 
-pub returns-in-Err-ManyBases : goal.returns-in-Err-ManyBases
-returns-in-Err-ManyBases c =
-    let session = c.args.session.now in
-    let from = c.args.from.now in
-    let out = c.args.out.now.items in
-    let seen = c.in-Some.seen.now in
-    let refusal = machine.ManyBases c.in-Err-ManyBases.count in
-    subst (λ (v : EngineView). Does (merge_telling session from) v v out c.put_bases.new.out.items c.put_bases.result) c.self.view_is
-    (unmoved (view_of c.self.inside.core c.self.inside.sessions.entries) out c.put_bases.new.out.items session from seen c.in-Ok.pair c.in-Ok.ensures.paired c.put_bases.result (machine.Refused refusal) (refusal_text [] refusal)
-    (sym c.in-Some.ensures.value) (rw c.in-Err-ManyBases.field-0-is at c.in-Err-ManyBases.ensures.refused) refl c.put_bases.ensures.ok c.put_bases.ensures.err refl)
-
 pub returns-in-Err-ValueTooLarge : goal.returns-in-Err-ValueTooLarge
 returns-in-Err-ValueTooLarge c =
     let session = c.args.session.now in

@@ -1,6 +1,7 @@
 -- The branch is new, there is room, and the move is the machine's.
 use Rattle.std.proofs.Common.{◌≡◌, ◌<◌, ◌∷◌, [], ◌++◌, length, Err, None, ap, sym, ◌∙◌, subst, arith}
 use Rattle.branch_names.specs.Heads.{branch_named}
+use Rattle.std.specs.Arc.{arc_value}
 use Rattle.branch_history.specs.declared.moves.Move.TheVariants as move
 use Rattle.branch_history.specs.History.{store_of}
 use Rattle.branch_history.specs.Validity.{IsMove}
@@ -12,7 +13,7 @@ unreachable-requires g c =
     let laws = (g.met.T.Mrdt g.world.𝓛 g.world.𝓜 g.world.𝓡 ((λ s x. x), (λ x. x), (λ x. x), λ x. x)).laws in
     let taken = (c.in-Err-Taken.ensures.taken c.in-Err-Taken.field-0-0).0 (ap Err c.in-Err-Taken.field-0-is) in
     let free : branch_named (store_of c.self.inside.moves.items).branches c.args.new ≡ None = ap (λ v. branch_named (store_of v.history).branches c.args.new) c.self.view_is ∙ c.requires.free in
-    let named = core-named g.T.Mrdt.meaning laws c.self.inside.limits c.self.inside.moves.items c.self.inside.heads c.self.inside.graph c.self.inside.nodes.items c.self.invariant c.args.new in
+    let named = core-named g.T.Mrdt.meaning laws c.self.inside.limits c.self.inside.moves.items c.self.inside.heads (arc_value c.self.inside.nodes).graph c.self.inside.clocks.items (arc_value c.self.inside.nodes).values c.self.invariant c.args.new in
     cc
 
 pub unreachable-requires-in-Err-Full : goal.unreachable-requires-in-Err-Full
@@ -23,7 +24,7 @@ unreachable-requires-in-Err-Full g c =
     let le = full.1 in
     let count = full.2 in
     let limit : c.self.inside.heads.limit ≡ c.self.inside.limits.branches = ap (λ t. t.limit) c.self.invariant.heads in
-    let branches = core-branches g.T.Mrdt.meaning laws c.self.inside.limits c.self.inside.moves.items c.self.inside.heads c.self.inside.graph c.self.inside.nodes.items c.self.invariant in
+    let branches = core-branches g.T.Mrdt.meaning laws c.self.inside.limits c.self.inside.moves.items c.self.inside.heads (arc_value c.self.inside.nodes).graph c.self.inside.clocks.items (arc_value c.self.inside.nodes).values c.self.invariant in
     let room : length (store_of c.self.inside.moves.items).branches < c.self.inside.limits.branches = subst (λ v. length (store_of v.history).branches < v.limits.branches) (sym c.self.view_is) c.requires.room in
     omega arith
 
@@ -32,4 +33,4 @@ invariant_of-self-2 g c =
     let laws = (g.met.T.Mrdt g.world.𝓛 g.world.𝓜 g.world.𝓡 ((λ s x. x), (λ x. x), (λ x. x), λ x. x)).laws in
     let moves = subst (λ v. IsMove g.T.Mrdt.meaning v.limits v.history (move.Fork c.args.new (length (store_of v.history).branches) c.args.source)) (sym c.self.view_is) c.requires.moves in
     let made = c.push_reserved.ensures.items ∙ ap (λ l. l ++ move.Fork c.args.new c.in-Ok.number c.args.source ∷ []) c.in_ok-reserve.ensures.items in
-    fork-core g.T.Mrdt.meaning laws c.self.inside.limits c.self.inside.moves.items c.self.inside.heads c.self.inside.graph c.self.inside.nodes.items c.self.invariant c.push_reserved.new.self.items c.fork.new.self c.args.new c.in-Ok.number c.args.source c.head-head.result moves c.in-Ok.ensures.number c.head-head.ensures made c.in-Ok.ensures.added
+    fork-core g.T.Mrdt.meaning laws c.self.inside.limits c.self.inside.moves.items c.self.inside.heads (arc_value c.self.inside.nodes).graph c.self.inside.clocks.items (arc_value c.self.inside.nodes).values c.self.invariant c.push_reserved.new.self.items c.fork.new.self c.args.new c.in-Ok.number c.args.source c.head-head.result moves c.in-Ok.ensures.number c.head-head.ensures made c.in-Ok.ensures.added

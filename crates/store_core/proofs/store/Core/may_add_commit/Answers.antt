@@ -1,31 +1,30 @@
 -- The head, then the commits, then the moves.
-use Rattle.std.proofs.Common.{◌≡◌, length, arith}
-use Rattle.store_core.proofs.Cores.{commit-is_stale, commit-is_full, commit-is_full_moves, commit-is_free}
+use Rattle.std.proofs.Common.{◌≤◌, ◌<◌, length, subst}
+use Rattle.std.proofs.lemmas.Result.{err_from_is_err_and}
+use Rattle.branch_history.specs.History.{store_of}
+use Rattle.branch_history.proofs.Turns.{commit-stale, commit-full_commits, commit-full_moves, commit-none}
 use Rattle.store_core.proofs.store.Core.may_add_commit.Goals as goal
 
-pub returns-then-newest-head-clause-refused : goal.returns-then-newest-head-clause-refused
-returns-then-newest-head-clause-refused g c =
-    let laws = (g.met.T.Mrdt g.world.𝓛 g.world.𝓜 g.world.𝓡 ((λ s x. x), (λ x. x), (λ x. x), λ x. x)).laws in
-    rw (← c.self.view_is) (commit-is_stale g.T.Mrdt.meaning laws c.self.inside.limits c.self.inside.moves.items c.self.inside.heads c.self.inside.graph c.self.inside.nodes.items c.self.invariant c.args.branch c.args.head c.head-newest.result c.head-newest.ensures c.if-newest-head.true)
+pub returns-in_err-is_newest-clause-refused : goal.returns-in_err-is_newest-clause-refused
+returns-in_err-is_newest-clause-refused g c =
+    let p = err_from_is_err_and c.from_residual.result c.from_residual.ensures.1 in
+    rw (p.1, p.2, c.in_err-is_newest.ensures.refused) (commit-stale c.args.self.now.limits c.args.self.now.history c.args.branch c.args.head c.in_err-is_newest.ensures.older)
 
-pub returns-then-commits-self-clause-refused : goal.returns-then-commits-self-clause-refused
-returns-then-commits-self-clause-refused g c =
-    let laws = (g.met.T.Mrdt g.world.𝓛 g.world.𝓜 g.world.𝓡 ((λ s x. x), (λ x. x), (λ x. x), λ x. x)).laws in
-    let commits : c.count-commits.result ≡ length c.self.inside.graph.commits = omega arith in
-    rw (← c.self.view_is) (commit-is_full g.T.Mrdt.meaning laws c.self.inside.limits c.self.inside.moves.items c.self.inside.heads c.self.inside.graph c.self.inside.nodes.items c.self.invariant c.args.branch c.args.head c.head-newest.result c.head-newest.ensures c.if-newest-head.false c.count-commits.result commits c.if-commits-self.true)
+pub returns-then-count-self-clause-refused : goal.returns-then-count-self-clause-refused
+returns-then-count-self-clause-refused g c =
+    let held = subst (λ n. c.self.inside.limits.commits ≤ n) c.commits-count.ensures c.if-count-self.true in
+    let full = subst (λ v. v.limits.commits ≤ length (store_of c.args.self.now.history).commits) c.self.view_is held in
+    rw (c.commits-count.ensures) (commit-full_commits c.args.self.now.limits c.args.self.now.history c.args.branch c.args.head c.in_ok-is_newest.ensures.newest full)
 
-pub returns-then-moves-self-clause-refused : goal.returns-then-moves-self-clause-refused
-returns-then-moves-self-clause-refused g c =
-    let laws = (g.met.T.Mrdt g.world.𝓛 g.world.𝓜 g.world.𝓡 ((λ s x. x), (λ x. x), (λ x. x), λ x. x)).laws in
-    let commits : c.count-commits.result ≡ length c.self.inside.graph.commits = omega arith in
-    let counted : c.len-moves.result ≡ length c.self.inside.moves.items = omega arith in
-    rw (← c.self.view_is)
-    (commit-is_full_moves g.T.Mrdt.meaning laws c.self.inside.limits c.self.inside.moves.items c.self.inside.heads c.self.inside.graph c.self.inside.nodes.items c.self.invariant c.args.branch c.args.head c.head-newest.result c.head-newest.ensures c.if-newest-head.false c.count-commits.result commits c.if-commits-self.false c.len-moves.result counted c.if-moves-self.true)
+pub returns-in_err-has_moves_left-clause-refused : goal.returns-in_err-has_moves_left-clause-refused
+returns-in_err-has_moves_left-clause-refused g c =
+    let p = err_from_is_err_and c.from_residual-in_err-has_moves_left.result c.from_residual-in_err-has_moves_left.ensures.1 in
+    let left = subst (λ n. n < c.self.inside.limits.commits) c.commits-count.ensures c.if-count-self.false in
+    let room = subst (λ v. length (store_of c.args.self.now.history).commits < v.limits.commits) c.self.view_is left in
+    rw (p.1, p.2, c.in_err-has_moves_left.ensures.refused) (commit-full_moves c.args.self.now.limits c.args.self.now.history c.args.branch c.args.head c.in_ok-is_newest.ensures.newest room c.in_err-has_moves_left.ensures.full)
 
 pub returns-clause-free : goal.returns-clause-free
 returns-clause-free g c =
-    let laws = (g.met.T.Mrdt g.world.𝓛 g.world.𝓜 g.world.𝓡 ((λ s x. x), (λ x. x), (λ x. x), λ x. x)).laws in
-    let commits : c.count-commits.result ≡ length c.self.inside.graph.commits = omega arith in
-    let counted : c.len-moves.result ≡ length c.self.inside.moves.items = omega arith in
-    rw (← c.self.view_is)
-    (commit-is_free g.T.Mrdt.meaning laws c.self.inside.limits c.self.inside.moves.items c.self.inside.heads c.self.inside.graph c.self.inside.nodes.items c.self.invariant c.args.branch c.args.head c.head-newest.result c.head-newest.ensures c.if-newest-head.false c.count-commits.result commits c.if-commits-self.false c.len-moves.result counted c.if-moves-self.false)
+    let left = subst (λ n. n < c.self.inside.limits.commits) c.commits-count.ensures c.if-count-self.false in
+    let room = subst (λ v. length (store_of c.args.self.now.history).commits < v.limits.commits) c.self.view_is left in
+    commit-none c.args.self.now.limits c.args.self.now.history c.args.branch c.args.head c.in_ok-is_newest.ensures.newest room c.in_ok-has_moves_left.ensures.left

@@ -1,6 +1,7 @@
 -- What was seen is there now.
 use Rattle.std.proofs.Common.{◌≡◌, length, ap, sym, ◌∙◌, subst, arith}
 use mathlib.Core.List.{IsPrefix}
+use Rattle.std.specs.Arc.{arc_value}
 use Rattle.store_core.proofs.Cores.{look-again}
 use Rattle.store_core.proofs.store.Core.seen_again.Goals as goal
 
@@ -10,4 +11,4 @@ invariant_of-result g c =
     let counted : c.len.result ≡ length c.self.inside.moves.items = omega arith in
     let prefix = subst (λ v. IsPrefix v.history c.self.inside.moves.items) (sym c.seen.view_is) (subst (λ v. IsPrefix c.args.seen.now.history v.history) (sym c.self.view_is) c.requires.history) in
     let limits = ap (λ v. v.limits) c.seen.view_is ∙ c.requires.limits ∙ ap (λ v. v.limits) (sym c.self.view_is) in
-    rw c.of.ensures (look-again g.T.Mrdt.meaning laws c.self.inside.limits c.self.inside.moves.items c.self.inside.heads c.self.inside.graph c.self.inside.nodes.items c.self.invariant _ prefix limits c.seen.inside.moves c.seen.inside.clock _ c.seen.invariant c.len.result counted _ c.in_ok-try_clone.ensures)
+    rw c.of.ensures (look-again g.T.Mrdt.meaning laws c.self.inside.limits c.self.inside.moves.items c.self.inside.heads (arc_value c.self.inside.nodes).graph c.self.inside.clocks.items (arc_value c.self.inside.nodes).values c.self.invariant _ prefix limits c.seen.inside.moves c.seen.inside.clock _ c.seen.invariant c.len.result counted _ c.in_ok-try_clone.ensures)
