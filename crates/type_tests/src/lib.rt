@@ -2,6 +2,8 @@
 #![tactic(auto)]
 
 #[cfg(test)]
+mod document;
+#[cfg(test)]
 mod product;
 #[cfg(test)]
 mod table;
