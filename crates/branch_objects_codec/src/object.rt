@@ -6,8 +6,8 @@ ghost use Rattle.branch_objects_codec.specs.Grammar.{object_bytes, HasFrame, IsO
 ghost use Rattle.branch_objects_codec.specs.Parts.{NoneAt};
 
 use crate::reading::{object_of, take_frame};
-use crate::tags::{COMMIT, VALUE};
-use crate::writing::{commit_bytes, put_frame};
+use crate::tags::COMMIT;
+use crate::writing::{commit_bytes, put_frame, put_value};
 use branch_wire::{Action, Cursor};
 use mrdt_model::{Bytes, Listing, Memory, Unread};
 use std::alloc::Global;
@@ -39,7 +39,7 @@ impl Object {
         ensures err { OnErr result (AppendsPart out.old.items out.new.items (object_bytes self.now)) }
     {
         match self {
-            Object::Value(bytes) => put_frame(VALUE, bytes.as_slice(), out),
+            Object::Value(bytes) => put_value(bytes.as_slice(), out),
             Object::Commit {
                 parents,
                 branch,

@@ -5,8 +5,9 @@ use Rattle.std.specs.Map.{lookup}
 use Rattle.object_store.specs.declared.shelf.Place.{Place}
 use Rattle.object_store.specs.declared.shelf.Found.{Found}
 use Rattle.object_store.specs.declared.shelf.Shelf.{Shelf}
-use Rattle.object_store.specs.declared.errors.PutRefused.{PutRefused}
-use Rattle.object_store.specs.declared.errors.PutRefused.TheVariants.{Collision, DiskFault, Memory}
+use Rattle.object_store.specs.declared.shelf.Mark.{Mark}
+use Rattle.object_store.specs.declared.errors.StageRefused.{StageRefused}
+use Rattle.object_store.specs.declared.errors.StageRefused.TheVariants.{Collision, Memory}
 use Rattle.branch_wire.specs.StoredObjects.{Stored, same, has_address, file_of, clash}
 use Rattle.object_store.specs.Stored.{IsText}
 
@@ -48,22 +49,39 @@ abbrev pub Noted : (List ℕ → List ℕ) → Shelf → Type 0
 Noted address shelf = IsNoted address shelf.text.items shelf.places.items shelf.index.entries
 
 -- and the text is the whole file
-pub record IsShelf (address : List ℕ → List ℕ) (shelf : Shelf) : Type 0 where
-  pub noted : Noted address shelf
-  pub whole : shelf.text.items ≡ file_of (texts shelf)
+pub record IsStocked (address : List ℕ → List ℕ) (text : List ℕ) (places : List Place) (entries : List (List ℕ × Found)) : Type 0 where
+  pub noted : IsNoted address text places entries
+  pub whole : text ≡ file_of (texts_of text places)
+
+abbrev pub IsShelf : (List ℕ → List ℕ) → Shelf → Type 0
+IsShelf address shelf = IsStocked address shelf.text.items shelf.places.items shelf.index.entries
+
+-- up to this place the text is a whole file, with no object behind it noted
+pub record IsStockedTo (address : List ℕ → List ℕ) (start : ℕ) (shelf : Shelf) : Type 0 where
+  pub stocked : IsStocked address (take start shelf.text.items) shelf.places.items shelf.index.entries
+  pub within : start ≤ length shelf.text.items
 
 -- what was held stands first in what is held now
-pub record Keeps (old new : Shelf) : Type 0 where
-  pub text : take (length old.text.items) new.text.items ≡ old.text.items
-  pub places : take (length old.places.items) new.places.items ≡ old.places.items
-  pub entries : take (length old.index.entries) new.index.entries ≡ old.index.entries
+pub record IsKept (bytes : List ℕ) (first : List Place) (known : List (List ℕ × Found)) (new : Shelf) : Type 0 where
+  pub text : take (length bytes) new.text.items ≡ bytes
+  pub places : take (length first) new.places.items ≡ first
+  pub entries : take (length known) new.index.entries ≡ known
+
+abbrev pub Keeps : Shelf → Shelf → Type 0
+Keeps old new = IsKept old.text.items old.places.items old.index.entries new
+
+-- The objects that the file has stand before the mark, and the staged ones behind it.
+pub record IsMarked (address : List ℕ → List ℕ) (shelf : Shelf) (mark : Mark) : Type 0 where
+  pub all : IsShelf address shelf
+  pub stored : IsStocked address (take mark.text shelf.text.items) (take mark.places shelf.places.items) (take mark.entries shelf.index.entries)
+  pub text_within : mark.text ≤ length shelf.text.items
+  pub places_within : mark.places ≤ length shelf.places.items
 
 -- an object stands at the front
 abbrev pub BeginsWithText : List ℕ → Type 0
 BeginsWithText bytes = (text rest : List ℕ) × IsText text × (bytes ≡ text ++ rest)
 
 -- the refusal names what an object clashes with, where it does not want memory
-abbrev pub IsClash : (List ℕ → List ℕ) → Stored → List ℕ → PutRefused → Type 0
+abbrev pub IsClash : (List ℕ → List ℕ) → Stored → List ℕ → StageRefused → Type 0
 IsClash address stored x (Collision a y z) = (clash address x stored ≡ Some y) × (z ≡ x) × (a ≡ address x)
-IsClash address stored x DiskFault = ⊥
 IsClash address stored x Memory = Unit {0}

@@ -1,16 +1,18 @@
 // The objects in memory: one text, the place of each object in it, and the first of each address.
-ghost use Rattle.std.specs.Prelude.{◌≡◌, ◌≢◌, ℕ, ◌<◌, ◌≤◌, ◌++◌, ◌∷◌, [], List, Some, None, length, take, map, Err, IfOk, IfErr, OnOk, slice_index_or};
+ghost use Rattle.std.specs.Prelude.{◌≡◌, ℕ, ◌<◌, ◌≤◌, ◌++◌, ◌∷◌, [], List, Some, None, length, take, drop, map, IfOk, IfErr, OnOk, slice_index_or};
 ghost use Rattle.std.specs.List.{AllByRecursion};
 ghost use Rattle.std.specs.Option.{option_copied};
 ghost use Rattle.branch_objects_codec.specs.Grammar.{object_bytes};
 ghost use Rattle.branch_wire.specs.StoredObjects.{clash, collision, first_with, fresh, header};
 ghost use Rattle.object_store.specs.Stored.{IsFile, IsText};
-ghost use Rattle.object_store.specs.Shelves.{BeginsWithText, IsClash, IsShelf, Keeps, Noted, cut, entry_at, found_in, texts};
-ghost use Rattle.object_store.specs.Refusals.{Refuses};
+ghost use Rattle.branch_wire.specs.Objects.{commit_object, value_object};
+ghost use Rattle.object_store.specs.Commits.{commit_fields, commit_pair, root_fields};
+ghost use Rattle.object_store.specs.Shelves.{BeginsWithText, IsClash, IsKept, IsShelf, IsStockedTo, Keeps, Noted, cut, entry_at, found_in, texts, texts_of};
+ghost use Rattle.object_store.specs.Refusals.{RefusesToStage};
 
-use crate::errors::PutRefused;
+use crate::errors::StageRefused;
 use branch_address::Address;
-use branch_objects_codec::Object;
+use branch_objects_codec::{Action, Object, put_value};
 use branch_wire::{Cursor, push_address, put_u32};
 use indexmap::IndexMap;
 use mrdt_model::{Bytes, Listing, Memory};
@@ -70,19 +72,26 @@ impl Shelf {
         }
     }
 
-    // The header and two objects.
-    pub(crate) fn of_two<A: Address>(
+    // The header, a value, and the root commit that has it; and the address of that commit.
+    pub(crate) fn fresh<A: Address>(
         alloc: Global,
-        first: &Object,
-        second: &Object,
-    ) -> Result<Shelf, Memory>
-        ensures shelf { IfOk result (IsShelf A.address) }
-        ensures both { IfOk result (λ shelf. texts shelf ≡ object_bytes first.now ∷ object_bytes second.now ∷ []) }
+        value: &[u8],
+    ) -> Result<(Shelf, [u8; 32]), Memory>
+        ensures shelf { IfOk result (λ made. IsShelf A.address made.0) }
+        ensures both { IfOk result (λ made. texts made.0 ≡ value_object value.now ∷ commit_object (root_fields A.address value.now) ∷ []) }
+        ensures root { IfOk result (λ made. made.1 ≡ A.address (commit_object (root_fields A.address value.now))) }
     {
         let mut shelf = Shelf::new(header_text(alloc)?);
-        shelf.keep::<A>(first)?;
-        shelf.keep::<A>(second)?;
-        Ok(shelf)
+        let address = shelf.keep_value::<A>(value)?;
+        let root = Object::Commit {
+            parents: Listing::from_vec(Vec::new(alloc)),
+            branch: 0,
+            clock: 0,
+            value: address,
+            action: Action::Root,
+        };
+        let address = shelf.keep::<A>(&root)?;
+        Ok((shelf, address))
     }
 
     // The object with a number.
@@ -162,37 +171,59 @@ impl Shelf {
         Ok(())
     }
 
-    // Puts an object behind the others.
-    pub(crate) fn keep<A: Address>(&mut self, object: &Object) -> Result<(), Memory>
+    // Notes what the text has from a place on as an object behind the others, and says its address.
+    fn note_last<A: Address>(&mut self, start: usize) -> Result<[u8; 32], Memory>
+        requires { IsStockedTo A.address start self.old }
+        ensures shelf { OnOk result (IsShelf A.address self.new) }
+        ensures added { OnOk result (texts self.new ≡ texts_of (take start self.old.text.items) self.old.places.items ++ drop start self.old.text.items ∷ []) }
+        ensures address { IfOk result (λ address. address ≡ A.address (drop start self.old.text.items)) }
+    {
+        let end = self.text.len();
+        let address = A::of(&self.text[start..end]);
+        self.note::<A>(address, Place { start, end })?;
+        Ok(address)
+    }
+
+    // Puts a value behind the others, and says its address.
+    fn keep_value<A: Address>(&mut self, value: &[u8]) -> Result<[u8; 32], Memory>
+        requires { IsShelf A.address self.old }
+        ensures shelf { OnOk result (IsShelf A.address self.new) }
+        ensures added { OnOk result (texts self.new ≡ texts self.old ++ value_object value.now ∷ []) }
+        ensures address { IfOk result (λ address. address ≡ A.address (value_object value.now)) }
+    {
+        let start = self.text.len();
+        put_value(value, &mut self.text)?;
+        self.note_last::<A>(start)
+    }
+
+    // Puts an object behind the others, and says its address.
+    fn keep<A: Address>(&mut self, object: &Object) -> Result<[u8; 32], Memory>
         requires { IsShelf A.address self.old }
         ensures shelf { OnOk result (IsShelf A.address self.new) }
         ensures added { OnOk result (texts self.new ≡ texts self.old ++ object_bytes object.now ∷ []) }
+        ensures address { IfOk result (λ address. address ≡ A.address (object_bytes object.now)) }
     {
         let start = self.text.len();
         object.put(&mut self.text)?;
-        let end = self.text.len();
-        let address = A::of(&self.text[start..end]);
-        self.note::<A>(address, Place { start, end })
+        self.note_last::<A>(start)
     }
 
-    // Puts an object behind the others where it is not there, and says its address. After a refusal the objects
-    // stand first in what is held.
-    fn add<A: Address>(&mut self, object: &Object) -> Result<[u8; 32], PutRefused>
-        requires { IsShelf A.address self.old }
+    // Notes what the text has from a place on as an object behind the others where it is not there, and else cuts
+    // it off; and says its address. After a refusal what was noted stands first in what is held.
+    fn add_last<A: Address>(&mut self, start: usize) -> Result<[u8; 32], StageRefused>
+        requires { IsStockedTo A.address start self.old }
         ensures shelf { OnOk result (IsShelf A.address self.new) }
-        ensures added { OnOk result (texts self.new ≡ texts self.old ++ fresh (texts self.old) (object_bytes object.now ∷ [])) }
-        ensures address { IfOk result (λ address. address ≡ A.address (object_bytes object.now)) }
-        ensures free { OnOk result (clash A.address (object_bytes object.now) (texts self.old) ≡ None) }
-        ensures collides { IfErr result (IsClash A.address (texts self.old) (object_bytes object.now)) }
-        ensures kept { Keeps self.old self.new }
+        ensures added { OnOk result (texts self.new ≡ texts_of (take start self.old.text.items) self.old.places.items ++ fresh (texts_of (take start self.old.text.items) self.old.places.items) (drop start self.old.text.items ∷ [])) }
+        ensures address { IfOk result (λ address. address ≡ A.address (drop start self.old.text.items)) }
+        ensures free { OnOk result (clash A.address (drop start self.old.text.items) (texts_of (take start self.old.text.items) self.old.places.items) ≡ None) }
+        ensures collides { IfErr result (IsClash A.address (texts_of (take start self.old.text.items) self.old.places.items) (drop start self.old.text.items)) }
+        ensures kept { IsKept (take start self.old.text.items) self.old.places.items self.old.index.entries self.new }
     {
-        let start = self.text.len();
-        object.put(&mut self.text)?;
         let end = self.text.len();
         let address = A::of(&self.text[start..end]);
         if let Some(stored) = self.clash::<A>(&address, &self.text[start..end]) {
             let alloc = *self.text.allocator();
-            return Err(PutRefused::Collision {
+            return Err(StageRefused::Collision {
                 address,
                 stored: Bytes::from_slice(alloc, stored)?,
                 fresh: Bytes::from_slice(alloc, &self.text[start..end])?,
@@ -206,18 +237,77 @@ impl Shelf {
         Ok(address)
     }
 
+    // Puts a value behind the others where it is not there, and says its address. After a refusal the objects stand
+    // first in what is held.
+    fn add_value<A: Address>(&mut self, value: &[u8]) -> Result<[u8; 32], StageRefused>
+        requires { IsShelf A.address self.old }
+        ensures shelf { OnOk result (IsShelf A.address self.new) }
+        ensures added { OnOk result (texts self.new ≡ texts self.old ++ fresh (texts self.old) (value_object value.now ∷ [])) }
+        ensures address { IfOk result (λ address. address ≡ A.address (value_object value.now)) }
+        ensures free { OnOk result (clash A.address (value_object value.now) (texts self.old) ≡ None) }
+        ensures collides { IfErr result (IsClash A.address (texts self.old) (value_object value.now)) }
+        ensures kept { Keeps self.old self.new }
+    {
+        let start = self.text.len();
+        put_value(value, &mut self.text)?;
+        self.add_last::<A>(start)
+    }
+
+    // Puts an object behind the others where it is not there, and says its address. After a refusal the objects
+    // stand first in what is held.
+    fn add<A: Address>(&mut self, object: &Object) -> Result<[u8; 32], StageRefused>
+        requires { IsShelf A.address self.old }
+        ensures shelf { OnOk result (IsShelf A.address self.new) }
+        ensures added { OnOk result (texts self.new ≡ texts self.old ++ fresh (texts self.old) (object_bytes object.now ∷ [])) }
+        ensures address { IfOk result (λ address. address ≡ A.address (object_bytes object.now)) }
+        ensures free { OnOk result (clash A.address (object_bytes object.now) (texts self.old) ≡ None) }
+        ensures collides { IfErr result (IsClash A.address (texts self.old) (object_bytes object.now)) }
+        ensures kept { Keeps self.old self.new }
+    {
+        let start = self.text.len();
+        object.put(&mut self.text)?;
+        self.add_last::<A>(start)
+    }
+
+    // Adds a value, and the commit that has it, and says the address of the commit.
+    pub(crate) fn add_pair<A: Address>(
+        &mut self,
+        value: &[u8],
+        parents: Listing<[u8; 32]>,
+        branch: u32,
+        clock: u64,
+        action: Action,
+    ) -> Result<[u8; 32], StageRefused>
+        requires { IsShelf A.address self.old }
+        ensures shelf { OnOk result (IsShelf A.address self.new) }
+        ensures added { OnOk result (texts self.new ≡ texts self.old ++ fresh (texts self.old) (commit_pair A.address value.now parents branch clock action)) }
+        ensures address { IfOk result (λ address. address ≡ A.address (commit_object (commit_fields A.address value.now parents branch clock action))) }
+        ensures free { OnOk result (collision A.address (texts self.old) (commit_pair A.address value.now parents branch clock action) ≡ None) }
+        ensures collides { IfErr result (RefusesToStage A.address (texts self.old) (commit_pair A.address value.now parents branch clock action)) }
+        ensures kept { Keeps self.old self.new }
+    {
+        let address = self.add_value::<A>(value)?;
+        let commit = Object::Commit {
+            parents,
+            branch,
+            clock,
+            value: address,
+            action,
+        };
+        self.add::<A>(&commit)
+    }
+
     // Adds each of the objects in turn, and says their addresses.
     pub(crate) fn add_all<A: Address>(
         &mut self,
         objects: &[Object],
-    ) -> Result<Listing<[u8; 32]>, PutRefused>
+    ) -> Result<Listing<[u8; 32]>, StageRefused>
         requires { IsShelf A.address self.old }
         ensures shelf { OnOk result (IsShelf A.address self.new) }
         ensures added { OnOk result (texts self.new ≡ texts self.old ++ fresh (texts self.old) (map object_bytes objects.now)) }
         ensures addresses { IfOk result (λ addresses. addresses ≡ map (λ o. A.address (object_bytes o)) objects.now) }
         ensures free { OnOk result (collision A.address (texts self.old) (map object_bytes objects.now) ≡ None) }
-        ensures collides { IfErr result (Refuses A.address (texts self.old) (map object_bytes objects.now)) }
-        ensures no_fault { result ≢ Err PutRefused.DiskFault }
+        ensures collides { IfErr result (RefusesToStage A.address (texts self.old) (map object_bytes objects.now)) }
         ensures kept { Keeps self.old self.new }
     {
         let mut addresses = Vec::new(*self.text.allocator());

@@ -1,11 +1,11 @@
-// Stores over a disk in memory: a region, collisions, calls that fail, and a file that is read.
-ghost use Rattle.std.specs.Prelude.{IfOk};
+// Stores over a disk in memory: what is staged, written and dropped, collisions, calls that fail, and a file that is read.
+ghost use Rattle.std.specs.Prelude.{◌≡◌, [], IfOk, OnOk};
 ghost use Rattle.object_store.specs.Images.{AllBegin};
 ghost use Rattle.branch_wire.specs.StoredObjects.{file_of};
 ghost use Rattle.object_store.specs.Stored.{IsFile};
 
 use crate::shelf::header_text;
-use crate::{CreateRefused, Objects, PutRefused};
+use crate::{Objects, PutRefused, StageRefused};
 use branch_address::{Address, Sha256Address, WeakAddress};
 use branch_disk::{Disk, MemoryDisk, Part, read_whole};
 use branch_objects_codec::{Action, Object};
@@ -18,26 +18,35 @@ fn value(alloc: Global, byte: u8, count: usize) -> Result<Object, Memory> {
     Ok(Object::Value(Bytes::from_vec(vec![in alloc; byte; count]?)))
 }
 
-fn root(alloc: Global) -> Object {
+fn root(alloc: Global, value: [u8; 32]) -> Object {
     Object::Commit {
         parents: Listing::from_vec(Vec::new(alloc)),
         branch: 0,
         clock: 0,
-        value: [b'v'; 32],
+        value,
         action: Action::Root,
     }
 }
 
-fn operation(alloc: Global, clock: u64, op: &[u8], reply: &[u8]) -> Result<Object, Memory> {
+fn parents(alloc: Global) -> Result<Listing<[u8; 32]>, Memory> {
+    Ok(Listing::from_vec(Vec::from_slice(alloc, &[[b'p'; 32]])?))
+}
+
+// An operation that replied one.
+fn action(alloc: Global, op: &[u8]) -> Result<Action, Memory> {
+    Ok(Action::Operation {
+        op: Bytes::from_slice(alloc, op)?,
+        reply: Bytes::from_slice(alloc, b"\x01")?,
+    })
+}
+
+fn operation(alloc: Global, clock: u64, value: [u8; 32], op: &[u8]) -> Result<Object, Memory> {
     Ok(Object::Commit {
-        parents: Listing::from_vec(Vec::from_slice(alloc, &[[b'p'; 32]])?),
+        parents: parents(alloc)?,
         branch: 0,
         clock,
-        value: [b'v'; 32],
-        action: Action::Operation {
-            op: Bytes::from_slice(alloc, op)?,
-            reply: Bytes::from_slice(alloc, reply)?,
-        },
+        value,
+        action: action(alloc, op)?,
     })
 }
 
@@ -47,6 +56,10 @@ fn spelled(alloc: Global, object: &Object) -> Result<Vec<u8>, Memory> {
     Ok(out)
 }
 
+fn address_of(alloc: Global, object: &Object) -> Result<[u8; 32], Memory> {
+    Ok(Sha256Address::of(&spelled(alloc, object)?))
+}
+
 fn weak(last: u8) -> [u8; 32] {
     let mut address = [0; 32];
     address[31] = last;
@@ -54,11 +67,96 @@ fn weak(last: u8) -> [u8; 32] {
 }
 
 // A store of a value of 104 bytes and of the root commit.
-fn started<A: Address>(alloc: Global, disk: &mut MemoryDisk) -> Result<Objects<A>, CreateRefused>
-    ensures { IfOk result (λ objects. AllBegin (file_of objects) (⟦<MemoryDisk as Disk>⟧.may_leave disk.new)) }
+fn started<A: Address>(alloc: Global, disk: &mut MemoryDisk) -> Result<Objects<A>, PutRefused>
+    ensures stored { IfOk result (λ objects. AllBegin (file_of objects.stored) (⟦<MemoryDisk as Disk>⟧.may_leave disk.new)) }
+    ensures staged { IfOk result (λ objects. objects.staged ≡ []) }
 {
-    let first = value(alloc, 0, 104)?;
-    Objects::create(alloc, disk, &first, &root(alloc))
+    let (objects, _) = Objects::<A>::fresh(alloc, &[0; 104])?;
+    objects.create_in(disk)?;
+    Ok(objects)
+}
+
+// Stages a commit with a value, whose operation has 21 bytes.
+fn stage<A: Address>(
+    alloc: Global,
+    objects: &mut Objects<A>,
+    value: &[u8],
+    op: u8,
+) -> Result<[u8; 32], StageRefused>
+    requires { objects.old.staged ≡ [] }
+    ensures { OnOk result (objects.new.stored ≡ objects.old.stored) }
+{
+    objects.stage(value, parents(alloc)?, 0, 1, action(alloc, &[op; 21])?)
+}
+
+// The bytes of the commit that is staged so with a value of 140 bytes.
+fn staged_commit(alloc: Global) -> Result<Vec<u8>, Memory> {
+    let address = address_of(alloc, &value(alloc, 3, 140)?)?;
+    spelled(alloc, &operation(alloc, 1, address, &[1; 21])?)
+}
+
+#[test]
+fn a_fresh_store_is_told_its_root(rt: HostRuntime) {
+    let alloc = rt.alloc();
+    let (objects, address) = Objects::<Sha256Address>::fresh(alloc, &[0; 104]).expect(
+        &rt, "objects",
+    );
+    let first = value(alloc, 0, 104).expect(&rt, "a value");
+    let known = root(alloc, address_of(alloc, &first).expect(&rt, "an address"));
+    assert!(rt; address == address_of(alloc, &known).expect(&rt, "an address"));
+    let text = spelled(alloc, &known).expect(&rt, "bytes");
+    assert!(rt; objects.get(&address) == Some(text.as_slice()));
+    assert!(rt; objects.end() == 191 && objects.staged().is_empty());
+}
+
+// Stages that commit, and writes it.
+fn store<A: Address>(
+    alloc: Global,
+    disk: &mut MemoryDisk,
+    objects: &mut Objects<A>,
+) -> Result<[u8; 32], PutRefused>
+    requires staged { objects.old.staged ≡ [] }
+    requires stored { AllBegin (file_of objects.old.stored) (⟦<MemoryDisk as Disk>⟧.may_leave disk.old) }
+    ensures staged { OnOk result (objects.new.staged ≡ []) }
+    ensures stored { OnOk result (AllBegin (file_of objects.new.stored) (⟦<MemoryDisk as Disk>⟧.may_leave disk.new)) }
+{
+    let address = stage(alloc, objects, &[3; 140], 1)?;
+    objects.write(disk)?;
+    objects.keep_staged();
+    Ok(address)
+}
+
+#[test]
+fn a_commit_is_staged_and_then_written(rt: HostRuntime) {
+    let alloc = rt.alloc();
+    let mut disk = MemoryDisk::new(Vec::new(alloc));
+    let mut objects = started::<Sha256Address>(alloc, &mut disk).expect(&rt, "objects");
+    let text = staged_commit(alloc).expect(&rt, "bytes");
+    let address = store(alloc, &mut disk, &mut objects).expect(&rt, "an address");
+    assert!(rt; address == Sha256Address::of(&text) && disk.calls() == 4);
+    assert!(rt; objects.staged().is_empty() && objects.end() == 472);
+    // What is stored already is not staged again, and then there is no device call.
+    let again = store(alloc, &mut disk, &mut objects).expect(&rt, "an address");
+    assert!(rt; again == address && disk.calls() == 4 && objects.end() == 472);
+    let file = read_whole(alloc, &mut disk, Part::Objects).expect(&rt, "a file");
+    assert!(rt; file.len() == 472 && &file[..16] == HEADER && &file[340..] == text.as_slice());
+}
+
+#[test]
+fn staged_objects_are_dropped_or_kept(rt: HostRuntime) {
+    let alloc = rt.alloc();
+    let (mut objects, _) = Objects::<Sha256Address>::fresh(alloc, &[0; 104]).expect(&rt, "objects");
+    let address = stage(alloc, &mut objects, &[3; 140], 1).expect(&rt, "an address");
+    let text = staged_commit(alloc).expect(&rt, "bytes");
+    assert!(rt; objects.staged().len() == 281 && objects.end() == 472);
+    assert!(rt; objects.get(&address) == Some(text.as_slice()));
+    objects.drop_staged();
+    assert!(rt; objects.end() == 191 && objects.get(&address).is_none());
+    let address = stage(alloc, &mut objects, &[3; 140], 1).expect(&rt, "an address");
+    objects.keep_staged();
+    assert!(rt;
+        objects.end() == 472 && objects.staged().is_empty() && objects.get(&address).is_some()
+    );
 }
 
 // A value of so many bytes, and a commit of an operation of so many that replied one.
@@ -71,7 +169,7 @@ fn region(
 ) -> Result<[Object; 2], Memory> {
     Ok([
         value(alloc, byte, long)?,
-        operation(alloc, clock, op, b"\x01")?,
+        operation(alloc, clock, [b'v'; 32], op)?,
     ])
 }
 
@@ -90,16 +188,14 @@ fn a_region_is_written_behind_the_root(rt: HostRuntime) {
     assert!(rt; file.len() == 472 && &file[..16] == HEADER && &file[191..340] == text.as_slice());
 }
 
-// What a list collides with: the last byte of the address, and the first bytes of both bodies.
-fn collides(answer: Result<Listing<[u8; 32]>, PutRefused>) -> Option<(u8, u8, u8)> {
-    match &answer {
-        Err(
-            PutRefused::Collision {
-                address,
-                stored,
-                fresh,
-            },
-        ) => Some((
+// What collides: the last byte of the address, and the first bytes of both bodies.
+fn collides(refused: &PutRefused) -> Option<(u8, u8, u8)> {
+    match refused {
+        PutRefused::Collision {
+            address,
+            stored,
+            fresh,
+        } => Some((
             address[31],
             *stored.as_slice().get(9)?,
             *fresh.as_slice().get(9)?,
@@ -116,8 +212,21 @@ fn second(alloc: Global, byte: u8) -> Result<Option<(u8, u8, u8)>, PutRefused> {
         return Err(PutRefused::DiskFault);
     };
     objects.put_all(&mut disk, &region(alloc, 1, 137, 1, &[1; 18])?)?;
-    let answer = objects.put_all(&mut disk, &region(alloc, byte, 137, 2, &[2; 18])?);
-    Ok(collides(answer))
+    match objects.put_all(&mut disk, &region(alloc, byte, 137, 2, &[2; 18])?) {
+        Ok(_) => Ok(None),
+        Err(refused) => Ok(collides(&refused)),
+    }
+}
+
+// The same of a commit that is staged: its value has 137 bytes, and its operation 21.
+fn second_staged(alloc: Global, byte: u8) -> Result<Option<(u8, u8, u8)>, PutRefused> {
+    let (mut objects, _) = Objects::<WeakAddress>::fresh(alloc, &[0; 104])?;
+    stage(alloc, &mut objects, &[1; 137], 1)?;
+    objects.keep_staged();
+    match stage(alloc, &mut objects, &[byte; 137], 2) {
+        Ok(_) => Ok(None),
+        Err(refused) => Ok(collides(&PutRefused::from(refused))),
+    }
 }
 
 #[test]
@@ -126,15 +235,18 @@ fn other_bytes_with_the_address_collide(rt: HostRuntime) {
     for (byte, collision) in [(2, (0x92, 1, 2)), (1, (0x81, 0, 0))] {
         assert!(rt; second(rt.alloc(), byte).ok() == Some(Some(collision)));
     }
+    for (byte, collision) in [(2, (0x92, 1, 2)), (1, (0x84, 0, 0))] {
+        assert!(rt; second_staged(rt.alloc(), byte).ok() == Some(Some(collision)));
+    }
 }
 
-// What is refused where one device call fails: 1 creating, 2 storing, 3 nothing.
+// What is refused where one device call fails: 1 creating, 2 storing a list, 3 nothing.
 fn refused_at(alloc: Global, call: u64) -> Result<u8, Memory> {
     let mut disk = MemoryDisk::new(vec![in alloc; call; 1]?);
     let mut objects = match started::<Sha256Address>(alloc, &mut disk) {
         Ok(objects) => objects,
-        Err(CreateRefused::DiskFault) => return Ok(1),
-        Err(CreateRefused::Memory) => return Err(Memory),
+        Err(PutRefused::DiskFault) => return Ok(1),
+        Err(_) => return Err(Memory),
     };
     match objects.put_all(&mut disk, &region(alloc, 3, 140, 1, &[1; 21])?) {
         Ok(_) => Ok(3),
@@ -143,10 +255,33 @@ fn refused_at(alloc: Global, call: u64) -> Result<u8, Memory> {
     }
 }
 
+// How many bytes the file is to have before and after what is staged is dropped, where a call that writes it fails;
+// none where it is written.
+fn ends_at(alloc: Global, failing: Vec<u64>) -> Result<Option<(u64, u64)>, PutRefused> {
+    let mut disk = MemoryDisk::new(failing);
+    let mut objects = started::<Sha256Address>(alloc, &mut disk)?;
+    stage(alloc, &mut objects, &[3; 140], 1)?;
+    match objects.write(&mut disk) {
+        Ok(()) => Ok(None),
+        Err(_) => {
+            let held = objects.end();
+            objects.drop_staged();
+            Ok(Some((held, objects.end())))
+        }
+    }
+}
+
 #[test]
 fn each_device_call_may_fail(rt: HostRuntime) {
     for (call, refused) in [(1, 1), (2, 1), (3, 2), (4, 2), (5, 3)] {
         assert!(rt; refused_at(rt.alloc(), call) == Ok(refused), "call {call}");
+    }
+    for (call, ends) in [(3, Some((472, 191))), (4, Some((472, 191))), (5, None)] {
+        let failing = vec![in rt.alloc(); call; 1].expect(&rt, "a list");
+        assert!(rt;
+            ends_at(rt.alloc(), failing).ok() == Some(ends),
+            "call {call}"
+        );
     }
 }
 
