@@ -10,11 +10,11 @@ use Rattle.branch_history.specs.Steps as machine
 use Rattle.branch_history.specs.Machine.{turn, answers, unless, makes, operation_refusal, merge_refusal, forward_refusal, commit_refusal, event_made}
 use Rattle.branch_history.proofs.Valid.{store_of-more}
 use Rattle.branch_history.proofs.Stores.{head_of-same}
-use Rattle.store_core.specs.declared.answers.Kind.{Kind}
-use Rattle.store_core.specs.declared.answers.Kind.TheVariants as kind
-use Rattle.store_core.specs.Turns.{Moves, step_of, move_of, outcome_of}
-use Rattle.store_core.specs.Views.{Work}
-use Rattle.store_core.specs.Views as work
+use Rattle.store_seen.specs.declared.answers.Kind.{Kind}
+use Rattle.store_seen.specs.declared.answers.Kind.TheVariants as kind
+use Rattle.store_seen.specs.Turns.{Moves, step_of, move_of, outcome_of}
+use Rattle.store_seen.specs.Views.{Work}
+use Rattle.store_seen.specs.Views as work
 use Rattle.branch_print.specs.Texts.{outcome_text}
 use Rattle.branch_engine.specs.Sessions.{Sight}
 use Rattle.branch_doc.specs.Document.{document}

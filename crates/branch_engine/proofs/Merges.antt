@@ -4,10 +4,10 @@ use mathlib.Core.List.{IsPrefix}
 use Rattle.branch_history.specs.declared.moves.Move.{Move}
 use Rattle.branch_history.specs.Steps as machine
 use Rattle.branch_history.specs.Machine.{turn, answers}
-use Rattle.store_core.specs.Turns.{step_of}
-use Rattle.store_core.specs.Pairs.{seen_of, IsPaired, MergesAs, IsWorkOf}
-use Rattle.store_core.specs.Views.{PairView, PreparedView, Work}
-use Rattle.store_core.specs.Views as work
+use Rattle.store_seen.specs.Turns.{step_of}
+use Rattle.store_seen.specs.Pairs.{seen_of, IsPaired, MergesAs, IsWorkOf}
+use Rattle.store_seen.specs.Views.{PairView, PreparedView, Work}
+use Rattle.store_seen.specs.Views as work
 use Rattle.branch_doc.specs.Document.{document}
 use Rattle.branch_doc.specs.Forms.{DocOp, DocReply, DocQuery, DocAnswer}
 use Rattle.branch_engine.specs.Engines.{Core, Seen}

@@ -3,8 +3,8 @@ use Rattle.std.proofs.Common.{◌≡◌, ℕ, List, [], ◌∷◌, ◌++◌, ref
 use Rattle.std.specs.Option.{option_map}
 use Rattle.branch_names.specs.declared.limits.Limits.{Limits}
 use Rattle.branch_names.specs.Heads.{name_of}
-use Rattle.store_core.specs.declared.answers.Kind.{Kind}
-use Rattle.store_core.specs.Turns.{Moves, outcome_of}
+use Rattle.store_seen.specs.declared.answers.Kind.{Kind}
+use Rattle.store_seen.specs.Turns.{Moves, outcome_of}
 use Rattle.branch_history.specs.declared.moves.Move.{Move}
 use Rattle.branch_history.specs.declared.moves.Move.TheVariants as move
 use Rattle.branch_history.specs.History.{store_of}

@@ -12,9 +12,9 @@ use Rattle.branch_names.specs.declared.limits.Limits.{Limits}
 use Rattle.branch_names.specs.Heads.{head_of}
 use Rattle.branch_history.specs.History.{store_of}
 use Rattle.branch_history.specs.declared.moves.Move.{Move}
-use Rattle.store_core.specs.Views.{CoreView, SeenView}
-use Rattle.store_core.specs.declared.answers.Kind.{Kind}
-use Rattle.store_core.specs.declared.answers.Kind.TheVariants as kind
+use Rattle.store_seen.specs.Views.{CoreView, SeenView}
+use Rattle.store_seen.specs.declared.answers.Kind.{Kind}
+use Rattle.store_seen.specs.declared.answers.Kind.TheVariants as kind
 use Rattle.branch_print.specs.Texts.{landed_text, merged_text, forward_text}
 use Rattle.branch_engine.specs.Sessions.{Sight, seen_by}
 use Rattle.branch_doc.specs.Forms.{DocOp, DocReply, plain_reply}

@@ -4,7 +4,7 @@ ghost use mathlib.Core.List.{IsPrefix};
 ghost use Rattle.branch_names.specs.Heads.{name_of};
 ghost use Rattle.branch_history.specs.History.{store_of};
 ghost use Rattle.branch_history.specs.Steps.{Stale};
-ghost use Rattle.store_core.specs.Turns.{step_of};
+ghost use Rattle.store_seen.specs.Turns.{step_of};
 ghost use Rattle.branch_print.specs.Texts.{refusal_text, line_end};
 ghost use Rattle.mrdt_model.specs.Spelled.{AppendsPart};
 ghost use Rattle.branch_engine.specs.Engines.{IsAt, Does, Puts, KeepsLooks, SeesHead, kind_text};
@@ -26,17 +26,20 @@ use mrdt_model::Memory;
 use std::alloc::Global;
 use std::collections::BTreeMap;
 use std::marker::Model;
-use store_core::{
-    Core, ForkRefused, Kind, LandRefused, LookRefused, PairPrepareRefused, PairRefused, PairStep,
-    PrepareRefused, Prepared, Seen,
+use store_seen::{
+    ForkRefused, Kind, LandRefused, LookRefused, PairPrepareRefused, PairRefused, PairStep,
+    PrepareRefused, Prepared, Seen, Versions,
 };
+
+// The commits of a store in memory alone have no stored objects.
+const NO_ADDRESS: [u8; 32] = [0; 32];
 
 /// A core, and what each session sees. Contracts see an `EngineView`: the core's view, and that of each
 /// session's look.
 #[derive(Drop)]
 pub struct Engine {
     alloc: Global,
-    core: Core<Doc>,
+    versions: Versions<Doc>,
     sessions: BTreeMap<Name, Seen<Doc>>,
 }
 
@@ -45,9 +48,9 @@ impl Model for Engine {
 
     ghost Value = { EngineView };
 
-    ghost view = { λ e. record { core = e.core; sessions = e.sessions.entries } };
+    ghost view = { λ e. record { core = e.versions.core; sessions = e.sessions.entries } };
 
-    ghost invariant = { λ e. AreLooksAt e.core e.sessions.entries };
+    ghost invariant = { λ e. AreLooksAt e.versions.core e.sessions.entries };
 }
 
 // A session sees this from now on.
@@ -88,7 +91,7 @@ impl Engine {
     {
         Ok(Engine {
             alloc,
-            core: Core::fresh(alloc, limits)?,
+            versions: Versions::fresh(alloc, limits, NO_ADDRESS)?,
             sessions: BTreeMap::new(alloc),
         })
     }
@@ -111,8 +114,8 @@ impl Engine {
         ensures sees { OnOk result (SeesHead self.old self.new session.now branch) }
         ensures kept { OnErr result (KeepsLooks self.old.sessions self.new.sessions) }
     {
-        let (name, _) = self.core.branch(branch).unwrap();
-        match self.core.look(&name) {
+        let (name, _) = self.versions.branch(branch).unwrap();
+        match self.versions.look(&name) {
             Ok(seen) => self.sees(session, seen),
             Err(LookRefused::UnknownBranch { .. }) => unreachable!(),
             Err(LookRefused::Memory) => Err(Memory),
@@ -123,7 +126,7 @@ impl Engine {
     fn look(&mut self, out: &mut Vec<u8>, session: &Name, branch: &Name) -> Result<(), Memory>
         ensures { Does (λ limits p. step_told limits p (step.Look session.now branch.now)) self.old self.new out.old.items out.new.items result }
     {
-        match self.core.look(branch) {
+        match self.versions.look(branch) {
             Ok(seen) => {
                 put_sees(out, session, branch, seen.head())?;
                 self.sees(session, seen)
@@ -137,7 +140,7 @@ impl Engine {
     fn fork(&mut self, out: &mut Vec<u8>, new: &Name, from: &Name) -> Result<(), Memory>
         ensures { Does (λ limits p. step_told limits p (step.Fork new.now from.now)) self.old self.new out.old.items out.new.items result }
     {
-        let forked = match self.core.fork(*new, from) {
+        let forked = match self.versions.fork(*new, from) {
             Ok(forked) => forked,
             Err(ForkRefused::UnknownBranch { .. }) => return put_unknown(out, from),
             Err(ForkRefused::NameTaken { number }) => return put_taken(out, number),
@@ -152,7 +155,7 @@ impl Engine {
     fn ask(&self, out: &mut Vec<u8>, branch: &Name, query: PlainQuery) -> Result<(), Memory>
         ensures { Does (λ limits p. step_told limits p (step.Ask branch.now query)) self.now self.now out.old.items out.new.items result }
     {
-        let seen = match self.core.look(branch) {
+        let seen = match self.versions.look(branch) {
             Ok(seen) => seen,
             Err(LookRefused::UnknownBranch { .. }) => return put_unknown(out, branch),
             Err(LookRefused::Memory) => return Err(Memory),
@@ -185,7 +188,7 @@ impl Engine {
             return put_unseen(out, session);
         };
         let branch = seen.branch();
-        let pair = match self.core.pair(seen, from) {
+        let pair = match self.versions.pair(seen, from) {
             Ok(pair) => pair,
             Err(PairRefused::UnknownBranch { .. }) => return put_unknown(out, from),
             Err(PairRefused::Memory) => return Err(Memory),
@@ -216,7 +219,7 @@ impl Engine {
         requires within { branch < length (store_of self.old.core.history).branches }
         ensures { Does (λ limits p. turn_told limits p session.now branch (step_of prepared.seen prepared.work)) self.old self.new out.old.items out.new.items result }
     {
-        match self.core.land(prepared) {
+        match self.versions.land(prepared, NO_ADDRESS) {
             Ok(landed) => {
                 put_kind(out, landed.kind)?;
                 self.sees_head(session, branch)
@@ -234,7 +237,7 @@ impl Engine {
         ensures ok { OnOk result (out.new.items ≡ out.old.items ++ (refusal_text (name_of (store_of self.now.core.history).branches branch) (Stale newest) ++ line_end)) }
         ensures err { OnErr result (AppendsPart out.old.items out.new.items (refusal_text (name_of (store_of self.now.core.history).branches branch) (Stale newest) ++ line_end)) }
     {
-        let (name, _) = self.core.branch(branch).unwrap();
+        let (name, _) = self.versions.branch(branch).unwrap();
         put_stale(out, &name, newest)
     }
 

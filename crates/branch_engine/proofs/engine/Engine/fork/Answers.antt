@@ -24,45 +24,45 @@ refused old core new_core sessions out out' new from r refusal view kept is ok e
 
 pub returns-in-Err-UnknownBranch : goal.returns-in-Err-UnknownBranch
 returns-in-Err-UnknownBranch c =
-    refused c.args.self.now c.self.inside.core c.fork.new.self c.self.inside.sessions.entries c.args.out.now.items c.put_unknown.new.out.items c.args.new.now c.args.from.now c.put_unknown.result
-    (machine.UnknownBranch c.args.from.now) c.self.view_is c.in-Err-UnknownBranch.ensures.kept (rw c.in-Err-UnknownBranch.field-0-is at c.in-Err-UnknownBranch.ensures.refused).1
+    refused c.args.self.now c.self.inside.versions.core c.fork.new.self.core c.self.inside.sessions.entries c.args.out.now.items c.put_unknown.new.out.items c.args.new.now c.args.from.now c.put_unknown.result
+    (machine.UnknownBranch c.args.from.now) c.self.view_is (ap (λ v. v.core) c.in-Err-UnknownBranch.ensures.kept) (rw c.in-Err-UnknownBranch.field-0-is at c.in-Err-UnknownBranch.ensures.refused).1
     c.put_unknown.ensures.ok c.put_unknown.ensures.err
 
 pub returns-in-Err-NameTaken : goal.returns-in-Err-NameTaken
 returns-in-Err-NameTaken c =
-    refused c.args.self.now c.self.inside.core c.fork.new.self c.self.inside.sessions.entries c.args.out.now.items c.put_taken.new.out.items c.args.new.now c.args.from.now c.put_taken.result
-    (machine.NameTaken c.in-Err-NameTaken.number) c.self.view_is c.in-Err-NameTaken.ensures.kept (rw c.in-Err-NameTaken.field-0-is at c.in-Err-NameTaken.ensures.refused)
+    refused c.args.self.now c.self.inside.versions.core c.fork.new.self.core c.self.inside.sessions.entries c.args.out.now.items c.put_taken.new.out.items c.args.new.now c.args.from.now c.put_taken.result
+    (machine.NameTaken c.in-Err-NameTaken.number) c.self.view_is (ap (λ v. v.core) c.in-Err-NameTaken.ensures.kept) (rw c.in-Err-NameTaken.field-0-is at c.in-Err-NameTaken.ensures.refused)
     c.put_taken.ensures.ok c.put_taken.ensures.err
 
 pub returns-in-Err-FullBranches : goal.returns-in-Err-FullBranches
 returns-in-Err-FullBranches c =
-    refused c.args.self.now c.self.inside.core c.fork.new.self c.self.inside.sessions.entries c.args.out.now.items c.put_full_branches.new.out.items c.args.new.now c.args.from.now c.put_full_branches.result
-    (machine.FullBranches c.in-Err-FullBranches.count) c.self.view_is c.in-Err-FullBranches.ensures.kept (rw c.in-Err-FullBranches.field-0-is at c.in-Err-FullBranches.ensures.refused)
+    refused c.args.self.now c.self.inside.versions.core c.fork.new.self.core c.self.inside.sessions.entries c.args.out.now.items c.put_full_branches.new.out.items c.args.new.now c.args.from.now c.put_full_branches.result
+    (machine.FullBranches c.in-Err-FullBranches.count) c.self.view_is (ap (λ v. v.core) c.in-Err-FullBranches.ensures.kept) (rw c.in-Err-FullBranches.field-0-is at c.in-Err-FullBranches.ensures.refused)
     c.put_full_branches.ensures.ok c.put_full_branches.ensures.err
 
 pub returns-in-Err-FullMoves : goal.returns-in-Err-FullMoves
 returns-in-Err-FullMoves c =
-    refused c.args.self.now c.self.inside.core c.fork.new.self c.self.inside.sessions.entries c.args.out.now.items c.put_full_moves.new.out.items c.args.new.now c.args.from.now c.put_full_moves.result
-    (machine.FullMoves c.in-Err-FullMoves.count) c.self.view_is c.in-Err-FullMoves.ensures.kept (rw c.in-Err-FullMoves.field-0-is at c.in-Err-FullMoves.ensures.refused)
+    refused c.args.self.now c.self.inside.versions.core c.fork.new.self.core c.self.inside.sessions.entries c.args.out.now.items c.put_full_moves.new.out.items c.args.new.now c.args.from.now c.put_full_moves.result
+    (machine.FullMoves c.in-Err-FullMoves.count) c.self.view_is (ap (λ v. v.core) c.in-Err-FullMoves.ensures.kept) (rw c.in-Err-FullMoves.field-0-is at c.in-Err-FullMoves.ensures.refused)
     c.put_full_moves.ensures.ok c.put_full_moves.ensures.err
 
 pub returns-in-Err-Memory : goal.returns-in-Err-Memory
 returns-in-Err-Memory c = record {
   ok = tt;
-  err = nothing_done (fork_telling c.args.new.now c.args.from.now) c.args.self.now (view_of c.fork.new.self c.self.inside.sessions.entries) c.args.out.now.items (ap (λ k. view_of k c.self.inside.sessions.entries) c.in-Err-Memory.ensures.kept ∙ c.self.view_is);
+  err = nothing_done (fork_telling c.args.new.now c.args.from.now) c.args.self.now (view_of c.fork.new.self.core c.self.inside.sessions.entries) c.args.out.now.items (ap (λ k. view_of k c.self.inside.sessions.entries) (ap (λ v. v.core) c.in-Err-Memory.ensures.kept) ∙ c.self.view_is);
 }
 
 pub returns : goal.returns
 returns c =
     let new = c.args.new.now in
     let from = c.args.from.now in
-    let core = c.self.inside.core in
+    let core = c.self.inside.versions.core in
     let sessions = c.self.inside.sessions.entries in
     let made = c.in-Ok.ensures.forked in
     let number = c.in-Ok.forked.number in
     let head = c.in-Ok.forked.head in
-    subst (λ v. Does (fork_telling new from) v (view_of c.fork.new.self sessions) c.args.out.now.items c.put_forked.new.out.items c.put_forked.result) c.self.view_is
-    (ends_so (fork_telling new from) (view_of core sessions) (view_of c.fork.new.self sessions) c.args.out.now.items c.put_forked.new.out.items (forked_text new number head ++ line_end) c.put_forked.result
-    (forked (view_of core sessions) c.fork.new.self new from number made.0 head made.1.turn_is made.1.history)
-    (forked_half (view_of core sessions) c.fork.new.self new from number made.0 head made.1.turn_is made.1.history)
+    subst (λ v. Does (fork_telling new from) v (view_of c.fork.new.self.core sessions) c.args.out.now.items c.put_forked.new.out.items c.put_forked.result) c.self.view_is
+    (ends_so (fork_telling new from) (view_of core sessions) (view_of c.fork.new.self.core sessions) c.args.out.now.items c.put_forked.new.out.items (forked_text new number head ++ line_end) c.put_forked.result
+    (forked (view_of core sessions) c.fork.new.self.core new from number made.0 head made.1.turn_is made.1.history)
+    (forked_half (view_of core sessions) c.fork.new.self.core new from number made.0 head made.1.turn_is made.1.history)
     c.put_forked.ensures.ok c.put_forked.ensures.err)

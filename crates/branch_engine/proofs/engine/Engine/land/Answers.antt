@@ -7,8 +7,8 @@ use Rattle.branch_names.specs.Heads.{name_of}
 use Rattle.branch_history.specs.History.{store_of}
 use Rattle.branch_history.specs.Steps as machine
 use Rattle.branch_history.specs.Machine.{turn, answers}
-use Rattle.store_core.specs.Views.{PreparedView}
-use Rattle.store_core.specs.Turns.{step_of, FromOn}
+use Rattle.store_seen.specs.Views.{PreparedView}
+use Rattle.store_seen.specs.Turns.{step_of, FromOn}
 use Rattle.branch_print.specs.Texts.{refusal_text, unseen_text, line_end}
 use Rattle.branch_doc.specs.declared.plain.PlainOp.{PlainOp}
 use Rattle.branch_doc.specs.Document.{document}
@@ -75,7 +75,7 @@ move_on-requires-clause-history c =
     let found : session_named c.self.inside.sessions.entries session ≡ Some seen = sym c.in-Some.ensures.value in
     let look = c.self.invariant session seen found in
     subst (λ (v : EngineView). IsPrefix c.in-Ok.prepared.seen.history v.core.history) c.self.view_is
-    (subst (λ (m : PreparedView DocOp DocReply). IsPrefix m.seen.history c.self.inside.core.history) (sym c.in-Ok.ensures.prepared) look.0)
+    (subst (λ (m : PreparedView DocOp DocReply). IsPrefix m.seen.history c.self.inside.versions.core.history) (sym c.in-Ok.ensures.prepared) look.0)
 
 pub move_on-requires-clause-limits : goal.move_on-requires-clause-limits
 move_on-requires-clause-limits c =
@@ -84,14 +84,14 @@ move_on-requires-clause-limits c =
     let found : session_named c.self.inside.sessions.entries session ≡ Some seen = sym c.in-Some.ensures.value in
     let look = c.self.invariant session seen found in
     subst (λ (v : EngineView). c.in-Ok.prepared.seen.limits ≡ v.core.limits) c.self.view_is
-    (subst (λ (m : PreparedView DocOp DocReply). m.seen.limits ≡ c.self.inside.core.limits) (sym c.in-Ok.ensures.prepared) look.1)
+    (subst (λ (m : PreparedView DocOp DocReply). m.seen.limits ≡ c.self.inside.versions.core.limits) (sym c.in-Ok.ensures.prepared) look.1)
 
 pub move_on-requires-clause-branch : goal.move_on-requires-clause-branch
 move_on-requires-clause-branch c = rw c.branch-branch.ensures.branch (ap (λ (m : PreparedView DocOp DocReply). m.seen.branch) c.in-Ok.ensures.prepared)
 
 pub move_on-requires-clause-within : goal.move_on-requires-clause-within
 move_on-requires-clause-within c =
-    let core = c.self.inside.core in
+    let core = c.self.inside.versions.core in
     let session = c.args.session.now in
     let seen = c.in-Some.seen.now in
     let found : session_named c.self.inside.sessions.entries session ≡ Some seen = sym c.in-Some.ensures.value in

@@ -7,8 +7,8 @@ use Rattle.branch_names.specs.Heads.{name_of}
 use Rattle.branch_history.specs.History.{store_of}
 use Rattle.branch_history.specs.Steps as machine
 use Rattle.branch_history.specs.Machine.{turn, answers}
-use Rattle.store_core.specs.Pairs.{IsPaired, MergesAs}
-use Rattle.store_core.specs.Turns.{step_of}
+use Rattle.store_seen.specs.Pairs.{IsPaired, MergesAs}
+use Rattle.store_seen.specs.Turns.{step_of}
 use Rattle.branch_print.specs.Texts.{outcome_text, refusal_text, unseen_text, same_text, line_end}
 use Rattle.branch_doc.specs.Document.{document}
 use Rattle.branch_doc.specs.Forms.{DocReply, DocQuery, DocAnswer}
@@ -75,7 +75,7 @@ returns-in-Ok-Same c =
     let out = c.args.out.now.items in
     let seen = c.in-Some.seen.now in
     subst (λ (v : EngineView). Does (merge_telling session from) v v out c.put_same.new.out.items c.put_same.result) c.self.view_is
-    (unmoved (view_of c.self.inside.core c.self.inside.sessions.entries) out c.put_same.new.out.items session from seen c.in-Ok.pair c.in-Ok.ensures.paired c.put_same.result machine.Same same_text
+    (unmoved (view_of c.self.inside.versions.core c.self.inside.sessions.entries) out c.put_same.new.out.items session from seen c.in-Ok.pair c.in-Ok.ensures.paired c.put_same.result machine.Same same_text
     (sym c.in-Some.ensures.value) (rw c.in-Ok-Same.field-0-is at c.in-Ok-Same.ensures.step) refl c.put_same.ensures.ok c.put_same.ensures.err refl)
 
 pub returns-in-Err-ValueTooLarge : goal.returns-in-Err-ValueTooLarge
@@ -86,12 +86,12 @@ returns-in-Err-ValueTooLarge c =
     let seen = c.in-Some.seen.now in
     let refusal = machine.ValueTooLarge c.in-Err-ValueTooLarge.length in
     subst (λ (v : EngineView). Does (merge_telling session from) v v out c.put_too_large.new.out.items c.put_too_large.result) c.self.view_is
-    (unmoved (view_of c.self.inside.core c.self.inside.sessions.entries) out c.put_too_large.new.out.items session from seen c.in-Ok.pair c.in-Ok.ensures.paired c.put_too_large.result (machine.Refused refusal) (refusal_text [] refusal)
+    (unmoved (view_of c.self.inside.versions.core c.self.inside.sessions.entries) out c.put_too_large.new.out.items session from seen c.in-Ok.pair c.in-Ok.ensures.paired c.put_too_large.result (machine.Refused refusal) (refusal_text [] refusal)
     (sym c.in-Some.ensures.value) (rw c.in-Err-ValueTooLarge.field-0-is at c.in-Err-ValueTooLarge.ensures.refused) refl c.put_too_large.ensures.ok c.put_too_large.ensures.err refl)
 
 pub move_on-requires-clause-history : goal.move_on-requires-clause-history
 move_on-requires-clause-history c =
-    let core = c.self.inside.core in
+    let core = c.self.inside.versions.core in
     let made = c.in-Ok-Land.prepared in
     let step = rw c.in-Ok-Land.field-0-is at c.in-Ok-Land.ensures.step in
     let at : made.seen.history ≡ core.history = ap (λ (s : Seen). s.history) step.0 ∙ pair-history core c.in-Some.seen.now c.args.from.now c.in-Ok.pair c.in-Ok.ensures.paired in
@@ -99,7 +99,7 @@ move_on-requires-clause-history c =
 
 pub move_on-requires-clause-limits : goal.move_on-requires-clause-limits
 move_on-requires-clause-limits c =
-    let core = c.self.inside.core in
+    let core = c.self.inside.versions.core in
     let made = c.in-Ok-Land.prepared in
     let step = rw c.in-Ok-Land.field-0-is at c.in-Ok-Land.ensures.step in
     subst (λ (v : EngineView). made.seen.limits ≡ v.core.limits) c.self.view_is
@@ -107,13 +107,13 @@ move_on-requires-clause-limits c =
 
 pub move_on-requires-clause-branch : goal.move_on-requires-clause-branch
 move_on-requires-clause-branch c =
-    let core = c.self.inside.core in
+    let core = c.self.inside.versions.core in
     let step = rw c.in-Ok-Land.field-0-is at c.in-Ok-Land.ensures.step in
     rw c.branch-branch.ensures.branch (ap (λ (s : Seen). s.branch) step.0 ∙ pair-branch core c.in-Some.seen.now c.args.from.now c.in-Ok.pair c.in-Ok.ensures.paired)
 
 pub move_on-requires-clause-within : goal.move_on-requires-clause-within
 move_on-requires-clause-within c =
-    let core = c.self.inside.core in
+    let core = c.self.inside.versions.core in
     let seen = c.in-Some.seen.now in
     let look = c.self.invariant c.args.session.now seen (sym c.in-Some.ensures.value) in
     let here = branch-stays seen.history core.history seen.branch look.0 c.branch-branch.ensures.within in
@@ -122,7 +122,7 @@ move_on-requires-clause-within c =
 pub returns-in-Ok-Land : goal.returns-in-Ok-Land
 returns-in-Ok-Land c =
     let old = c.args.self.now in
-    let core = c.self.inside.core in
+    let core = c.self.inside.versions.core in
     let session = c.args.session.now in
     let from = c.args.from.now in
     let out = c.args.out.now.items in

@@ -6,7 +6,7 @@ use Rattle.mrdt_model.specs.Spelled.{AppendsPart}
 use Rattle.branch_names.specs.Heads.{name_of, head_of}
 use Rattle.branch_history.specs.History.{store_of}
 use Rattle.branch_history.specs.Steps as machine
-use Rattle.store_core.specs.Turns.{step_of, move_of}
+use Rattle.store_seen.specs.Turns.{step_of, move_of}
 use Rattle.branch_print.specs.Texts.{refusal_text, line_end}
 use Rattle.branch_doc.specs.Forms.{DocOp, DocQuery}
 use Rattle.branch_engine.specs.Engines.{EngineView, Core, Seen, AreLooksAt, Does, SeesHead, KeepsLooks, kind_text}
@@ -23,42 +23,42 @@ pub invariant_of-self : goal.invariant_of-self
 invariant_of-self c =
     let made = c.args.prepared in
     let history = c.in-Ok.ensures.landed.history in
-    looks-grow c.self.inside.core c.land.new.self c.self.inside.sessions.entries (move_of made.seen.branch made.work ∷ []) c.self.invariant
+    looks-grow c.self.inside.versions.core c.land.new.self.core c.self.inside.sessions.entries (move_of made.seen.branch made.work ∷ []) c.self.invariant
     (ap (λ (k : Core). k.limits) history) (ap (λ (k : Core). k.history) history)
 
 pub invariant_of-self-in-Ok : goal.invariant_of-self-in-Ok
 invariant_of-self-in-Ok c =
     let made = c.args.prepared in
     let history = c.in-Ok.ensures.landed.history in
-    looks-grow c.self.inside.core c.land.new.self c.self.inside.sessions.entries (move_of made.seen.branch made.work ∷ []) c.self.invariant
+    looks-grow c.self.inside.versions.core c.land.new.self.core c.self.inside.sessions.entries (move_of made.seen.branch made.work ∷ []) c.self.invariant
     (ap (λ (k : Core). k.limits) history) (ap (λ (k : Core). k.history) history)
 
 pub invariant_of-self-in-Err-Stale : goal.invariant_of-self-in-Err-Stale
-invariant_of-self-in-Err-Stale c = subst (λ (k : Core). AreLooksAt k c.self.inside.sessions.entries) (sym c.in-Err-Stale.ensures.kept) c.self.invariant
+invariant_of-self-in-Err-Stale c = subst (λ (k : Core). AreLooksAt k c.self.inside.sessions.entries) (sym (ap (λ v. v.core) c.in-Err-Stale.ensures.kept)) c.self.invariant
 
 pub invariant_of-self-in-Err-FullCommits : goal.invariant_of-self-in-Err-FullCommits
-invariant_of-self-in-Err-FullCommits c = subst (λ (k : Core). AreLooksAt k c.self.inside.sessions.entries) (sym c.in-Err-FullCommits.ensures.kept) c.self.invariant
+invariant_of-self-in-Err-FullCommits c = subst (λ (k : Core). AreLooksAt k c.self.inside.sessions.entries) (sym (ap (λ v. v.core) c.in-Err-FullCommits.ensures.kept)) c.self.invariant
 
 pub invariant_of-self-in-Err-FullMoves : goal.invariant_of-self-in-Err-FullMoves
-invariant_of-self-in-Err-FullMoves c = subst (λ (k : Core). AreLooksAt k c.self.inside.sessions.entries) (sym c.in-Err-FullMoves.ensures.kept) c.self.invariant
+invariant_of-self-in-Err-FullMoves c = subst (λ (k : Core). AreLooksAt k c.self.inside.sessions.entries) (sym (ap (λ v. v.core) c.in-Err-FullMoves.ensures.kept)) c.self.invariant
 
 pub invariant_of-self-in-Err-Memory : goal.invariant_of-self-in-Err-Memory
-invariant_of-self-in-Err-Memory c = subst (λ (k : Core). AreLooksAt k c.self.inside.sessions.entries) (sym c.in-Err-Memory.ensures.kept) c.self.invariant
+invariant_of-self-in-Err-Memory c = subst (λ (k : Core). AreLooksAt k c.self.inside.sessions.entries) (sym (ap (λ v. v.core) c.in-Err-Memory.ensures.kept)) c.self.invariant
 
 pub sees_head-requires : goal.sees_head-requires
 sees_head-requires c =
-    let core = c.self.inside.core in
+    let core = c.self.inside.versions.core in
     let made = c.args.prepared in
     let branch = c.args.branch in
     let here = subst (λ (v : EngineView). branch < length (store_of v.core.history).branches) (sym c.self.view_is) c.requires.within in
-    let grown : IsPrefix core.history c.land.new.self.history = (move_of made.seen.branch made.work ∷ [], sym (ap (λ (k : Core). k.history) c.in-Ok.ensures.landed.history)) in
-    branch-stays core.history c.land.new.self.history branch grown here
+    let grown : IsPrefix core.history c.land.new.self.core.history = (move_of made.seen.branch made.work ∷ [], sym (ap (λ (k : Core). k.history) c.in-Ok.ensures.landed.history)) in
+    branch-stays core.history c.land.new.self.core.history branch grown here
 
 pub stale-requires : goal.stale-requires
 stale-requires c =
     let branch = c.args.branch in
     let here = subst (λ (v : EngineView). branch < length (store_of v.core.history).branches) (sym c.self.view_is) c.requires.within in
-    subst (λ (k : Core). branch < length (store_of k.history).branches) (sym c.in-Err-Stale.ensures.kept) here
+    subst (λ (k : Core). branch < length (store_of k.history).branches) (sym (ap (λ v. v.core) c.in-Err-Stale.ensures.kept)) here
 
 -- a landing that is refused, of an engine whose view this is
 refused : (old : EngineView) (core new_core : Core) (sessions : List (List ℕ × Seen)) (out out' session : List ℕ) (branch : ℕ) (step : machine.Step DocOp DocQuery) (r : Result (Unit {0}) Memory) (refusal : machine.Refusal) (words : List ℕ)
@@ -74,7 +74,7 @@ refused old core new_core sessions out out' session branch step r refusal words 
 
 pub returns-in_err-put_kind-in-Ok : goal.returns-in_err-put_kind-in-Ok
 returns-in_err-put_kind-in-Ok c =
-    let core = c.self.inside.core in
+    let core = c.self.inside.versions.core in
     let sessions = c.self.inside.sessions.entries in
     let session = c.args.session.now in
     let branch = c.args.branch in
@@ -82,7 +82,7 @@ returns-in_err-put_kind-in-Ok c =
     let step = step_of {Q = DocQuery} made.seen made.work in
     let out = c.args.out.now.items in
     let out' = c.put_kind.new.out.items in
-    let k = c.land.new.self in
+    let k = c.land.new.self.core in
     let kind = c.in-Ok.landed.kind in
     let breaks = part_written (turn_telling session branch step) (view_of core sessions) (view_of k sessions) out out' (kind_text kind ++ line_end)
     (landed_half (view_of core sessions) session branch step k (move_of made.seen.branch made.work) kind c.in-Ok.landed.moves c.in-Ok.ensures.landed (view_of k sessions) refl (λ name. refl))
@@ -92,7 +92,7 @@ returns-in_err-put_kind-in-Ok c =
 
 pub returns-in_ok-put_kind-in-Ok : goal.returns-in_ok-put_kind-in-Ok
 returns-in_ok-put_kind-in-Ok c =
-    let core = c.self.inside.core in
+    let core = c.self.inside.versions.core in
     let sessions = c.self.inside.sessions.entries in
     let session = c.args.session.now in
     let branch = c.args.branch in
@@ -100,7 +100,7 @@ returns-in_ok-put_kind-in-Ok c =
     let step = step_of {Q = DocQuery} made.seen made.work in
     let out = c.args.out.now.items in
     let out' = c.put_kind.new.out.items in
-    let k = c.land.new.self in
+    let k = c.land.new.self.core in
     let new = c.sees_head.new.self in
     let kind = c.in-Ok.landed.kind in
     let moves = c.in-Ok.landed.moves in
@@ -121,33 +121,33 @@ returns-in_ok-put_kind-in-Ok c =
 
 pub returns-in-Err-Stale : goal.returns-in-Err-Stale
 returns-in-Err-Stale c =
-    let core = c.self.inside.core in
+    let core = c.self.inside.versions.core in
     let branch = c.args.branch in
     let made = c.args.prepared in
     let refusal = machine.Stale c.in-Err-Stale.newest in
     let name = λ (k : Core). refusal_text (name_of (store_of k.history).branches branch) refusal in
-    refused c.args.self.now core c.land.new.self c.self.inside.sessions.entries c.args.out.now.items c.stale.new.out.items c.args.session.now branch (step_of {Q = DocQuery} made.seen made.work) c.stale.result refusal (name c.land.new.self)
-    c.self.view_is c.in-Err-Stale.ensures.kept (rw c.in-Err-Stale.field-0-is at c.in-Err-Stale.ensures.refused).0 c.stale.ensures.ok c.stale.ensures.err (ap name c.in-Err-Stale.ensures.kept)
+    refused c.args.self.now core c.land.new.self.core c.self.inside.sessions.entries c.args.out.now.items c.stale.new.out.items c.args.session.now branch (step_of {Q = DocQuery} made.seen made.work) c.stale.result refusal (name c.land.new.self.core)
+    c.self.view_is (ap (λ v. v.core) c.in-Err-Stale.ensures.kept) (rw c.in-Err-Stale.field-0-is at c.in-Err-Stale.ensures.refused).0 c.stale.ensures.ok c.stale.ensures.err (ap name (ap (λ v. v.core) c.in-Err-Stale.ensures.kept))
 
 pub returns-in-Err-FullCommits : goal.returns-in-Err-FullCommits
 returns-in-Err-FullCommits c =
     let made = c.args.prepared in
     let refusal = machine.FullCommits c.in-Err-FullCommits.count in
-    refused c.args.self.now c.self.inside.core c.land.new.self c.self.inside.sessions.entries c.args.out.now.items c.put_full_commits.new.out.items c.args.session.now c.args.branch (step_of {Q = DocQuery} made.seen made.work) c.put_full_commits.result refusal (refusal_text [] refusal)
-    c.self.view_is c.in-Err-FullCommits.ensures.kept (rw c.in-Err-FullCommits.field-0-is at c.in-Err-FullCommits.ensures.refused) c.put_full_commits.ensures.ok c.put_full_commits.ensures.err refl
+    refused c.args.self.now c.self.inside.versions.core c.land.new.self.core c.self.inside.sessions.entries c.args.out.now.items c.put_full_commits.new.out.items c.args.session.now c.args.branch (step_of {Q = DocQuery} made.seen made.work) c.put_full_commits.result refusal (refusal_text [] refusal)
+    c.self.view_is (ap (λ v. v.core) c.in-Err-FullCommits.ensures.kept) (rw c.in-Err-FullCommits.field-0-is at c.in-Err-FullCommits.ensures.refused) c.put_full_commits.ensures.ok c.put_full_commits.ensures.err refl
 
 pub returns-in-Err-FullMoves : goal.returns-in-Err-FullMoves
 returns-in-Err-FullMoves c =
     let made = c.args.prepared in
     let refusal = machine.FullMoves c.in-Err-FullMoves.count in
-    refused c.args.self.now c.self.inside.core c.land.new.self c.self.inside.sessions.entries c.args.out.now.items c.put_full_moves.new.out.items c.args.session.now c.args.branch (step_of {Q = DocQuery} made.seen made.work) c.put_full_moves.result refusal (refusal_text [] refusal)
-    c.self.view_is c.in-Err-FullMoves.ensures.kept (rw c.in-Err-FullMoves.field-0-is at c.in-Err-FullMoves.ensures.refused) c.put_full_moves.ensures.ok c.put_full_moves.ensures.err refl
+    refused c.args.self.now c.self.inside.versions.core c.land.new.self.core c.self.inside.sessions.entries c.args.out.now.items c.put_full_moves.new.out.items c.args.session.now c.args.branch (step_of {Q = DocQuery} made.seen made.work) c.put_full_moves.result refusal (refusal_text [] refusal)
+    c.self.view_is (ap (λ v. v.core) c.in-Err-FullMoves.ensures.kept) (rw c.in-Err-FullMoves.field-0-is at c.in-Err-FullMoves.ensures.refused) c.put_full_moves.ensures.ok c.put_full_moves.ensures.err refl
 
 pub returns-in-Err-Memory : goal.returns-in-Err-Memory
 returns-in-Err-Memory c =
     let made = c.args.prepared in
     record {
       ok = tt;
-      err = nothing_done (turn_telling c.args.session.now c.args.branch (step_of {Q = DocQuery} made.seen made.work)) c.args.self.now (view_of c.land.new.self c.self.inside.sessions.entries) c.args.out.now.items
-          (ap (λ k. view_of k c.self.inside.sessions.entries) c.in-Err-Memory.ensures.kept ∙ c.self.view_is);
+      err = nothing_done (turn_telling c.args.session.now c.args.branch (step_of {Q = DocQuery} made.seen made.work)) c.args.self.now (view_of c.land.new.self.core c.self.inside.sessions.entries) c.args.out.now.items
+          (ap (λ k. view_of k c.self.inside.sessions.entries) (ap (λ v. v.core) c.in-Err-Memory.ensures.kept) ∙ c.self.view_is);
     }

@@ -15,14 +15,14 @@ on_ok (Err error) P Q p f = p
 
 pub unreachable-requires : goal.unreachable-requires
 unreachable-requires c =
-    let core = c.self.inside.core in
+    let core = c.self.inside.versions.core in
     let named : branch_named (store_of core.history).branches c.unwrap-name.result.0 ≡ Some c.args.branch = rw c.unwrap-name.ensures at c.branch-self.ensures.named in
     let sees = look-sees document core.limits core.history c.unwrap-name.result.0 c.args.branch named in
     never-refused c.args.branch (head_of (store_of core.history).branches c.args.branch) _ (sym sees ∙ (rw c.in-Err-UnknownBranch.field-0-is at c.in-Err-UnknownBranch.ensures.refused).1)
 
 pub returns-in-Ok-clause-sees : goal.returns-in-Ok-clause-sees
 returns-in-Ok-clause-sees c =
-    let core = c.self.inside.core in
+    let core = c.self.inside.versions.core in
     let seen = c.in-Ok.seen in
     let named : branch_named (store_of core.history).branches c.unwrap-name.result.0 ≡ Some c.args.branch = rw c.unwrap-name.ensures at c.branch-self.ensures.named in
     let sees = look-sees document core.limits core.history c.unwrap-name.result.0 c.args.branch named in

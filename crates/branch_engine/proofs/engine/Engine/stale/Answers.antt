@@ -17,7 +17,7 @@ named (Some b) x h = let e : (b.name, b.head) ≡ x = cc in ap (λ y. y.0) (sym 
 
 pub returns-clause-err : goal.returns-clause-err
 returns-clause-err c =
-    let branches = (store_of c.self.inside.core.history).branches in
+    let branches = (store_of c.self.inside.versions.core.history).branches in
     let out = c.args.out.now.items in
     let out' = c.put_stale.new.out.items in
     let name : c.unwrap-name.result.0 ≡ name_of branches c.args.branch = named (slice_get branches c.args.branch) c.unwrap-name.result (sym c.branch-self.ensures.found ∙ c.unwrap-name.ensures) in

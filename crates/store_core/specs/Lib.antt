@@ -1,5 +1,0 @@
-pub mod Views
-pub mod Keeps
-pub mod Turns
-pub mod Nodes
-pub mod Pairs

@@ -1,0 +1,11 @@
+pub mod Named
+pub mod Looks
+pub mod Readies
+pub mod Landings
+pub mod Landable
+pub mod Pairs
+pub mod Cores
+pub mod Firsts
+pub mod Undone
+pub mod Backs
+pub mod Writes

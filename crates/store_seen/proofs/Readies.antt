@@ -1,0 +1,188 @@
+-- What is ready stays ready while the history goes on.
+use Rattle.std.proofs.Common.{◌≡◌, ℕ, ◌+◌, ◌<◌, max, Bool, true, false, List, [], ◌∷◌, ◌++◌, length, ap, sym, ◌∙◌, arith, IsTrue, Some, None, subst, length-append, ◌≤◌, Result, IfErr}
+use Rattle.std.proofs.lemmas.Result.{IfErr-weaker}
+use mathlib.Core.List.{IsPrefix}
+use Rattle.mrdt_model.specs.declared.time.Time.{Time}
+use Rattle.mrdt_model.specs.Executions.{Event, next_event}
+use Rattle.mrdt_model.specs.Laws.{Meaning, KeepsLaws}
+use Rattle.branch_graph.specs.Graph.{reaches}
+use Rattle.branch_names.specs.declared.limits.Limits.{Limits}
+use Rattle.branch_names.specs.Heads.{head_of}
+use Rattle.branch_history.specs.declared.moves.Move.{Move}
+use Rattle.branch_history.specs.Commits.{Commit, graph_of, clock_of, visible}
+use Rattle.branch_history.specs.History.{store_of}
+use Rattle.branch_history.specs.Laws.{IsSameAt, IsSameAtAll, AreCommits}
+use Rattle.branch_history.specs.Machine.{refusal_if, operation_refusal, merge_refusal, commit_refusal, forward_refusal}
+use Rattle.branch_history.specs.Steps as machine
+use Rattle.branch_history.specs.Validity.{IsValid}
+use Rattle.branch_history.proofs.Histories.{valid-kept}
+use Rattle.branch_history.proofs.Reach.{reaches-trans}
+use Rattle.branch_history.proofs.Heads.{same_branch, valid-rises}
+use Rattle.branch_history.proofs.Later.{IsLonger, commits-longer, longer-same_at_all, operation_refusal-same, merge_refusal-same}
+use Rattle.branch_history.proofs.Turns.{land-refused, merge-refused, forward-refused}
+use Rattle.store_seen.specs.declared.answers.LandRefused.{LandRefused}
+use Rattle.store_seen.specs.declared.answers.LandRefused.TheVariants as land_refusal
+use Rattle.store_seen.specs.Keeps.{IsSeen, IsReadyOperation, IsReadyMerge, IsReadyForward}
+use Rattle.store_seen.specs.Views.{SeenView, CoreView, Work, Operation, Merge, Forward}
+use Rattle.store_seen.specs.Turns.{at_head, step_of, Refuses, RefusedBy, LandRefusedAs}
+use Rattle.store_seen.proofs.Looks.{seen-kept, seen-there, same-later}
+
+-- of these three refusals, in their order, the first alone is stale
+stale_is : (t u v : Bool) (head commits moves newest : ℕ) → refusal_if t (machine.Stale head) (refusal_if u (machine.FullCommits commits) (refusal_if v (machine.FullMoves moves) None)) ≡ Some (machine.Stale newest) → newest ≡ head
+stale_is true u v head commits moves newest is = cc
+stale_is false true v head commits moves newest is = absurd (cc)
+stale_is false false true head commits moves newest is = absurd (cc)
+stale_is false false false head commits moves newest is = absurd (cc)
+
+module _ {S O R Q A : Type 0} (meaning : Meaning S O R Q A) (laws : KeepsLaws meaning) (seen : SeenView (Move O R)) (is : IsSeen meaning seen) (core : CoreView (Move O R)) (prefix : IsPrefix seen.history core.history) (limits : seen.limits ≡ core.limits) where
+  abbrev old : List (Commit O R)
+  old = (store_of seen.history).commits
+
+  abbrev new : List (Commit O R)
+  new = (store_of core.history).commits
+
+  abbrev now : SeenView (Move O R)
+  now = at_head core seen.branch seen.head
+
+  same-head : IsSameAt old new seen.head
+  same-head = same-later meaning laws seen is seen.head (seen-there meaning laws seen is) core.history prefix
+
+  longer : IsLonger old new
+  longer = subst (λ (l : List (Move O R)). IsLonger old (store_of l).commits) prefix.1 (commits-longer seen.history prefix.0)
+
+  more : length old ≤ length new
+  more = let e : length new ≡ length old + length longer.more = ap length longer.is ∙ length-append old longer.more in omega arith
+
+  same-all : (ls rs : List ℕ) → AreCommits old ls → AreCommits old rs → IsSameAtAll old new ls rs
+  same-all = longer-same_at_all old new longer (seen-kept meaning laws seen is).ordered.ranked
+
+  pub head-now : seen.head < length new
+  head-now = let there = is.head in let size = more in omega arith
+
+  pub branch-now : seen.branch < length (store_of core.history).branches
+  branch-now =
+      let there = (same_branch seen.history prefix.0 seen.branch is.branch).there in
+      subst (λ (l : List (Move O R)). seen.branch < length (store_of l).branches) prefix.1 there
+
+  pub operation-now : (time : Time) (value : S) (op : O) (reply : R) → IsReadyOperation meaning seen time value op reply → IsReadyOperation meaning now time value op reply
+  operation-now time value op reply was = record {
+    known = was.known;
+    known_reply = was.known_reply;
+    fits =
+        let same = operation_refusal-same meaning seen.limits old new seen.branch seen.head op same-head ∙ was.fits in
+        subst (λ (l : Limits). operation_refusal meaning l new seen.branch seen.head op ≡ None) limits same;
+    timed = was.timed ∙ ap (λ n. record { clock = n + 1; origin = seen.branch }) (sym same-head.clock);
+    replies = was.replies ∙ ap (λ y. meaning.reply_of y op) (sym same-head.visible);
+    stands =
+        let P : ℕ → List (Event O R) → Type 0 = λ n y. meaning.stands value (next_event y (record { clock = n + 1; origin = seen.branch }) op (meaning.reply_of y op) ∷ y) in
+        subst (λ (n : ℕ). P n (visible new seen.head)) (sym same-head.clock) (subst (P (clock_of old seen.head)) (sym same-head.visible) was.stands);
+  }
+
+  module _ (commit : ℕ) (there : commit < length old) where
+    same-other : IsSameAt old new commit
+    same-other = same-later meaning laws seen is commit there core.history prefix
+
+    same-pair : IsSameAtAll old new (seen.head ∷ commit ∷ []) []
+    same-pair = same-all (seen.head ∷ commit ∷ []) [] (seen-there meaning laws seen is, (there, tt)) tt
+
+    pub merge-now : (clock : ℕ) (value : S) → IsReadyMerge meaning seen commit clock value → IsReadyMerge meaning now commit clock value
+    merge-now clock value was = record {
+      there = omega (arith, more);
+      above = same-head.reach commit ∙ was.above;
+      below = same-other.reach seen.head ∙ was.below;
+      fits =
+          let same = merge_refusal-same meaning seen.limits old new seen.head commit same-pair.visible ∙ was.fits in
+          subst (λ (l : Limits). merge_refusal meaning l new seen.head commit ≡ None) limits same;
+      timed = was.timed ∙ ap (λ n. max n (clock_of old commit)) (sym same-head.clock) ∙ ap (λ n. max (clock_of new seen.head) n) (sym same-other.clock);
+      stands = subst (λ (y : List (Event O R)). meaning.stands value y) (sym same-pair.visible) was.stands;
+    }
+
+    pub forward-now : IsReadyForward seen.history seen.head commit → IsReadyForward core.history seen.head commit
+    forward-now was = record {
+      there = omega (arith, more);
+      above = same-head.reach commit ∙ was.above;
+      below = same-other.reach seen.head ∙ was.below;
+    }
+
+  -- the newest head reaches the one that was seen
+  pub head-below : IsValid meaning core.limits core.history → IsTrue (reaches (graph_of new) (head_of (store_of core.history).branches seen.branch) seen.head)
+  head-below valid =
+      let e = prefix.1 in
+      let all : IsValid meaning core.limits (seen.history ++ prefix.0) = subst (λ (l : List (Move O R)). IsValid meaning core.limits l) (sym e) valid in
+      let then_head : ℕ = head_of (store_of seen.history).branches seen.branch in
+      let there : then_head < length old = (seen-kept meaning laws seen is).ordered.heads seen.branch is.branch in
+      let up = valid-rises meaning core.limits laws seen.history prefix.0 seen.branch all is.branch in
+      let rises : IsTrue (reaches (graph_of new) (head_of (store_of core.history).branches seen.branch) then_head) =
+      subst (λ (l : List (Move O R)). IsTrue (reaches (graph_of (store_of l).commits) (head_of (store_of l).branches seen.branch) then_head)) e up in
+      let ranked = (valid-kept meaning core.limits laws core.history valid).ordered.ranked in
+      reaches-trans (graph_of new) ranked (head_of (store_of core.history).branches seen.branch) then_head seen.head rises
+      ((same-later meaning laws seen is then_head there core.history prefix).reach seen.head ∙ is.below)
+
+  module _ (branch head : ℕ) (at_branch : branch ≡ seen.branch) (at : head ≡ seen.head) where
+    pub branch-there : branch < length (store_of core.history).branches
+    branch-there = subst (λ (b : ℕ). b < length (store_of core.history).branches) (sym at_branch) branch-now
+
+    at_seen : {X : Type 0} (f : ℕ → ℕ → X) → f seen.branch seen.head ≡ f branch head
+    at_seen f = sym (ap (λ b. f b head) at_branch ∙ ap (f seen.branch) at)
+
+    pub operation-ready : (time : Time) (value : S) (op : O) (reply : R) → IsReadyOperation meaning seen time value op reply → IsReadyOperation meaning (at_head core branch head) time value op reply
+    operation-ready time value op reply was =
+        subst (λ (v : SeenView (Move O R)). IsReadyOperation meaning v time value op reply) (at_seen (at_head core)) (operation-now time value op reply was)
+
+    pub merge-ready : (commit clock : ℕ) (value : S) → IsReadyMerge meaning seen commit clock value → IsReadyMerge meaning (at_head core branch head) commit clock value
+    merge-ready commit clock value was =
+        subst (λ (v : SeenView (Move O R)). IsReadyMerge meaning v commit clock value) (at_seen (at_head core)) (merge-now commit was.there clock value was)
+
+    pub forward-ready : (commit : ℕ) → IsReadyForward seen.history seen.head commit → IsReadyForward core.history head commit
+    forward-ready commit was = subst (λ (h : ℕ). IsReadyForward core.history h commit) (sym at) (forward-now commit was.there was)
+
+    module _ (valid : IsValid meaning core.limits core.history) where
+      commit_stale : (newest : ℕ) → commit_refusal core.limits core.history seen.branch seen.head ≡ Some (machine.Stale newest) → IsTrue (reaches (graph_of new) newest seen.head)
+      unfolding commit_refusal
+      commit_stale newest is =
+          let e = stale_is _ _ _ _ _ _ newest is in
+          subst (λ (n : ℕ). IsTrue (reaches (graph_of new) n seen.head)) (sym e) (head-below valid)
+
+      forward_stale : (newest : ℕ) → forward_refusal core.limits core.history seen.branch seen.head ≡ Some (machine.Stale newest) → IsTrue (reaches (graph_of new) newest seen.head)
+      unfolding forward_refusal
+      forward_stale newest is =
+          let e = stale_is _ false _ _ 0 _ newest is in
+          subst (λ (n : ℕ). IsTrue (reaches (graph_of new) n seen.head)) (sym e) (head-below valid)
+
+      -- a refusal of the move is the machine's, whatever work it is of which the machine refuses all that this refuses
+      commit_refused : (work : Work O R) → ((refusal : machine.Refusal) → commit_refusal core.limits core.history seen.branch seen.head ≡ Some refusal → Refuses meaning core.limits core.history (step_of seen work) refusal)
+          → (refusal : LandRefused) → RefusedBy (commit_refusal core.limits core.history branch head) refusal → LandRefusedAs meaning (record { seen = seen; work = work }) core refusal
+      commit_refused work turns (land_refusal.Stale newest) is =
+          let here = at_seen (commit_refusal core.limits core.history) ∙ is in
+          (turns (machine.Stale newest) here, commit_stale newest here)
+      commit_refused work turns (land_refusal.FullCommits count) is = turns (machine.FullCommits count) (at_seen (commit_refusal core.limits core.history) ∙ is)
+      commit_refused work turns (land_refusal.FullMoves count) is = turns (machine.FullMoves count) (at_seen (commit_refusal core.limits core.history) ∙ is)
+      commit_refused work turns land_refusal.Memory is = tt
+
+      forward_refused : (work : Work O R) → ((refusal : machine.Refusal) → forward_refusal core.limits core.history seen.branch seen.head ≡ Some refusal → Refuses meaning core.limits core.history (step_of seen work) refusal)
+          → (refusal : LandRefused) → RefusedBy (forward_refusal core.limits core.history branch head) refusal → LandRefusedAs meaning (record { seen = seen; work = work }) core refusal
+      forward_refused work turns (land_refusal.Stale newest) is =
+          let here = at_seen (forward_refusal core.limits core.history) ∙ is in
+          (turns (machine.Stale newest) here, forward_stale newest here)
+      forward_refused work turns (land_refusal.FullCommits count) is = turns (machine.FullCommits count) (at_seen (forward_refusal core.limits core.history) ∙ is)
+      forward_refused work turns (land_refusal.FullMoves count) is = turns (machine.FullMoves count) (at_seen (forward_refusal core.limits core.history) ∙ is)
+      forward_refused work turns land_refusal.Memory is = tt
+
+      module _ {X : Type 0} (r : Result X LandRefused) where
+        pub operation-refused : (time : Time) (value : S) (op : O) (reply : R) → IsReadyOperation meaning seen time value op reply → IfErr r (RefusedBy (commit_refusal core.limits core.history branch head)) → IfErr r (LandRefusedAs meaning (record { seen = seen; work = Operation op reply }) core)
+        operation-refused time value op reply was =
+            let fits = (operation-now time value op reply was).fits in
+            IfErr-weaker r (RefusedBy (commit_refusal core.limits core.history branch head)) (LandRefusedAs meaning (record { seen = seen; work = Operation op reply }) core)
+            (commit_refused (Operation op reply) (λ refusal is. land-refused meaning core.limits core.history seen.branch seen.head op refusal fits is))
+
+        pub merge-is_refused : (commit clock : ℕ) (value : S) → IsReadyMerge meaning seen commit clock value → IfErr r (RefusedBy (commit_refusal core.limits core.history branch head)) → IfErr r (LandRefusedAs meaning (record { seen = seen; work = Merge commit }) core)
+        merge-is_refused commit clock value was =
+            let here = merge-now commit was.there clock value was in
+            IfErr-weaker r (RefusedBy (commit_refusal core.limits core.history branch head)) (LandRefusedAs meaning (record { seen = seen; work = Merge commit }) core)
+            (commit_refused (Merge commit) (λ refusal is. merge-refused meaning core.limits core.history seen.branch seen.head commit refusal here.above here.below here.fits is))
+
+        pub forward-is_refused : (commit : ℕ) → IsReadyForward seen.history seen.head commit → IfErr r (RefusedBy (forward_refusal core.limits core.history branch head)) → IfErr r (LandRefusedAs meaning (record { seen = seen; work = Forward commit }) core)
+        forward-is_refused commit was =
+            let here = forward-now commit was.there was in
+            IfErr-weaker r (RefusedBy (forward_refusal core.limits core.history branch head)) (LandRefusedAs meaning (record { seen = seen; work = Forward commit }) core)
+            (forward_refused (Forward commit) (λ refusal is. forward-refused meaning core.limits core.history seen.branch seen.head commit refusal here.above here.below is))

@@ -1,0 +1,46 @@
+-- What is written of a ready work is what the history means.
+use Rattle.std.proofs.Common.{◌≡◌, ℕ, ◌∷◌, [], List, ap, ◌∙◌}
+use Rattle.mrdt_model.specs.declared.time.Time.{Time}
+use Rattle.mrdt_model.specs.Executions.{Event}
+use Rattle.mrdt_model.specs.Laws.{Meaning, KeepsLaws}
+use Rattle.branch_history.specs.declared.moves.Move.{Move}
+use Rattle.branch_history.specs.Commits.{Commit, visible, visible_at_all, all_events}
+use Rattle.branch_history.specs.History.{store_of}
+use Rattle.branch_history.specs.Machine.{event_made}
+use Rattle.branch_history.proofs.Histories.{made-lawful}
+use Rattle.branch_history.proofs.Kept.{IsKept, visible_at_all-closed, closed-lawful}
+use Rattle.branch_history.proofs.Valid.{operation-room}
+use Rattle.store_seen.specs.Keeps.{IsSeen, IsReadyOperation, IsReadyMerge, AreSpelled}
+use Rattle.store_seen.specs.Views.{SeenView, SpelledView}
+use Rattle.store_seen.specs.Written.{IsWrittenOperation, IsWrittenMerge}
+use Rattle.store_seen.proofs.Looks.{seen-kept}
+
+module _ {S O R Q A : Type 0} (meaning : Meaning S O R Q A) (laws : KeepsLaws meaning) (seen : SeenView (Move O R)) (is : IsSeen meaning seen) where
+  abbrev commits : List (Commit O R)
+  commits = (store_of seen.history).commits
+
+  kept : IsKept meaning seen.limits (store_of seen.history)
+  kept = seen-kept meaning laws seen is
+
+  pub operation-written : (time : Time) (value : S) (op : O) (reply : R) (spelled : SpelledView) → IsReadyOperation meaning seen time value op reply → AreSpelled meaning value op reply spelled → IsWrittenOperation meaning seen op reply time.clock spelled.value spelled.op spelled.reply
+  operation-written time value op reply spelled ready are =
+      let low = operation-room meaning seen.limits seen.history seen.branch seen.head op ready.fits in
+      let lawful = made-lawful meaning seen.limits laws seen.history is.valid seen.branch seen.head op is.branch ready.known low in
+      record {
+        clock_is = ap (λ t. t.clock) ready.timed;
+        replies = ready.replies;
+        value_is = are.value_is ∙ laws.one_spelling value (event_made meaning commits seen.branch seen.head op ∷ visible commits seen.head) lawful ready.stands;
+        op_is = are.op_is;
+        reply_is = are.reply_is;
+      }
+
+  pub merge-written : (commit clock : ℕ) (value : S) (spelled : List ℕ) (other : ℕ) → other ≡ commit → IsReadyMerge meaning seen commit clock value → spelled ≡ meaning.state_spelling value → IsWrittenMerge meaning seen commit other clock spelled
+  merge-written commit clock value spelled other same ready are =
+      let union : List (Event O R) = visible_at_all commits (seen.head ∷ commit ∷ []) in
+      let part = visible_at_all-closed commits kept.ordered.ranked kept.ordered.rising kept.events kept.climbs (seen.head ∷ commit ∷ []) in
+      record {
+        other_is = same;
+        there = ready.there;
+        clock_is = ready.timed;
+        value_is = are ∙ laws.one_spelling value union (closed-lawful meaning union (all_events commits) kept.lawful part) ready.stands;
+      }

@@ -1,0 +1,95 @@
+-- What looks and prepared works keep of a history.
+use Rattle.std.specs.Prelude.{◌≡◌, ℕ, ◌+◌, ◌<◌, max, false, List, [], ◌∷◌, length, None, IsTrue}
+use Rattle.mrdt_model.specs.declared.time.Time.{Time}
+use Rattle.mrdt_model.specs.Laws.{Meaning}
+use Rattle.branch_graph.specs.Graph.{reaches}
+use Rattle.branch_names.specs.Heads.{head_of}
+use Rattle.branch_history.specs.declared.moves.Move.{Move}
+use Rattle.branch_history.specs.Commits.{Commit, graph_of, clock_of, visible, visible_at_all}
+use Rattle.branch_history.specs.History.{store_of}
+use Rattle.branch_history.specs.Machine.{event_made, operation_refusal, merge_refusal}
+use Rattle.branch_history.specs.Validity.{IsValid}
+use Rattle.store_seen.specs.declared.prepared.Ready.{Ready}
+use Rattle.store_seen.specs.declared.prepared.Ready.TheVariants as ready
+use Rattle.virtual_base.specs.Nodes.{NodesView, AreNodesOf}
+use Rattle.store_seen.specs.Views.{SeenView, SpelledView, Work, Operation, Merge, Forward}
+
+-- a clock and a value are those of a commit: the value stands for what is visible there
+pub record IsNode {S O R Q A : Type 0} (meaning : Meaning S O R Q A) (commits : List (Commit O R)) (n clock : ℕ) (value : S) : Type 0 where
+  pub there : n < length commits
+  pub timed : clock ≡ clock_of commits n
+  pub stands : meaning.stands value (visible commits n)
+
+-- a valid history, with one of its branches, and a commit that this branch's head is or lies above
+pub record IsSeen {S O R Q A : Type 0} (meaning : Meaning S O R Q A) (seen : SeenView (Move O R)) : Type 0 where
+  pub valid : IsValid meaning seen.limits seen.history
+  pub branch : seen.branch < length (store_of seen.history).branches
+  pub head : seen.head < length (store_of seen.history).commits
+  pub below : IsTrue (reaches (graph_of (store_of seen.history).commits) (head_of (store_of seen.history).branches seen.branch) seen.head)
+
+-- a look, with the clock and the value of the head
+pub record IsLook {S O R Q A : Type 0} (meaning : Meaning S O R Q A) (seen : SeenView (Move O R)) (moves clock : ℕ) (value : S) : Type 0 where
+  pub look : IsSeen meaning seen
+  pub counted : moves ≡ length seen.history
+  pub node : IsNode meaning (store_of seen.history).commits seen.head clock value
+
+-- the work for which a commit's parts are ready
+abbrev pub work_of : {S O R : Type 0} → Ready S O R → Work O R
+work_of (ready.Operation time value op reply spelled) = Operation op reply
+work_of (ready.Merge commit clock value spelled) = Merge commit
+work_of (ready.Forward commit) = Forward commit
+
+-- an operation that is not refused, with its time and its reply, and a value that stands for its event and what it has seen
+pub record IsReadyOperation {S O R Q A : Type 0} (meaning : Meaning S O R Q A) (seen : SeenView (Move O R)) (time : Time) (value : S) (op : O) (reply : R) : Type 0 where
+  pub known : meaning.is_op op
+  pub known_reply : meaning.is_reply reply
+  pub fits : operation_refusal meaning seen.limits (store_of seen.history).commits seen.branch seen.head op ≡ None
+  pub timed : time ≡ record { clock = clock_of (store_of seen.history).commits seen.head + 1; origin = seen.branch }
+  pub replies : reply ≡ meaning.reply_of (visible (store_of seen.history).commits seen.head) op
+  pub stands : meaning.stands value (event_made meaning (store_of seen.history).commits seen.branch seen.head op ∷ visible (store_of seen.history).commits seen.head)
+
+-- a merge that is not refused, with the greater clock, and a value that stands for what either commit sees
+pub record IsReadyMerge {S O R Q A : Type 0} (meaning : Meaning S O R Q A) (seen : SeenView (Move O R)) (commit clock : ℕ) (value : S) : Type 0 where
+  pub there : commit < length (store_of seen.history).commits
+  pub above : reaches (graph_of (store_of seen.history).commits) seen.head commit ≡ false
+  pub below : reaches (graph_of (store_of seen.history).commits) commit seen.head ≡ false
+  pub fits : merge_refusal meaning seen.limits (store_of seen.history).commits seen.head commit ≡ None
+  pub timed : clock ≡ max (clock_of (store_of seen.history).commits seen.head) (clock_of (store_of seen.history).commits commit)
+  pub stands : meaning.stands value (visible_at_all (store_of seen.history).commits (seen.head ∷ commit ∷ []))
+
+-- the head lies below the commit
+pub record IsReadyForward {O R : Type 0} (history : List (Move O R)) (head commit : ℕ) : Type 0 where
+  pub there : commit < length (store_of history).commits
+  pub above : reaches (graph_of (store_of history).commits) head commit ≡ false
+  pub below : IsTrue (reaches (graph_of (store_of history).commits) commit head)
+
+-- the bytes are the spellings of these three
+pub record AreSpelled {S O R Q A : Type 0} (meaning : Meaning S O R Q A) (value : S) (op : O) (reply : R) (spelled : SpelledView) : Type 0 where
+  pub value_is : spelled.value ≡ meaning.state_spelling value
+  pub op_is : spelled.op ≡ meaning.op_spelling op
+  pub reply_is : spelled.reply ≡ meaning.reply_spelling reply
+
+-- what is ready on a look, with the spellings of what is to be written of it
+abbrev pub IsReady : {S O R Q A : Type 0} → Meaning S O R Q A → SeenView (Move O R) → Ready S O R → Type 0
+IsReady meaning seen (ready.Operation time value op reply spelled) = IsReadyOperation meaning seen time value op reply × AreSpelled meaning value op reply spelled
+IsReady meaning seen (ready.Merge commit clock value spelled) = IsReadyMerge meaning seen commit clock value × (spelled ≡ meaning.state_spelling value)
+IsReady meaning seen (ready.Forward commit) = IsReadyForward seen.history seen.head commit
+
+-- such a merge of this commit
+abbrev pub IsMergeReady : {S O R Q A : Type 0} → Meaning S O R Q A → SeenView (Move O R) → ℕ → Ready S O R → Type 0
+IsMergeReady meaning seen other (ready.Operation time value op reply spelled) = ⊥
+IsMergeReady meaning seen other (ready.Merge commit clock value spelled) = (commit ≡ other) × IsReadyMerge meaning seen commit clock value × (spelled ≡ meaning.state_spelling value)
+IsMergeReady meaning seen other (ready.Forward commit) = ⊥
+
+-- what is ready on a look, which is at a branch and its head
+pub record IsPrepared {S O R Q A : Type 0} (meaning : Meaning S O R Q A) (seen : SeenView (Move O R)) (branch head : ℕ) (made : Ready S O R) : Type 0 where
+  pub look : IsSeen meaning seen
+  pub at_branch : branch ≡ seen.branch
+  pub newest : head ≡ seen.head
+  pub ready : IsReady meaning seen made
+
+-- a look and another commit of its history, with that commit's clock, and the nodes of the history's commits
+pub record IsPair {S O R Q A : Type 0} (meaning : Meaning S O R Q A) (seen : SeenView (Move O R)) (other clock : ℕ) (nodes : NodesView S) : Type 0 where
+  pub there : other < length (store_of seen.history).commits
+  pub timed : clock ≡ clock_of (store_of seen.history).commits other
+  pub nodes_are : AreNodesOf meaning (store_of seen.history).commits nodes

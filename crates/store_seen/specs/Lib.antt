@@ -1,0 +1,6 @@
+pub mod Views
+pub mod Keeps
+pub mod Turns
+pub mod Nodes
+pub mod Pairs
+pub mod Written

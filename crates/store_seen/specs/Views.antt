@@ -1,0 +1,46 @@
+-- What a core, a look and a prepared step are to a contract.
+use Rattle.std.specs.Prelude.{ℕ, List}
+use Rattle.branch_names.specs.declared.limits.Limits.{Limits}
+use Rattle.branch_history.specs.declared.moves.Move.{Move}
+
+-- a core: its history of moves M, and the limits that it was made under
+pub record CoreView (M : Type 0) : Type 0 where
+  pub history : List M
+  pub limits : Limits
+
+-- a core, with the address of each commit's object by number
+pub record VersionsView (M : Type 0) : Type 0 where
+  pub core : CoreView M
+  pub addresses : List (List ℕ)
+
+-- a look: the history and the limits of the core when it was taken, the branch's number and its head
+pub record SeenView (M : Type 0) : Type 0 where
+  pub history : List M
+  pub limits : Limits
+  pub branch : ℕ
+  pub head : ℕ
+
+-- what a branch is to get: an operation with its reply, a merge of a commit, or a commit that its head lies below
+pub data Work (O R : Type 0) : Type 0 where
+  Operation : O → R → Work O R
+  Merge : ℕ → Work O R
+  Forward : ℕ → Work O R
+
+-- a work, made on a look
+pub record PreparedView (O R : Type 0) : Type 0 where
+  pub seen : SeenView (Move O R)
+  pub work : Work O R
+
+-- the spellings of a value, an operation and its reply
+pub record SpelledView : Type 0 where
+  pub value : List ℕ
+  pub op : List ℕ
+  pub reply : List ℕ
+
+-- a look and another commit: the history and the limits of the core when they were paired, the branch's number, the head that was seen, and the commit
+pub record PairView (M : Type 0) : Type 0 where
+  pub history : List M
+  pub limits : Limits
+  pub branch : ℕ
+  pub head : ℕ
+  pub other : ℕ

@@ -1,0 +1,113 @@
+// A look paired with another commit, for a merge.
+ghost use Rattle.std.specs.Prelude.{◌≡◌, ◌∷◌, [], false, IfOk, IfErr};
+ghost use Rattle.std.specs.Arc.{arc_value};
+ghost use Rattle.branch_graph.specs.Graph.{reaches};
+ghost use Rattle.branch_history.specs.Commits.{graph_of, visible_at_all};
+ghost use Rattle.branch_history.specs.History.{store_of};
+ghost use Rattle.store_seen.specs.Keeps.{IsMergeReady};
+ghost use Rattle.store_seen.specs.Pairs.{seen_of, IsStepOf, MergeRefusedAs};
+
+use crate::answers::PairPrepareRefused;
+use crate::prepared::{Prepared, Ready};
+use crate::seen::Seen;
+use branch_history::laws::{merges_lists, sees_alone};
+use mrdt_model::{Bytes, Memory, Mrdt};
+use std::marker::Model;
+use std::snapshot::Snapshot;
+use std::sync::Arc;
+use virtual_base::{Nodes, base};
+
+/// A look at a branch, and a commit to merge into it. Contracts see a `PairView`: the history and the limits of
+/// the core when the two were paired, the branch, the head that was seen, and the commit.
+#[derive(Drop)]
+pub struct Pair<T: Mrdt> {
+    pub(crate) seen: Seen<T>,
+    pub(crate) other: u32,
+    pub(crate) clock: u64,
+    pub(crate) nodes: Arc<Nodes<T>>,
+}
+
+impl<T: Mrdt> Model for Pair<T> {
+    ghost use Rattle.branch_history.specs.declared.moves.Move.{Move};
+    ghost use Rattle.store_seen.specs.Views.{PairView};
+
+    ghost Value = { PairView (Move T.Op T.Reply) };
+
+    ghost use Rattle.std.specs.Arc.{arc_value};
+    ghost use Rattle.store_seen.specs.Keeps.{IsPair};
+
+    ghost view = { λ p. record { history = p.seen.history; limits = p.seen.limits; branch = p.seen.branch; head = p.seen.head; other = p.other } };
+
+    ghost invariant = { λ p. IsPair T.meaning p.seen p.other p.clock (arc_value p.nodes) };
+}
+
+/// What a pair is for.
+#[derive(Drop)]
+pub enum PairStep<T: Mrdt> {
+    /// The commit is in the reach of the head that was seen: there is nothing to merge.
+    Same,
+    /// A merge, or a move up to the commit.
+    Land(Prepared<T>),
+}
+
+impl<T: Mrdt> Pair<T> {
+    /// Makes the merge ready to land on the head that was seen. It is refused as the machine refuses it, now and
+    /// however the history goes on. All work of a merge is done here.
+    pub fn prepare(&self) -> Result<PairStep<T>, PairPrepareRefused>
+        ensures step { IfOk result (IsStepOf T.meaning self.now) }
+        ensures refused { IfErr result (MergeRefusedAs T.meaning self.now) }
+    {
+        let seen = &self.seen;
+        let (branch, head) = (seen.branch, seen.head);
+        if self.nodes.reaches(head, self.other)? {
+            return Ok(PairStep::Same);
+        }
+        let ready = if self.nodes.reaches(self.other, head)? {
+            Ready::Forward { commit: self.other }
+        } else {
+            self.merged()?
+        };
+        Ok(PairStep::Land(Prepared {
+            seen: Snapshot::of(seen),
+            branch,
+            head,
+            ready,
+        }))
+    }
+
+    // The merge of the two commits, of which neither reaches the other, unless its value's spelling is too long.
+    fn merged(&self) -> Result<Ready<T, T::Op, T::Reply>, PairPrepareRefused>
+        requires above { reaches (graph_of (store_of self.now.history).commits) self.now.head self.now.other ≡ false }
+        requires below { reaches (graph_of (store_of self.now.history).commits) self.now.other self.now.head ≡ false }
+        ensures ready { IfOk result (IsMergeReady T.meaning (seen_of self.now) self.now.other) }
+        ensures refused { IfErr result (MergeRefusedAs T.meaning self.now) }
+    {
+        let seen = &self.seen;
+        let value = self.merged_value()?;
+        let mut bytes = Vec::new(seen.alloc);
+        value.put(&mut bytes)?;
+        let length = bytes.len() as u64;
+        if length > seen.limits.value {
+            return Err(PairPrepareRefused::ValueTooLarge { length });
+        }
+        Ok(Ready::Merge {
+            commit: self.other,
+            clock: seen.clock.max(self.clock),
+            value,
+            spelled: Bytes::from_vec(bytes),
+        })
+    }
+
+    // The merge of the values of the two commits, over their base.
+    fn merged_value(&self) -> Result<T, Memory>
+        ensures { IfOk result (λ value. T.meaning.stands value (visible_at_all (store_of self.now.history).commits (self.now.head ∷ self.now.other ∷ []))) }
+    {
+        merges_lists::<T>();
+        sees_alone::<T>();
+        let seen = &self.seen;
+        let base = base(&self.nodes, &[seen.head], &[self.other])?;
+        let right = self.nodes.value(self.other);
+        let value = T::merge(&base, &seen.value, right)?;
+        Ok(value)
+    }
+}

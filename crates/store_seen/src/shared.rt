@@ -1,0 +1,195 @@
+// Nodes that pairs may share.
+ghost use Rattle.std.specs.Prelude.{◌≡◌, ℕ, ◌-◌, ◌<◌, ◌≤◌, All, Some, length, slice_get, IfOk, OnOk, OnErr, IsErrOf};
+ghost use Rattle.std.specs.Arc.{arc_value};
+ghost use Rattle.store_seen.specs.Nodes.{first_nodes};
+ghost use Rattle.virtual_base.specs.Nodes.{no_nodes, with_node, without_last};
+
+use branch_graph::PushRefused;
+use counted_steps::Steps;
+use mrdt_model::{Memory, Mrdt};
+use std::alloc::Global;
+use std::marker::{Brand, Model};
+use std::sync::Arc;
+use std::sync::ledger::{Blank, Ledger};
+use virtual_base::Nodes;
+
+// The nodes of a history. Contracts see a `NodesView`. Behind the reference there may be more, which were taken off
+// again while a pair shared them.
+#[derive(Drop)]
+pub(crate) struct SharedNodes<T: Mrdt> {
+    nodes: Arc<Nodes<T>>,
+    // how many of the first nodes are of these
+    count: u32,
+}
+
+impl<T: Mrdt> Model for SharedNodes<T> {
+    ghost use Rattle.std.specs.Prelude.{◌≤◌, length};
+    ghost use Rattle.std.specs.Arc.{arc_value};
+    ghost use Rattle.virtual_base.specs.Nodes.{NodesView};
+    ghost use Rattle.store_seen.specs.Nodes.{first_nodes};
+
+    ghost Value = { NodesView T };
+
+    ghost view = { λ s. first_nodes s.count (arc_value s.nodes) };
+
+    ghost invariant = { λ s. s.count ≤ length (arc_value s.nodes).graph.commits };
+}
+
+impl<T: Mrdt> SharedNodes<T> {
+    // No commits, and at most `limit` later.
+    pub(crate) fn new(alloc: Global, limit: u32) -> Result<SharedNodes<T>, Memory>
+        ensures { IfOk result (λ nodes. nodes ≡ no_nodes limit) }
+    {
+        Ok(SharedNodes {
+            nodes: Arc::new(alloc, Nodes::new(alloc, limit))?,
+            count: 0,
+        })
+    }
+
+    // How many commits there are. Each has a value and an address.
+    pub(crate) fn count(&self) -> u32
+        ensures count { result ≡ length self.now.graph.commits }
+        ensures valued { length self.now.values ≡ length self.now.graph.commits }
+        ensures addressed { length self.now.addresses ≡ length self.now.graph.commits }
+    {
+        let _count = self.nodes.count();
+        self.count
+    }
+
+    // The value of a commit, shared.
+    pub(crate) fn value(&self, number: u32) -> Result<Arc<T>, Memory>
+        requires { number < length self.now.graph.commits }
+        ensures { IfOk result (λ value. slice_get self.now.values number ≡ Some (arc_value value)) }
+    {
+        self.nodes.shared(number)
+    }
+
+    // The address of a commit's object.
+    pub(crate) fn address(&self, number: u32) -> &[u8; 32]
+        requires { number < length self.now.graph.commits }
+        ensures { slice_get self.now.addresses number ≡ Some result.now }
+    {
+        self.nodes.address(number)
+    }
+
+    // These nodes alone, shared where no others stand behind them.
+    pub(crate) fn share(&self) -> Result<Arc<Nodes<T>>, Memory>
+        ensures { IfOk result (λ nodes. arc_value nodes ≡ self.now) }
+    {
+        share_first(&self.nodes, self.count)
+    }
+
+    // Puts a commit behind the others, for which there is room. It is put in place where nobody shares the nodes.
+    // Else longer nodes come in their place, and who shares them keeps the old ones.
+    pub(crate) fn push(
+        &mut self,
+        value: T,
+        parents: &[u32],
+        address: [u8; 32],
+    ) -> Result<u32, Memory>
+        requires below { All (λ parent. parent < length self.old.graph.commits) parents.now }
+        requires room { length self.old.graph.commits < self.old.graph.limit }
+        ensures number { IfOk result (λ number. number ≡ length self.old.graph.commits) }
+        ensures pushed { OnOk result (self.new ≡ with_node self.old parents.now value address) }
+        ensures kept { OnErr result (self.new ≡ self.old) }
+    {
+        match push_behind(&mut self.nodes, self.count, value, parents, address) {
+            Ok(number) => {
+                self.count = self.nodes.count();
+                Ok(number)
+            }
+            Err(PushRefused::Memory) => Err(Memory),
+            Err(PushRefused::Full { .. }) => unreachable!(),
+        }
+    }
+
+    // Takes the last commit off again, and no memory. A pair that shares the nodes keeps them.
+    pub(crate) fn pop(&mut self)
+        requires { 0 < length self.old.graph.commits }
+        ensures { self.new ≡ without_last self.old }
+    {
+        self.count -= 1;
+        if let Some(own) = Arc::get_mut(&mut self.nodes) {
+            cut(own, self.count);
+        }
+    }
+}
+
+// So many of the first nodes, shared where they are all.
+fn share_first<T: Mrdt>(nodes: &Arc<Nodes<T>>, count: u32) -> Result<Arc<Nodes<T>>, Memory>
+    requires { count ≤ length (arc_value nodes.now).graph.commits }
+    ensures { IfOk result (λ first. arc_value first ≡ first_nodes count (arc_value nodes.now)) }
+{
+    if nodes.count() == count {
+        return Ok(Arc::try_clone(nodes)?);
+    }
+    let mut first = nodes.copy()?;
+    cut(&mut first, count);
+    Ok(Arc::new(nodes.alloc(), first)?)
+}
+
+// Takes all nodes off but so many of the first.
+fn cut<T: Mrdt>(nodes: &mut Nodes<T>, count: u32)
+    requires { count ≤ length nodes.old.graph.commits }
+    ensures { nodes.new ≡ first_nodes count nodes.old }
+{
+    let more = nodes.count() - count;
+    for _popped in 0..more {
+        nodes.pop();
+    }
+}
+
+// Puts a commit behind so many of the first nodes, in the place of the others: in place where nobody shares them.
+fn push_behind<T: Mrdt>(
+    nodes: &mut Arc<Nodes<T>>,
+    count: u32,
+    value: T,
+    parents: &[u32],
+    address: [u8; 32],
+) -> Result<u32, PushRefused>
+    requires count { count ≤ length (arc_value nodes.old).graph.commits }
+    requires below { All (λ parent. parent < count) parents.now }
+    ensures number { IfOk result (λ number. number ≡ count) }
+    ensures pushed { OnOk result (arc_value nodes.new ≡ with_node (first_nodes count (arc_value nodes.old)) parents.now value address) }
+    ensures full { (held : ℕ) → IsErrOf result (PushRefused.Full held) → (arc_value nodes.old).graph.limit ≤ count }
+    ensures kept { OnErr result (first_nodes count (arc_value nodes.new) ≡ first_nodes count (arc_value nodes.old)) }
+    ensures there { OnErr result (count ≤ length (arc_value nodes.new).graph.commits) }
+{
+    match Arc::get_mut(nodes) {
+        Some(own) => {
+            cut(own, count);
+            own.push(value, parents, address)
+        }
+        None => put_longer::<T, Brand>(nodes, count, value, parents, address, Blank::new(1)),
+    }
+}
+
+// Puts the first nodes with one commit more in the place of nodes, with steps that nobody counts.
+fn put_longer<T: Mrdt, L: Ledger>(
+    nodes: &mut Arc<Nodes<T>>,
+    count: u32,
+    value: T,
+    parents: &[u32],
+    address: [u8; 32],
+    blank: Blank,
+) -> Result<u32, PushRefused>
+    requires name { blank.name ≡ L.name }
+    requires parts { blank.parts ≡ L.parts }
+    requires some { 0 < blank.parts }
+    requires count { count ≤ length (arc_value nodes.old).graph.commits }
+    requires below { All (λ parent. parent < count) parents.now }
+    ensures number { IfOk result (λ number. number ≡ count) }
+    ensures pushed { OnOk result (arc_value nodes.new ≡ with_node (first_nodes count (arc_value nodes.old)) parents.now value address) }
+    ensures full { (held : ℕ) → IsErrOf result (PushRefused.Full held) → (arc_value nodes.old).graph.limit ≤ count }
+    ensures kept { OnErr result (arc_value nodes.new ≡ arc_value nodes.old) }
+{
+    let first = share_first(nodes, count)?;
+    let longer = first.with(value, parents, address, &mut Steps::<L>::none(blank))?;
+    match Arc::new(first.alloc(), longer) {
+        Ok(longer) => {
+            *nodes = longer;
+            Ok(count)
+        }
+        Err(_) => Err(PushRefused::Memory),
+    }
+}
