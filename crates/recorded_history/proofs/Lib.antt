@@ -1,0 +1,7 @@
+pub mod Steps
+pub mod Heads
+pub mod Commits
+pub mod Staged
+pub mod Kept
+pub mod Forks
+pub mod Fresh

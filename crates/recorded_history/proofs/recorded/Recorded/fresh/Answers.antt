@@ -1,0 +1,18 @@
+-- The root commit alone, with the first value.
+use Rattle.std.proofs.Common.{◌++◌, None, ap, sym, ◌∙◌, subst}
+use Rattle.recorded_history.specs.Keeps.{IsRecorded}
+use Rattle.recorded_history.specs.Views.{recorded_of}
+use Rattle.recorded_history.proofs.Fresh.{first-spelled, recorded-fresh}
+use Rattle.recorded_history.proofs.recorded.Recorded.fresh.Goals as goal
+
+pub invariant_of-result : goal.invariant_of-result
+invariant_of-result g c =
+    let meaning = g.T.Mrdt.meaning in
+    let address = g.A.Address.address in
+    let laws = (g.met.T.Mrdt g.world.𝓛 g.world.𝓜 g.world.𝓡 ((λ s x. x), (λ x. x), (λ x. x), λ x. x)).laws in
+    let versions = c.in_ok-versions.versions in
+    let objects = c.in_ok-objects in
+    let spelled =
+    c.deref.ensures.value ∙ c.in_ok-put.ensures.ok ∙ ap (λ l. l ++ meaning.state_spelling c.initial.result) c.new-value.ensures.items ∙ first-spelled meaning laws c.initial.result c.initial.ensures in
+    subst (λ v. IsRecorded meaning address (recorded_of v.core versions.core) None versions objects.objects) (sym c.of.ensures)
+    (recorded-fresh meaning address c.args.limits versions objects.objects c.deref.result.now objects.root spelled c.in_ok-versions.ensures objects.ensures.stored objects.ensures.staged objects.ensures.root)

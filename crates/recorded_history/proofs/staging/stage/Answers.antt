@@ -1,0 +1,138 @@
+-- The objects are those of the commit that the work makes.
+use Rattle.std.proofs.Common.{◌<◌, ◌∷◌, [], ◌++◌, length, ap, sym, ◌∙◌, slice_get, subst}
+use Rattle.std.proofs.lemmas.Result.{err_from_is_err_and}
+use Rattle.std.specs.Prelude.{replicate}
+use Rattle.branch_wire.specs.declared.action.Action.TheVariants as wire
+use Rattle.branch_wire.specs.Objects.{value_object, commit_object}
+use Rattle.branch_history.specs.History.{store_of}
+use Rattle.branch_machine.specs.Fixed.{fix}
+use Rattle.object_store.specs.Commits.{commit_fields}
+use Rattle.store_seen.specs.Turns.{move_of}
+use Rattle.store_seen.specs.Written.{IsWritten}
+use Rattle.recorded_history.proofs.Commits.{commit-there}
+use Rattle.recorded_history.proofs.Staged.{staged-one, staged-refused, staged-none, other-there, operation-makes_pair, merge-makes_pair}
+use Rattle.recorded_history.proofs.staging.stage.Goals as goal
+
+pub address-requires-after_bounds : goal.address-requires-after_bounds
+address-requires-after_bounds g c κs within =
+    let laws = (g.met.T.Mrdt g.world.𝓛 g.world.𝓜 g.world.𝓡 ((λ s x. x), (λ x. x), (λ x. x), λ x. x)).laws in
+    let core = c.args.versions.now.core in
+    let is = c.branch-branch.ensures.seen in
+    subst (λ n. n < length (store_of core.history).commits) (sym c.head-head.ensures.head) (commit-there g.T.Mrdt.meaning laws core.limits g.A.Address.address core.history c.requires.settled.valid c.args.prepared.now.seen is c.requires.history c.args.prepared.now.seen.head is.head)
+
+pub address-requires-in-Merge-after_bounds : goal.address-requires-in-Merge-after_bounds
+address-requires-in-Merge-after_bounds g c κs within =
+    let laws = (g.met.T.Mrdt g.world.𝓛 g.world.𝓜 g.world.𝓡 ((λ s x. x), (λ x. x), (λ x. x), λ x. x)).laws in
+    let core = c.args.versions.now.core in
+    let is = c.branch-branch.ensures.seen in
+    subst (λ n. n < length (store_of core.history).commits) (sym c.head-head.ensures.head) (commit-there g.T.Mrdt.meaning laws core.limits g.A.Address.address core.history c.requires.settled.valid c.args.prepared.now.seen is c.requires.history c.args.prepared.now.seen.head is.head)
+
+pub address-requires-in-Merge-2-after_bounds : goal.address-requires-in-Merge-2-after_bounds
+address-requires-in-Merge-2-after_bounds g c κs within =
+    let laws = (g.met.T.Mrdt g.world.𝓛 g.world.𝓜 g.world.𝓡 ((λ s x. x), (λ x. x), (λ x. x), λ x. x)).laws in
+    let core = c.args.versions.now.core in
+    let is = c.branch-branch.ensures.seen in
+    let there = other-there g.T.Mrdt.meaning c.args.prepared.now.seen c.args.prepared.now.work c.in-Merge.other c.in-Merge.clock c.in-Merge.value (subst (λ w. IsWritten g.T.Mrdt.meaning c.args.prepared.now w) c.in-Merge.is c.written.ensures) in
+    commit-there g.T.Mrdt.meaning laws core.limits g.A.Address.address core.history c.requires.settled.valid c.args.prepared.now.seen is c.requires.history c.in-Merge.other there
+
+pub returns-in_err-stage-in-Operation-clause-refused : goal.returns-in_err-stage-in-Operation-clause-refused
+returns-in_err-stage-in-Operation-clause-refused g c =
+    let meaning = g.T.Mrdt.meaning in
+    let address = g.A.Address.address in
+    let laws = (g.met.T.Mrdt g.world.𝓛 g.world.𝓜 g.world.𝓡 ((λ s x. x), (λ x. x), (λ x. x), λ x. x)).laws in
+    let versions = c.args.versions.now in
+    let core = versions.core in
+    let fixed = fix meaning core.limits address in
+    let seen = c.args.prepared.now.seen in
+    let work = c.args.prepared.now.work in
+    let parts = c.in-Operation in
+    let a = c.address.result.now in
+    let written = subst (λ w. IsWritten meaning c.args.prepared.now w) parts.is c.written.ensures in
+    let at = ap (slice_get versions.addresses) (sym c.head-head.ensures.head) ∙ c.address.ensures.address in
+    let parents = c.from_vec.ensures ∙ c.in_ok-push_address-in-Operation.ensures.ok ∙ ap (λ l. l ++ a ∷ []) c.new-parent.ensures.items in
+    let op = c.in_ok-from_slice-in-Operation.field-0 in
+    let reply = c.in_ok-from_slice-in-Operation-2.field-0 in
+    let does = ap (λ b. wire.Operation b reply) c.in_ok-from_slice-in-Operation.ensures ∙ ap (wire.Operation parts.op.now) c.in_ok-from_slice-in-Operation-2.ensures in
+    let makes =
+    operation-makes_pair meaning laws core.limits address core.history c.requires.settled.valid seen c.branch-branch.ensures.seen c.requires.history versions.addresses c.requires.settled.addressed work c.requires.may parts.clock parts.value parts.op parts.reply written c.from_vec.result c.branch-branch.result (wire.Operation op reply) a at parents c.branch-branch.ensures.branch does in
+    let e = c.in_err-stage-in-Operation.field-0.0 in
+    let p = err_from_is_err_and c.from_residual-in_err-stage-in-Operation.result c.from_residual-in_err-stage-in-Operation.ensures.1 in
+    rw (p.1, p.2)
+    (staged-refused fixed core.history c.args.objects.now.stored c.requires.settled.stored work (move_of seen.branch work) (value_object parts.value.now) (commit_object (commit_fields address parts.value.now c.from_vec.result c.branch-branch.result parts.clock (wire.Operation op reply))) makes seen c.requires.may e c.in_err-stage-in-Operation.ensures.collides)
+
+pub returns-in_ok-stage-in-Operation-clause-staged : goal.returns-in_ok-stage-in-Operation-clause-staged
+returns-in_ok-stage-in-Operation-clause-staged g c =
+    let meaning = g.T.Mrdt.meaning in
+    let address = g.A.Address.address in
+    let laws = (g.met.T.Mrdt g.world.𝓛 g.world.𝓜 g.world.𝓡 ((λ s x. x), (λ x. x), (λ x. x), λ x. x)).laws in
+    let versions = c.args.versions.now in
+    let core = versions.core in
+    let fixed = fix meaning core.limits address in
+    let seen = c.args.prepared.now.seen in
+    let work = c.args.prepared.now.work in
+    let parts = c.in-Operation in
+    let a = c.address.result.now in
+    let written = subst (λ w. IsWritten meaning c.args.prepared.now w) parts.is c.written.ensures in
+    let at = ap (slice_get versions.addresses) (sym c.head-head.ensures.head) ∙ c.address.ensures.address in
+    let parents = c.from_vec.ensures ∙ c.in_ok-push_address-in-Operation.ensures.ok ∙ ap (λ l. l ++ a ∷ []) c.new-parent.ensures.items in
+    let op = c.in_ok-from_slice-in-Operation.field-0 in
+    let reply = c.in_ok-from_slice-in-Operation-2.field-0 in
+    let does = ap (λ b. wire.Operation b reply) c.in_ok-from_slice-in-Operation.ensures ∙ ap (wire.Operation parts.op.now) c.in_ok-from_slice-in-Operation-2.ensures in
+    let makes =
+    operation-makes_pair meaning laws core.limits address core.history c.requires.settled.valid seen c.branch-branch.ensures.seen c.requires.history versions.addresses c.requires.settled.addressed work c.requires.may parts.clock parts.value parts.op parts.reply written c.from_vec.result c.branch-branch.result (wire.Operation op reply) a at parents c.branch-branch.ensures.branch does in
+    let done = c.in_ok-stage-in-Operation.ensures in
+    staged-one fixed core.history c.args.objects.now.stored c.requires.settled.stored work (move_of seen.branch work) (value_object parts.value.now) (commit_object (commit_fields address parts.value.now c.from_vec.result c.branch-branch.result parts.clock (wire.Operation op reply))) makes c.stage.new.self c.in_ok-stage-in-Operation.field-0 done.free done.stored done.added done.address
+
+pub returns-in_err-stage-in-Merge-clause-refused : goal.returns-in_err-stage-in-Merge-clause-refused
+returns-in_err-stage-in-Merge-clause-refused g c =
+    let meaning = g.T.Mrdt.meaning in
+    let address = g.A.Address.address in
+    let laws = (g.met.T.Mrdt g.world.𝓛 g.world.𝓜 g.world.𝓡 ((λ s x. x), (λ x. x), (λ x. x), λ x. x)).laws in
+    let versions = c.args.versions.now in
+    let core = versions.core in
+    let fixed = fix meaning core.limits address in
+    let seen = c.args.prepared.now.seen in
+    let work = c.args.prepared.now.work in
+    let parts = c.in-Merge in
+    let a = c.address-in-Merge.result.now in
+    let b = c.address-in-Merge-2.result.now in
+    let written = subst (λ w. IsWritten meaning c.args.prepared.now w) parts.is c.written.ensures in
+    let at = ap (slice_get versions.addresses) (sym c.head-head.ensures.head) ∙ c.address-in-Merge.ensures.address in
+    let parents =
+    c.from_vec-parents.ensures ∙ c.in_ok-push_address-in-Merge-2.ensures.ok ∙ ap (λ l. l ++ b ∷ []) (c.in_ok-push_address-in-Merge.ensures.ok ∙ ap (λ l. l ++ a ∷ []) c.new-parents.ensures.items) in
+    let makes =
+    merge-makes_pair meaning laws core.limits address core.history c.requires.settled.valid seen c.branch-branch.ensures.seen c.requires.history versions.addresses c.requires.settled.addressed work c.requires.may parts.other parts.clock parts.value written c.from_vec-parents.result c.branch-branch.result a b at c.address-in-Merge-2.ensures.address parents c.branch-branch.ensures.branch in
+    let e = c.in_err-stage-in-Merge.field-0.0 in
+    let p = err_from_is_err_and c.from_residual-in_err-stage-in-Merge.result c.from_residual-in_err-stage-in-Merge.ensures.1 in
+    rw (p.1, p.2)
+    (staged-refused fixed core.history c.args.objects.now.stored c.requires.settled.stored work (move_of seen.branch work) (value_object parts.value.now) (commit_object (commit_fields address parts.value.now c.from_vec-parents.result c.branch-branch.result parts.clock wire.Merge)) makes seen c.requires.may e c.in_err-stage-in-Merge.ensures.collides)
+
+pub returns-in_ok-stage-in-Merge-clause-staged : goal.returns-in_ok-stage-in-Merge-clause-staged
+returns-in_ok-stage-in-Merge-clause-staged g c =
+    let meaning = g.T.Mrdt.meaning in
+    let address = g.A.Address.address in
+    let laws = (g.met.T.Mrdt g.world.𝓛 g.world.𝓜 g.world.𝓡 ((λ s x. x), (λ x. x), (λ x. x), λ x. x)).laws in
+    let versions = c.args.versions.now in
+    let core = versions.core in
+    let fixed = fix meaning core.limits address in
+    let seen = c.args.prepared.now.seen in
+    let work = c.args.prepared.now.work in
+    let parts = c.in-Merge in
+    let a = c.address-in-Merge.result.now in
+    let b = c.address-in-Merge-2.result.now in
+    let written = subst (λ w. IsWritten meaning c.args.prepared.now w) parts.is c.written.ensures in
+    let at = ap (slice_get versions.addresses) (sym c.head-head.ensures.head) ∙ c.address-in-Merge.ensures.address in
+    let parents =
+    c.from_vec-parents.ensures ∙ c.in_ok-push_address-in-Merge-2.ensures.ok ∙ ap (λ l. l ++ b ∷ []) (c.in_ok-push_address-in-Merge.ensures.ok ∙ ap (λ l. l ++ a ∷ []) c.new-parents.ensures.items) in
+    let makes =
+    merge-makes_pair meaning laws core.limits address core.history c.requires.settled.valid seen c.branch-branch.ensures.seen c.requires.history versions.addresses c.requires.settled.addressed work c.requires.may parts.other parts.clock parts.value written c.from_vec-parents.result c.branch-branch.result a b at c.address-in-Merge-2.ensures.address parents c.branch-branch.ensures.branch in
+    let done = c.in_ok-stage-in-Merge.ensures in
+    staged-one fixed core.history c.args.objects.now.stored c.requires.settled.stored work (move_of seen.branch work) (value_object parts.value.now) (commit_object (commit_fields address parts.value.now c.from_vec-parents.result c.branch-branch.result parts.clock wire.Merge)) makes c.stage-in-Merge.new.self c.in_ok-stage-in-Merge.field-0 done.free done.stored done.added done.address
+
+pub returns-in-Forward-clause-staged : goal.returns-in-Forward-clause-staged
+returns-in-Forward-clause-staged g c =
+    let meaning = g.T.Mrdt.meaning in
+    let core = c.args.versions.now.core in
+    let prepared = c.args.prepared.now in
+    let written = subst (λ w. IsWritten meaning prepared w) c.in-Forward.is c.written.ensures in
+    staged-none (fix meaning core.limits g.A.Address.address) core.history prepared.seen.branch prepared.work prepared.seen c.in-Forward.other written c.args.objects.now (replicate 32 0) c.requires.settled.stored c.requires.settled.staged

@@ -1,0 +1,42 @@
+-- The turns of the machine that keeps objects, of what the calls of a recorded history make.
+use Rattle.std.specs.Prelude.{◌≡◌, ℕ, ◌+◌, List, [], ◌∷◌, length, map}
+use Rattle.branch_history.specs.declared.moves.Move.{Move}
+use Rattle.branch_history.specs.declared.moves.Move.TheVariants as move
+use Rattle.branch_history.specs.History.{store_of}
+use Rattle.branch_history.specs.Steps as machine
+use Rattle.branch_history.specs.Machine.{answers}
+use Rattle.heads_journal.specs.declared.record.Record.{Record}
+use Rattle.branch_machine.specs.Fixed.{Fixed}
+use Rattle.branch_machine.specs.Objects.{pairs_of}
+use Rattle.branch_machine.specs.Machine.{full_turn}
+use Rattle.branch_files.specs.Records.{record_of}
+use Rattle.store_seen.specs.Turns.{step_of, move_of, outcome_of}
+use Rattle.store_seen.specs.Views.{PreparedView}
+use Rattle.recorded_history.specs.declared.answers.Made.{Made}
+use Rattle.recorded_history.specs.declared.answers.Branched.{Branched}
+use Rattle.recorded_history.specs.Views.{RecordedView}
+
+-- the addresses of the commits of a history, by number
+abbrev pub addresses_of : {S O R Q A : Type 0} → Fixed S O R Q A → List (Move O R) → List (List ℕ)
+addresses_of fixed moves = map (λ p. fixed.address p.commit) (pairs_of fixed (store_of moves).commits)
+
+-- the machine that keeps objects makes this move, and answers so; the move is pending, and has this record
+pub record Makes {S O R Q A : Type 0} (fixed : Fixed S O R Q A) (old new : RecordedView (Move O R)) (step : machine.Step O Q) (made : Move O R) (outcome : machine.Outcome A R) (moves : ℕ) (r : Record) : Type 0 where
+  pub turn_is : full_turn fixed old.written step ≡ record { outcome = outcome; made = made ∷ [] }
+  pub pending : new ≡ record old { pending = made ∷ [] }
+  pub counted : moves ≡ length old.written + 1
+  pub recorded : r ≡ record_of fixed old.written made
+
+-- what was prepared landed as the machine's step does it
+abbrev pub LandsAs : {S O R Q A : Type 0} → Fixed S O R Q A → PreparedView O R → RecordedView (Move O R) → RecordedView (Move O R) → Made R → Type 0
+LandsAs {S} {O} {R} {Q} {A} fixed prepared old new made =
+    Makes fixed old new (step_of prepared.seen prepared.work) (move_of prepared.seen.branch prepared.work) (outcome_of made.landed.kind) made.landed.moves made.record
+
+-- a branch forked as the machine's step does it
+abbrev pub Forks : {S O R Q A : Type 0} → Fixed S O R Q A → List ℕ → List ℕ → RecordedView (Move O R) → RecordedView (Move O R) → Branched → Type 0
+Forks {S} {O} {R} {Q} {A} fixed name from old new made =
+    (source : ℕ) × Makes fixed old new (machine.Fork name from) (move.Fork name made.forked.number source) (machine.Forked made.forked.number made.forked.head) made.forked.moves made.record
+
+-- the machine that keeps objects refuses a step, and nothing moves
+abbrev pub FullyRefuses : {S O R Q A : Type 0} → Fixed S O R Q A → List (Move O R) → machine.Step O Q → machine.Refusal → Type 0
+FullyRefuses {S} {O} {R} {Q} {A} fixed history step refusal = full_turn fixed history step ≡ answers {A = A} (machine.Refused refusal)

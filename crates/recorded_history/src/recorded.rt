@@ -1,0 +1,274 @@
+// A history, its commits in memory, and its stored objects.
+ghost use Rattle.std.specs.Prelude.{◌≡◌, ◌+◌, ◌<◌, ◌∷◌, [], ◌++◌, length, slice_get, Some, Ok, IfOk, IfErr, IfSome, OnOk, OnErr};
+ghost use Rattle.std.specs.Option.{option_map};
+ghost use mathlib.Core.List.{IsPrefix};
+ghost use Rattle.branch_io.specs.Causes.{HasCause};
+ghost use Rattle.branch_disk.specs.Disk.{After, Holds, LeavesOnly, OnPart, Tells, Torn};
+ghost use Rattle.branch_graph.specs.Graph.{reaches};
+ghost use Rattle.branch_names.specs.Heads.{Branch, branch_named};
+ghost use Rattle.branch_history.specs.Commits.{graph_of};
+ghost use Rattle.branch_history.specs.History.{store_of};
+ghost use Rattle.branch_history.specs.Machine.{turn, answers};
+ghost use Rattle.branch_history.specs.Steps as machine;
+ghost use Rattle.branch_machine.specs.Fixed.{fix};
+ghost use Rattle.branch_machine.specs.Objects.{end_of, objects_of, objects_text, region};
+ghost use Rattle.branch_machine.specs.Validity.{IsFullyValid};
+ghost use Rattle.object_store.specs.Images.{AllBegin, AllCome, Grows};
+ghost use Rattle.store_seen.specs.Pairs.{IsPaired, PairRefusedAs};
+ghost use Rattle.store_seen.specs.Turns.{LookRefusedAs};
+ghost use Rattle.recorded_history.specs.Machine.{Forks, LandsAs};
+ghost use Rattle.recorded_history.specs.Refusals.{ForkRefusedAs, LandRefusedAs};
+ghost use Rattle.recorded_history.specs.Views.{core_of};
+
+use crate::answers::{Branched, LandRefused, Made};
+use crate::staging::{record_for, stage};
+use branch_address::Address;
+use branch_disk::{Disk, DiskFailed, Part};
+use branch_history::Move;
+use branch_names::{Limits, Name};
+use heads_journal::Record;
+use mrdt_model::{Memory, Mrdt};
+use object_store::Objects;
+use std::alloc::Global;
+use std::marker::Model;
+use std::snapshot::Snapshot;
+use store_seen::{ForkRefused, LookRefused, Pair, PairRefused, Prepared, Seen, Versions};
+
+/// A history with the bytes of its files. Contracts see a `RecordedView`: the moves that are written, the one that was
+/// made and is not written yet, and the limits.
+#[derive(Drop)]
+pub struct Recorded<T: Mrdt, A: Address> {
+    alloc: Global,
+    versions: Versions<T>,
+    objects: Objects<A>,
+    // What was there when no move was pending last.
+    settled: Snapshot<Versions<T>>,
+    // Where the branch of the pending move stood before it, if one is pending.
+    stood: Option<u32>,
+}
+
+impl<T: Mrdt, A: Address> Model for Recorded<T, A> {
+    ghost use Rattle.branch_history.specs.declared.moves.Move.{Move};
+    ghost use Rattle.recorded_history.specs.Views.{RecordedView, recorded_of};
+    ghost use Rattle.recorded_history.specs.Keeps.{IsRecorded};
+
+    ghost Value = { RecordedView (Move T.Op T.Reply) };
+
+    ghost view = { λ r. recorded_of r.settled.value.core r.versions.core };
+
+    ghost invariant = { λ r. IsRecorded T.meaning A.address (recorded_of r.settled.value.core r.versions.core) r.stood r.versions r.objects };
+}
+
+impl<T: Mrdt, A: Address> Recorded<T, A> {
+    /// The empty history, with `main` at commit 0, whose objects stand in memory: `create` writes them.
+    pub fn fresh(alloc: Global, limits: Limits) -> Result<Recorded<T, A>, Memory>
+        ensures { IfOk result (λ recorded. recorded ≡ record { written = []; pending = []; limits = limits }) }
+    {
+        let mut value = Vec::new(alloc);
+        T::initial(alloc).put(&mut value)?;
+        let (objects, root) = Objects::fresh(alloc, &value)?;
+        let versions = Versions::fresh(alloc, limits, root)?;
+        Ok(Recorded {
+            alloc,
+            settled: Snapshot::of(&versions),
+            versions,
+            objects,
+            stood: None,
+        })
+    }
+
+    /// How many moves the history has, the pending one counted. It is a valid history of a store that keeps objects.
+    pub fn moves(&self) -> u64
+        ensures moves { result ≡ length (self.now.written ++ self.now.pending) }
+        ensures valid { IsFullyValid (fix T.meaning self.now.limits A.address) (self.now.written ++ self.now.pending) }
+    {
+        self.versions.moves()
+    }
+
+    /// How many commits the store holds, commit 0 counted, and that of the pending move.
+    pub fn commits(&self) -> u32
+        ensures { result ≡ length (store_of (self.now.written ++ self.now.pending)).commits }
+    {
+        self.versions.commits()
+    }
+
+    /// How many branches the store holds, `main` counted, and that of the pending move.
+    pub fn branches(&self) -> u32
+        ensures { result ≡ length (store_of (self.now.written ++ self.now.pending)).branches }
+    {
+        self.versions.branches()
+    }
+
+    /// The limits that it was made under.
+    pub fn limits(&self) -> Limits
+        ensures { result ≡ self.now.limits }
+    {
+        self.versions.limits()
+    }
+
+    /// The name and the head of a branch, after the pending move; `None` exactly past the last branch. No other branch
+    /// has the name.
+    pub fn branch(&self, number: u32) -> Option<(Name, u32)>
+        ensures named { IfSome result (λ found. branch_named (store_of (self.now.written ++ self.now.pending)).branches found.0 ≡ Some number) }
+        ensures found { result ≡ option_map (λ (b : Branch). (b.name, b.head)) (slice_get (store_of (self.now.written ++ self.now.pending)).branches number) }
+    {
+        self.versions.branch(number)
+    }
+
+    /// Looks at the branch with a name. `UnknownBranch` comes exactly where no branch has it.
+    pub fn look(&self, name: &Name) -> Result<Seen<T>, LookRefused>
+        requires settled { self.now.pending ≡ [] }
+        ensures on { IfOk result (λ seen. (seen.history ≡ self.now.written) × (seen.limits ≡ self.now.limits)) }
+        ensures sees { IfOk result (λ seen. turn T.meaning self.now.limits self.now.written (machine.Look name.now) ≡ answers (machine.Sees seen.branch seen.head)) }
+        ensures refused { IfErr result (LookRefusedAs T.meaning (core_of self.now) name.now) }
+    {
+        self.versions.look(name)
+    }
+
+    /// Pairs a look at this history, taken now or earlier, with the head that a branch has now. `UnknownBranch` comes
+    /// exactly where no branch has the name.
+    pub fn pair(&self, seen: &Seen<T>, from: &Name) -> Result<Pair<T>, PairRefused>
+        requires settled { self.now.pending ≡ [] }
+        requires history { IsPrefix seen.now.history self.now.written }
+        requires limits { seen.now.limits ≡ self.now.limits }
+        ensures paired { IfOk result (IsPaired T.meaning (core_of self.now) seen.now from.now) }
+        ensures refused { IfErr result (PairRefusedAs T.meaning (core_of self.now) from.now) }
+    {
+        self.versions.pair(seen, from)
+    }
+
+    /// Pairs a look at this history, taken now or earlier, with a commit.
+    pub fn pair_at(&self, seen: &Seen<T>, other: u32) -> Result<Pair<T>, Memory>
+        requires settled { self.now.pending ≡ [] }
+        requires history { IsPrefix seen.now.history self.now.written }
+        requires limits { seen.now.limits ≡ self.now.limits }
+        requires there { other < length (store_of self.now.written).commits }
+        ensures { IfOk result (λ pair. pair ≡ record { history = self.now.written; limits = self.now.limits; branch = seen.now.branch; head = seen.now.head; other = other }) }
+    {
+        self.versions.pair_at(seen, other)
+    }
+
+    /// Whether a commit is another one or lies above it.
+    pub fn reaches(&self, above: u32, below: u32) -> Result<bool, Memory>
+        requires settled { self.now.pending ≡ [] }
+        requires above { above < length (store_of self.now.written).commits }
+        requires below { below < length (store_of self.now.written).commits }
+        ensures { IfOk result (λ is. is ≡ reaches (graph_of (store_of self.now.written).commits) above below) }
+    {
+        self.versions.reaches(above, below)
+    }
+
+    /// Lands what was prepared on a look at this history, now or earlier, in memory; then it is pending. It is refused
+    /// exactly as the machine refuses it, and then nothing has changed: `Stale` before `FullCommits`, which only a new
+    /// commit meets, before `FullMoves`, before `Collision`.
+    pub fn land(&mut self, prepared: Prepared<T>) -> Result<Made<T::Reply>, LandRefused>
+        requires settled { self.old.pending ≡ [] }
+        requires history { IsPrefix prepared.seen.history self.old.written }
+        requires limits { prepared.seen.limits ≡ self.old.limits }
+        ensures made { IfOk result (LandsAs (fix T.meaning self.old.limits A.address) prepared self.old self.new) }
+        ensures refused { IfErr result (LandRefusedAs (fix T.meaning self.old.limits A.address) prepared self.old.written) }
+        ensures kept { OnErr result (self.new ≡ self.old) }
+    {
+        self.versions.may_land(&prepared)?;
+        let head = prepared.head();
+        let address = stage(self.alloc, &self.versions, &mut self.objects, &prepared)?;
+        let record = record_for(&prepared, address, self.objects.end());
+        let Ok(landed) = self.versions.land(prepared, address) else {
+            self.objects.drop_staged();
+            return Err(LandRefused::Memory);
+        };
+        // The longer history is valid: its count tells the proof so.
+        let _moves = self.versions.moves();
+        self.stood = Some(head);
+        Ok(Made { landed, record })
+    }
+
+    /// Forks a new branch from the head of another, in memory; then it is pending. It is refused exactly as the machine
+    /// refuses it, and then nothing has changed: `UnknownBranch` before `NameTaken` before `FullBranches` before
+    /// `FullMoves`.
+    pub fn fork(&mut self, new: Name, from: &Name) -> Result<Branched, ForkRefused>
+        requires settled { self.old.pending ≡ [] }
+        ensures forked { IfOk result (Forks (fix T.meaning self.old.limits A.address) new from.now self.old self.new) }
+        ensures refused { IfErr result (ForkRefusedAs (fix T.meaning self.old.limits A.address) new from.now self.old.written) }
+        ensures kept { OnErr result (self.new ≡ self.old) }
+    {
+        let Some(source) = self.versions.find(from) else {
+            return Err(ForkRefused::UnknownBranch { name: *from });
+        };
+        let forked = self.versions.fork(new, from)?;
+        // The longer history is valid: its count tells the proof so.
+        let _moves = self.versions.moves();
+        self.stood = Some(forked.head);
+        let record = Record::Fork {
+            number: forked.number,
+            from: source,
+            name: new,
+            end: self.objects.end(),
+        };
+        Ok(Branched { forked, record })
+    }
+
+    /// The bytes that the pending move adds to the objects; none where no move is pending.
+    pub fn region(&self) -> &[u8]
+        ensures region { (made : Move T.Op T.Reply) → self.now.pending ≡ made ∷ [] → result.now ≡ region (fix T.meaning self.now.limits A.address) self.now.written made }
+        ensures none { self.now.pending ≡ [] → result.now ≡ [] }
+    {
+        self.objects.staged()
+    }
+
+    /// Where the objects end, behind those of the pending move.
+    pub fn end(&self) -> u64
+        ensures { result ≡ end_of (fix T.meaning self.now.limits A.address) (self.now.written ++ self.now.pending) }
+    {
+        self.objects.end()
+    }
+
+    /// Writes the objects of the history over what the file of the objects has, and syncs them.
+    pub fn create<D: Disk>(&self, disk: &mut D) -> Result<(), DiskFailed>
+        requires settled { self.now.pending ≡ [] }
+        ensures any_moment { LeavesOnly D.moment D.left_since disk.old disk.new (After (OnPart Part.Objects (Torn 0 (end_of (fix T.meaning self.now.limits A.address) self.now.written))) (D.may_leave disk.old)) }
+        ensures acknowledged { OnOk result (AllBegin (objects_text (fix T.meaning self.now.limits A.address) self.now.written) (D.may_leave disk.new)) }
+        ensures heads { OnOk result (AllCome (Grows (objects_text (fix T.meaning self.now.limits A.address) self.now.written)) (D.may_leave disk.old) (D.may_leave disk.new)) }
+        ensures written { OnOk result (Tells (OnPart Part.Objects (Holds 0 (objects_text (fix T.meaning self.now.limits A.address) self.now.written))) (D.contents disk.old) (D.contents disk.new)) }
+        ensures torn { Tells (OnPart Part.Objects (Torn 0 (end_of (fix T.meaning self.now.limits A.address) self.now.written))) (D.contents disk.old) (D.contents disk.new) }
+        ensures cause { HasCause (D.faults disk.old) (D.faults disk.new) result }
+    {
+        self.objects.create_in(disk)
+    }
+
+    /// Writes the objects of the pending move behind the others, and syncs them; where there are none, it makes no
+    /// device call. Then the move is still pending.
+    pub fn write<D: Disk>(&self, disk: &mut D) -> Result<(), DiskFailed>
+        requires { AllBegin (objects_text (fix T.meaning self.now.limits A.address) self.now.written) (D.may_leave disk.old) }
+        ensures any_moment { LeavesOnly D.moment D.left_since disk.old disk.new (After (Grows (objects_text (fix T.meaning self.now.limits A.address) self.now.written)) (D.may_leave disk.old)) }
+        ensures acknowledged { OnOk result (AllBegin (objects_text (fix T.meaning self.now.limits A.address) (self.now.written ++ self.now.pending)) (D.may_leave disk.new)) }
+        ensures heads { OnOk result (AllCome (Grows (objects_text (fix T.meaning self.now.limits A.address) (self.now.written ++ self.now.pending))) (D.may_leave disk.old) (D.may_leave disk.new)) }
+        ensures written { (made : Move T.Op T.Reply) → self.now.pending ≡ made ∷ [] → OnOk result (Tells (OnPart Part.Objects (Holds (end_of (fix T.meaning self.now.limits A.address) self.now.written) (region (fix T.meaning self.now.limits A.address) self.now.written made))) (D.contents disk.old) (D.contents disk.new)) }
+        ensures torn { (made : Move T.Op T.Reply) → self.now.pending ≡ made ∷ [] → Tells (OnPart Part.Objects (Torn (end_of (fix T.meaning self.now.limits A.address) self.now.written) (length (region (fix T.meaning self.now.limits A.address) self.now.written made)))) (D.contents disk.old) (D.contents disk.new) }
+        ensures untouched { objects_of (fix T.meaning self.now.limits A.address) (self.now.written ++ self.now.pending) ≡ objects_of (fix T.meaning self.now.limits A.address) self.now.written → (disk.new ≡ disk.old) × (result ≡ Ok tt) }
+        ensures cause { HasCause (D.faults disk.old) (D.faults disk.new) result }
+    {
+        self.objects.write(disk)
+    }
+
+    /// Counts the pending move, if there is one, as written. It takes no memory.
+    pub fn settle(&mut self)
+        ensures { self.new ≡ record { written = self.old.written ++ self.old.pending; pending = []; limits = self.old.limits } }
+    {
+        self.objects.keep_staged();
+        self.settled = Snapshot::of(&self.versions);
+        self.stood = None;
+    }
+
+    /// Takes the pending move, if there is one, off again. It takes no memory.
+    pub fn undo(&mut self)
+        ensures { self.new ≡ record self.old { pending = [] } }
+    {
+        let Some(head) = self.stood else {
+            return;
+        };
+        self.versions.undo(head);
+        self.objects.drop_staged();
+        self.stood = None;
+    }
+}
