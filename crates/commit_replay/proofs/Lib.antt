@@ -1,0 +1,9 @@
+pub mod Lists
+pub mod Held
+pub mod Read
+pub mod Parted
+pub mod Steps
+pub mod Looked
+pub mod Remade
+pub mod Walked
+pub mod Begun

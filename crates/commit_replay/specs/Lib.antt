@@ -1,0 +1,6 @@
+pub mod Follows
+pub mod Refusals
+pub mod Laws
+pub mod Parts
+pub mod Plans
+pub mod Walk

@@ -1,0 +1,50 @@
+-- The objects of one commit as they stand: that of its value, if that was not stored before, and its own.
+use Rattle.std.specs.Prelude.{◌≡◌, ℕ, List, [], ◌++◌}
+use Rattle.std.specs.declared.option.Option.{Option}
+use Rattle.std.specs.declared.option.Option.TheVariants.{None, Some}
+use Rattle.mrdt_model.specs.Laws.{Meaning}
+use Rattle.branch_wire.specs.Reading.{HasLength64}
+use Rattle.branch_wire.specs.Objects.{CommitFields, value_object, commit_object}
+use Rattle.branch_objects_codec.specs.Grammar.{IsCommit}
+use Rattle.commit_replay.specs.declared.commit.NotRemade.{NotRemade}
+use Rattle.commit_replay.specs.declared.commit.NotRemade.TheVariants as unmade
+use Rattle.mrdt_model.specs.declared.errors.Unread.{Unread}
+use Rattle.mrdt_model.specs.declared.errors.Unread.TheVariants as unread
+use Rattle.commit_replay.specs.declared.parts.Parts.{Parts}
+
+-- the bytes of the object of a value that has this spelling, or none
+abbrev pub value_text : Option (List ℕ) → List ℕ
+value_text None = []
+value_text (Some spelling) = value_object spelling
+
+abbrev pub IsShort : Option (List ℕ) → Type 0
+IsShort None = Unit {0}
+IsShort (Some spelling) = HasLength64 spelling
+
+-- the bytes are the object of a value with this spelling, or nothing, and the object of this commit
+pub record AreParts (bytes : List ℕ) (value : Option (List ℕ)) (c : CommitFields) : Type 0 where
+  pub short : IsShort value
+  pub commit : IsCommit c
+  pub whole : bytes ≡ value_text value ++ commit_object c
+
+-- the commit's object does this
+pub record IsDoneIn (bytes : List ℕ) (parts : Parts) : Type 0 where
+  pub commit : CommitFields
+  pub does : commit.action ≡ parts.action
+  pub are : AreParts bytes parts.value commit
+
+-- the value, if its object stands there, is spelled as the type has it
+abbrev pub IsOfType : {S O R Q A : Type 0} → Meaning S O R Q A → Option (List ℕ) → Type 0
+IsOfType meaning None = Unit {0}
+IsOfType meaning (Some spelling) = meaning.is_state_spelling spelling
+
+-- what it means that bytes of objects were not read
+abbrev pub unread_as : Unread → NotRemade
+unread_as unread.NotCanonical = unmade.Object
+unread_as unread.Memory = unmade.Memory
+
+-- why bytes were refused that are no commit's of the machine: the value's are none of the type, or the commit is made otherwise
+abbrev pub IsWhyNot : {S O R Q A : Type 0} → Meaning S O R Q A → Option (List ℕ) → NotRemade → Type 0
+IsWhyNot meaning value unmade.Object = ¬ IsOfType meaning value
+IsWhyNot meaning value unmade.Commit = IsOfType meaning value
+IsWhyNot meaning value unmade.Memory = Unit {0}

@@ -1,0 +1,25 @@
+-- What a record and its commit say is to be done.
+use Rattle.std.specs.Prelude.{◌≡◌, List}
+use Rattle.mrdt_model.specs.Laws.{Meaning}
+use Rattle.branch_names.specs.Heads.{head_of}
+use Rattle.branch_wire.specs.declared.action.Action.{Action}
+use Rattle.branch_wire.specs.declared.action.Action.TheVariants as wire
+use Rattle.branch_history.specs.declared.moves.Move.{Move}
+use Rattle.branch_history.specs.History.{store_of}
+use Rattle.branch_history.specs.Steps as machine
+use Rattle.heads_journal.specs.declared.record.Record.{Record}
+use Rattle.heads_journal.specs.declared.record.Record.TheVariants as entry
+use Rattle.commit_replay.specs.declared.plan.Plan.{Plan}
+use Rattle.commit_replay.specs.declared.plan.Plan.TheVariants.{Operation, Merge}
+
+-- the record and the commit's action say this: an operation is the only one that is spelled so
+abbrev pub IsPlanOf : {S O R Q A : Type 0} → Meaning S O R Q A → Record → Action → Plan O → Type 0
+IsPlanOf {S} {O} meaning (entry.Operation r address end) (wire.Operation text reply) (Operation branch op) =
+    (branch ≡ r) × meaning.is_op op × ((other : O) → meaning.is_op other → meaning.op_spelling other ≡ text → op ≡ other)
+IsPlanOf meaning (entry.Merge r m address end) wire.Merge (Merge branch commit) = (branch ≡ r) × (commit ≡ m)
+IsPlanOf meaning r action plan = ⊥
+
+-- the step that does it, by one that sees the head of the branch
+abbrev pub step_for : {O R Q : Type 0} → List (Move O R) → Plan O → machine.Step O Q
+step_for moves (Operation branch op) = machine.Land branch (head_of (store_of moves).branches branch) op
+step_for moves (Merge branch commit) = machine.Merge branch (head_of (store_of moves).branches branch) commit

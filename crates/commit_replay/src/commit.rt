@@ -1,0 +1,82 @@
+// One record of a move that makes a commit, with the bytes of its objects.
+ghost use Rattle.std.specs.Prelude.{◌≡◌, ◌+◌, [], length, IfErr, OnOk};
+ghost use Rattle.branch_machine.specs.Fixed.{fix};
+ghost use Rattle.branch_machine.specs.Objects.{end_of};
+ghost use Rattle.branch_files.specs.Next.{end_at};
+ghost use Rattle.heads_journal.specs.Format.{Fits};
+ghost use Rattle.commit_replay.specs.Follows.{MayCome};
+ghost use Rattle.commit_replay.specs.Parts.{IsWhyNot, unread_as};
+ghost use Rattle.commit_replay.specs.Walk.{GoesOn, NotRemadeAs};
+
+use crate::parts::parted;
+use crate::plan::planned;
+use crate::remake::remake;
+use branch_address::Address;
+use heads_journal::Record;
+use mrdt_model::{Bytes, Memory, Mrdt, Unread};
+use recorded_history::Recorded;
+use std::alloc::Global;
+
+// Why no commit was made anew.
+#[derive(Clone, Copy, Debug, PartialEq, Eq)]
+pub enum NotRemade {
+    // The bytes are no objects of such a commit.
+    Object,
+    // The bytes or the record are not those of the commit that is made so.
+    Commit,
+    // Want of memory.
+    Memory,
+}
+
+// What it means that bytes of objects were not read.
+fn unread(why: Unread) -> NotRemade
+    ensures { result ≡ unread_as why }
+{
+    match why {
+        Unread::NotCanonical => NotRemade::Object,
+        Unread::Memory => NotRemade::Memory,
+    }
+}
+
+// Makes a commit anew from what its object says is done there.
+pub fn remake_commit<T: Mrdt, A: Address>(
+    alloc: Global,
+    recorded: &mut Recorded<T, A>,
+    next: &Record,
+    bytes: &[u8],
+) -> Result<(), NotRemade>
+    requires settled { recorded.old.pending ≡ [] }
+    requires fits { Fits next.now }
+    requires may { MayCome (fix T.meaning recorded.old.limits A.address) recorded.old.written next.now }
+    requires long { end_of (fix T.meaning recorded.old.limits A.address) recorded.old.written + length bytes.now ≡ end_at next.now }
+    ensures went { OnOk result (GoesOn (fix T.meaning recorded.old.limits A.address) recorded.old recorded.new next.now bytes.now) }
+    ensures not { IfErr result (NotRemadeAs (fix T.meaning recorded.old.limits A.address) recorded.old.written next.now bytes.now) }
+{
+    let _moves = recorded.moves();
+    let parts = match parted(alloc, bytes) {
+        Ok(parts) => parts,
+        Err(why) => return Err(unread(why)),
+    };
+    let plan = match planned::<T>(alloc, next, &parts.action) {
+        Ok(plan) => plan,
+        Err(why) => return Err(unread(why)),
+    };
+    match remake(recorded, plan, next, bytes) {
+        Ok(true) => Ok(()),
+        Ok(false) => Err(why_not::<T>(alloc, &parts.value)),
+        Err(Memory) => Err(NotRemade::Memory),
+    }
+}
+
+// Why the bytes of a commit were refused, whose value's object, if it stands there, has this spelling.
+fn why_not<T: Mrdt>(alloc: Global, value: &Option<Bytes>) -> NotRemade
+    ensures { IsWhyNot T.meaning value.now result }
+{
+    match value {
+        None => NotRemade::Commit,
+        Some(spelling) => match T::get(alloc, spelling.as_slice()) {
+            Ok(_) => NotRemade::Commit,
+            Err(why) => unread(why),
+        },
+    }
+}

@@ -1,0 +1,48 @@
+// The objects of a new store.
+ghost use Rattle.std.specs.Prelude.{◌≡◌, [], IfOk};
+ghost use Rattle.branch_names.specs.declared.limits.Limits.{Limits as SpecLimits};
+ghost use Rattle.branch_machine.specs.Fixed.{fix};
+ghost use Rattle.branch_machine.specs.Objects.{objects_text};
+ghost use Rattle.branch_wire.specs.StoredObjects.{header};
+
+use branch_address::Address;
+use branch_objects_codec::{Action, Object, put_value};
+use branch_wire::put_u32;
+use mrdt_model::{Listing, Memory, Mrdt};
+use std::alloc::Global;
+
+const LETTERS: &[u8] = b"MRDTOBJS";
+
+const VERSION: u32 = 1;
+
+// The bytes of the objects file of a new store: its header, the object of the first value, and that of the root
+// commit.
+pub fn first_text<T: Mrdt, A: Address>(alloc: Global) -> Result<Vec<u8>, Memory>
+    ensures { IfOk result (λ text. (limits : SpecLimits) → text.items ≡ objects_text (fix T.meaning limits A.address) []) }
+{
+    let mut spelling = Vec::new(alloc);
+    T::initial(alloc).put(&mut spelling)?;
+    let mut value = Vec::new(alloc);
+    put_value(&spelling, &mut value)?;
+    let root = Object::Commit {
+        parents: Listing::from_vec(Vec::new(alloc)),
+        branch: 0,
+        clock: 0,
+        value: A::of(&value),
+        action: Action::Root,
+    };
+    let mut text = header_text(alloc)?;
+    text.extend_from_slice(&value)?;
+    root.put(&mut text)?;
+    Ok(text)
+}
+
+// The header.
+fn header_text(alloc: Global) -> Result<Vec<u8>, Memory>
+    ensures { IfOk result (λ text. text.items ≡ header) }
+{
+    let mut text = Vec::from_slice(alloc, LETTERS)?;
+    put_u32(VERSION, &mut text)?;
+    put_u32(0, &mut text)?;
+    Ok(text)
+}

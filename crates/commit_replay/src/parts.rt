@@ -1,0 +1,57 @@
+// The objects of one commit, as they are read.
+ghost use Rattle.std.specs.Prelude.{◌≡◌, List, ℕ, IfOk, IsErrOf};
+ghost use Rattle.std.specs.declared.option.Option.{Option as SpecOption};
+ghost use Rattle.std.specs.declared.option.Option.TheVariants.{Some};
+ghost use Rattle.branch_wire.specs.Objects.{CommitFields, commit_object};
+ghost use Rattle.branch_objects_codec.specs.Grammar.{IsCommit};
+ghost use Rattle.commit_replay.specs.Parts.{AreParts, IsDoneIn};
+
+use branch_objects_codec::{Action, Object};
+use branch_wire::Cursor;
+use mrdt_model::{Bytes, Unread};
+use std::alloc::Global;
+
+// The spelling of a commit's value, where its object stands there, and what the commit does.
+#[derive(Drop)]
+pub struct Parts {
+    pub value: Option<Bytes>,
+    pub action: Action,
+}
+
+// The parts that the bytes are, and no more. `NotCanonical` comes exactly where they are none.
+pub fn parted(alloc: Global, bytes: &[u8]) -> Result<Parts, Unread>
+    ensures parts { IfOk result (IsDoneIn bytes.now) }
+    ensures none { IsErrOf result Unread.NotCanonical → (value : SpecOption (List ℕ)) (c : CommitFields) → AreParts bytes.now value c → ⊥ }
+{
+    let mut cursor = Cursor::new(bytes);
+    match Object::take(alloc, &mut cursor) {
+        Ok(Object::Commit { action, .. }) => {
+            if cursor.is_at_end() {
+                Ok(Parts {
+                    value: None,
+                    action,
+                })
+            } else {
+                Err(Unread::NotCanonical)
+            }
+        }
+        Ok(Object::Value(value)) => behind(alloc, value, cursor.take_rest()),
+        Err(refused) => Err(refused),
+    }
+}
+
+// A value's spelling, and what the commit does whose object is the whole of the bytes.
+fn behind(alloc: Global, value: Bytes, bytes: &[u8]) -> Result<Parts, Unread>
+    ensures commit { IfOk result (λ parts. (c : CommitFields) × (c.action ≡ parts.action) × IsCommit c × (bytes.now ≡ commit_object c)) }
+    ensures value { IfOk result (λ parts. parts.value ≡ Some value) }
+    ensures none { IsErrOf result Unread.NotCanonical → (c : CommitFields) → IsCommit c → bytes.now ≡ commit_object c → ⊥ }
+{
+    match Object::get(alloc, bytes) {
+        Ok(Object::Commit { action, .. }) => Ok(Parts {
+            value: Some(value),
+            action,
+        }),
+        Ok(Object::Value(_)) => Err(Unread::NotCanonical),
+        Err(refused) => Err(refused),
+    }
+}

@@ -1,0 +1,126 @@
+// Which records may come behind a history.
+ghost use Rattle.std.specs.Prelude.{◌≡◌, ◌↔◌, [], List, ℕ, IfOk, IsTrue};
+ghost use Rattle.branch_machine.specs.Fixed.{fix};
+ghost use Rattle.branch_files.specs.Next.{Suits};
+ghost use Rattle.heads_journal.specs.declared.record.Record.TheVariants as entry;
+ghost use Rattle.commit_replay.specs.Follows.{MayCome};
+
+use crate::lookups::{branch_at, is_free, look_at, standing_of};
+use branch_address::Address;
+use branch_names::Name;
+use heads_journal::Record;
+use mrdt_model::{Memory, Mrdt};
+use recorded_history::Recorded;
+
+// Whether the history allows a record behind it.
+pub fn may_come<T: Mrdt, A: Address>(
+    recorded: &Recorded<T, A>,
+    next: &Record,
+) -> Result<bool, Memory>
+    requires { recorded.now.pending ≡ [] }
+    ensures { IfOk result (λ may. IsTrue may ↔ MayCome (fix T.meaning recorded.now.limits A.address) recorded.now.written next.now) }
+{
+    let now = standing_of(recorded);
+    if now.moves >= now.limits.moves {
+        return Ok(false);
+    }
+    match next {
+        Record::Fork {
+            number,
+            from,
+            name,
+            end,
+        } => may_fork(recorded, *number, *from, name, *end),
+        Record::Operation { branch, end, .. } => may_operate(recorded, *branch, *end),
+        Record::Merge {
+            branch,
+            from,
+            end,
+            ..
+        } => may_merge(recorded, *branch, *from, *end),
+        Record::Forward { branch, to, end } => may_go_forward(recorded, *branch, *to, *end),
+    }
+}
+
+// Whether a new branch may have this number and this name, at the head of that branch.
+fn may_fork<T: Mrdt, A: Address>(
+    recorded: &Recorded<T, A>,
+    number: u32,
+    from: u32,
+    name: &Name,
+    end: u64,
+) -> Result<bool, Memory>
+    requires { recorded.now.pending ≡ [] }
+    ensures { IfOk result (λ may. IsTrue may ↔ Suits (fix T.meaning recorded.now.limits A.address) recorded.now.written (entry.Fork number from name.now end)) }
+{
+    let now = standing_of(recorded);
+    if number != now.branches || number >= now.limits.branches {
+        return Ok(false);
+    }
+    if from >= now.branches || end != now.end {
+        return Ok(false);
+    }
+    is_free(recorded, name)
+}
+
+// Whether an operation may be made on a branch, whose objects end there.
+fn may_operate<T: Mrdt, A: Address>(
+    recorded: &Recorded<T, A>,
+    branch: u32,
+    end: u64,
+) -> Result<bool, Memory>
+    requires { recorded.now.pending ≡ [] }
+    ensures { IfOk result (λ may. (address : List ℕ) → IsTrue may ↔ Suits (fix T.meaning recorded.now.limits A.address) recorded.now.written (entry.Operation branch address end)) }
+{
+    let now = standing_of(recorded);
+    if branch >= now.branches || end <= now.end || now.commits >= now.limits.commits {
+        return Ok(false);
+    }
+    let seen = look_at(recorded, branch)?;
+    Ok(seen.clock() < now.limits.clock)
+}
+
+// Whether a commit may be merged into a branch, so that the objects end there.
+fn may_merge<T: Mrdt, A: Address>(
+    recorded: &Recorded<T, A>,
+    branch: u32,
+    from: u32,
+    end: u64,
+) -> Result<bool, Memory>
+    requires { recorded.now.pending ≡ [] }
+    ensures { IfOk result (λ may. (address : List ℕ) → IsTrue may ↔ Suits (fix T.meaning recorded.now.limits A.address) recorded.now.written (entry.Merge branch from address end)) }
+{
+    let now = standing_of(recorded);
+    if branch >= now.branches || from >= now.commits {
+        return Ok(false);
+    }
+    if end <= now.end || now.commits >= now.limits.commits {
+        return Ok(false);
+    }
+    let (_name, head) = branch_at(recorded, branch);
+    if recorded.reaches(head, from)? {
+        return Ok(false);
+    }
+    Ok(!recorded.reaches(from, head)?)
+}
+
+// Whether a branch may go forward to a commit.
+fn may_go_forward<T: Mrdt, A: Address>(
+    recorded: &Recorded<T, A>,
+    branch: u32,
+    to: u32,
+    end: u64,
+) -> Result<bool, Memory>
+    requires { recorded.now.pending ≡ [] }
+    ensures { IfOk result (λ may. IsTrue may ↔ Suits (fix T.meaning recorded.now.limits A.address) recorded.now.written (entry.Forward branch to end)) }
+{
+    let now = standing_of(recorded);
+    if branch >= now.branches || to >= now.commits || end != now.end {
+        return Ok(false);
+    }
+    let (_name, head) = branch_at(recorded, branch);
+    if recorded.reaches(head, to)? {
+        return Ok(false);
+    }
+    recorded.reaches(to, head)
+}

@@ -1,0 +1,174 @@
+// The walk over the records.
+ghost use Rattle.std.specs.Prelude.{◌≡◌, ℕ, [], All, length, IfOk, IfErr, OnOk};
+ghost use Rattle.branch_machine.specs.Fixed.{fix};
+ghost use Rattle.branch_files.specs.Next.{bytes_behind, end_at, MakesCommit};
+ghost use Rattle.heads_journal.specs.declared.record.Record.TheVariants as entry;
+ghost use Rattle.branch_files.specs.Records.{records_of};
+ghost use Rattle.heads_journal.specs.Format.{Fits};
+ghost use Rattle.commit_replay.specs.Follows.{Follows, MayCome};
+ghost use Rattle.commit_replay.specs.Refusals.{ReplayRefusedAs, StopsAs};
+ghost use Rattle.commit_replay.specs.Walk.{GoesOn};
+
+use crate::commit::{NotRemade, remake_commit};
+use crate::first::first_text;
+use crate::lookups::standing_of;
+use crate::plan::Plan;
+use crate::refused::ReplayRefused;
+use crate::remake::{fork, remake};
+use crate::rules::may_come;
+use branch_address::Address;
+use branch_disk::Part;
+use branch_names::{Limits, Name};
+use heads_journal::Record;
+use mrdt_model::{Memory, Mrdt};
+use recorded_history::Recorded;
+use std::alloc::Global;
+
+/// The history that the records and the bytes of objects stand for, under these limits. It is refused exactly where
+/// there is none: `NotAStore` where the objects do not begin with those of a new store, and else for the first record
+/// that goes no further.
+///
+/// Each move is made anew: an operation is read from its commit's object, and its reply, the value, their spellings
+/// and the addresses are those that the machine makes. What the bytes say of them is only compared.
+pub fn replay<T: Mrdt, A: Address>(
+    alloc: Global,
+    limits: Limits,
+    records: &[Record],
+    objects: &[u8],
+) -> Result<Recorded<T, A>, ReplayRefused>
+    requires { All Fits records.now }
+    ensures settled { IfOk result (λ recorded. recorded ≡ record { written = recorded.written; pending = []; limits = limits }) }
+    ensures replayed { IfOk result (λ recorded. Follows (fix T.meaning limits A.address) recorded.written records.now objects.now) }
+    ensures all { IfOk result (λ recorded. records_of (fix T.meaning limits A.address) recorded.written ≡ records.now) }
+    ensures refused { IfErr result (ReplayRefusedAs (fix T.meaning limits A.address) records.now objects.now) }
+{
+    let Ok(first) = first_text::<T, A>(alloc) else {
+        return Err(ReplayRefused::Memory);
+    };
+    if !objects.starts_with(&first) {
+        return Err(ReplayRefused::NotAStore);
+    }
+    let Ok(mut recorded) = Recorded::fresh(alloc, limits) else {
+        return Err(ReplayRefused::Memory);
+    };
+    for next in records {
+        if let Err(refused) = replay_record(alloc, &mut recorded, next, objects) {
+            return Err(refused);
+        }
+    }
+    Ok(recorded)
+}
+
+// Goes on by the move of one record.
+fn replay_record<T: Mrdt, A: Address>(
+    alloc: Global,
+    recorded: &mut Recorded<T, A>,
+    next: &Record,
+    objects: &[u8],
+) -> Result<(), ReplayRefused>
+    requires settled { recorded.old.pending ≡ [] }
+    requires fits { Fits next.now }
+    ensures went { OnOk result (GoesOn (fix T.meaning recorded.old.limits A.address) recorded.old recorded.new next.now (bytes_behind (fix T.meaning recorded.old.limits A.address) recorded.old.written objects.now next.now)) }
+    ensures stops { IfErr result (StopsAs (fix T.meaning recorded.old.limits A.address) recorded.old.written objects.now next.now) }
+{
+    let Ok(may) = may_come(recorded, next) else {
+        return Err(ReplayRefused::Memory);
+    };
+    if !may {
+        return Err(ReplayRefused::BadRecord {
+            number: recorded.moves() + 1,
+        });
+    }
+    match next {
+        Record::Fork { from, name, .. } => match replay_fork(recorded, next, *from, *name) {
+            Ok(()) => Ok(()),
+            Err(Memory) => Err(ReplayRefused::Memory),
+        },
+        Record::Operation { end, .. } => replay_commit(alloc, recorded, next, *end, objects),
+        Record::Merge { end, .. } => replay_commit(alloc, recorded, next, *end, objects),
+        Record::Forward { branch, to, .. } => {
+            match replay_forward(recorded, next, *branch, *to) {
+                Ok(()) => Ok(()),
+                Err(Memory) => Err(ReplayRefused::Memory),
+            }
+        }
+    }
+}
+
+// Forks as a record says that may come. That never fails but for want of memory.
+fn replay_fork<T: Mrdt, A: Address>(
+    recorded: &mut Recorded<T, A>,
+    next: &Record,
+    from: u32,
+    name: Name,
+) -> Result<(), Memory>
+    requires settled { recorded.old.pending ≡ [] }
+    requires is { (number end : ℕ) × (next.now ≡ entry.Fork number from name end) }
+    requires fits { Fits next.now }
+    requires may { MayCome (fix T.meaning recorded.old.limits A.address) recorded.old.written next.now }
+    ensures { OnOk result (GoesOn (fix T.meaning recorded.old.limits A.address) recorded.old recorded.new next.now []) }
+{
+    let _moves = recorded.moves();
+    if fork(recorded, name, from, next)? {
+        Ok(())
+    } else {
+        unreachable!()
+    }
+}
+
+// Moves a branch forward as a record says that may come. That never fails but for want of memory.
+fn replay_forward<T: Mrdt, A: Address>(
+    recorded: &mut Recorded<T, A>,
+    next: &Record,
+    branch: u32,
+    to: u32,
+) -> Result<(), Memory>
+    requires settled { recorded.old.pending ≡ [] }
+    requires is { (end : ℕ) × (next.now ≡ entry.Forward branch to end) }
+    requires fits { Fits next.now }
+    requires may { MayCome (fix T.meaning recorded.old.limits A.address) recorded.old.written next.now }
+    ensures { OnOk result (GoesOn (fix T.meaning recorded.old.limits A.address) recorded.old recorded.new next.now []) }
+{
+    let _moves = recorded.moves();
+    let plan = Plan::Merge { branch, commit: to };
+    if remake(recorded, plan, next, &[])? {
+        Ok(())
+    } else {
+        unreachable!()
+    }
+}
+
+// Makes the commit of a record that may come, from its objects.
+fn replay_commit<T: Mrdt, A: Address>(
+    alloc: Global,
+    recorded: &mut Recorded<T, A>,
+    next: &Record,
+    end: u64,
+    objects: &[u8],
+) -> Result<(), ReplayRefused>
+    requires settled { recorded.old.pending ≡ [] }
+    requires end { end ≡ end_at next.now }
+    requires makes { MakesCommit next.now }
+    requires fits { Fits next.now }
+    requires may { MayCome (fix T.meaning recorded.old.limits A.address) recorded.old.written next.now }
+    ensures went { OnOk result (GoesOn (fix T.meaning recorded.old.limits A.address) recorded.old recorded.new next.now (bytes_behind (fix T.meaning recorded.old.limits A.address) recorded.old.written objects.now next.now)) }
+    ensures stops { IfErr result (StopsAs (fix T.meaning recorded.old.limits A.address) recorded.old.written objects.now next.now) }
+{
+    let now = standing_of(recorded);
+    let place = now.end;
+    if end > objects.len() as u64 {
+        return Err(ReplayRefused::Truncated {
+            part: Part::Objects,
+            place,
+        });
+    }
+    let bytes = &objects[place as usize..end as usize];
+    match remake_commit(alloc, recorded, next, bytes) {
+        Ok(()) => Ok(()),
+        Err(NotRemade::Object) => Err(ReplayRefused::BadObject { place }),
+        Err(NotRemade::Commit) => Err(ReplayRefused::BadCommit {
+            number: now.commits,
+        }),
+        Err(NotRemade::Memory) => Err(ReplayRefused::Memory),
+    }
+}
