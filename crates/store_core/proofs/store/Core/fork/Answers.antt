@@ -1,0 +1,21 @@
+-- The fork waits; then the history has it, or the files may have it.
+use Rattle.branch_disk.specs.Moments.{now_too}
+use Rattle.store_core.proofs.Landings.{waits_so, moves_so, leaves_so}
+use Rattle.store_core.proofs.store.Core.fork.Goals as goal
+
+pub put-requires-clause-waits : goal.put-requires-clause-waits
+put-requires-clause-waits g c = λ _ _. waits_so g.T.Mrdt.meaning g.A.Address.address c.self.inside.recorded _ _ _ _ _ _ c.in_ok-made.ensures.forked.1
+
+pub returns-clause-forked : goal.returns-clause-forked
+returns-clause-forked g c =
+    let forked = c.in_ok-made.ensures.forked in (
+      forked.0,
+      moves_so g.T.Mrdt.meaning g.A.Address.address c.self.inside.recorded _ _ _ _ _ _ forked.1 _ _ _ _ c.self.view_is
+          c.if-self.false _ c.in-Ok.ensures.settled c.in-Ok.ensures.few _ _ c.in-Ok.ensures.whole,
+    )
+
+pub returns-in_default-clause-fault_leaves : goal.returns-in_default-clause-fault_leaves
+returns-in_default-clause-fault_leaves g c = λ fault f image.
+    let d = g.D.Disk in let laws = g.met.D.Disk in
+    leaves_so g.T.Mrdt.meaning g.A.Address.address c.self.inside.recorded _ _ _ _ _ _ c.in_ok-made.ensures.forked.1 _ _ _ _ c.self.view_is
+    f (now_too d.moment d.left_since d.may_leave laws.counts_now _ _ _ c.put.ensures.any_moment f image)

@@ -1,0 +1,293 @@
+// A store on a disk.
+ghost use Rattle.std.specs.Prelude.{◌≡◌, ◌≢◌, ◌⊎◌, ◌≤◌, [], length, slice_get, IfOk, IfErr, IfSome, OnOk, OnErr, Some, Err, true, false};
+ghost use Rattle.std.specs.Option.{option_map, ForSome};
+ghost use mathlib.Core.List.{IsPrefix};
+ghost use Rattle.branch_io.specs.Causes.{HasCauseOf, Rose};
+ghost use Rattle.branch_disk.specs.Disk.{Files, LeavesOnly};
+ghost use Rattle.branch_names.specs.Heads.{Branch, branch_named};
+ghost use Rattle.branch_history.specs.History.{store_of};
+ghost use Rattle.branch_history.specs.Machine.{turn, answers};
+ghost use Rattle.branch_history.specs.Steps as machine;
+ghost use Rattle.branch_machine.specs.Fixed.{fix};
+ghost use Rattle.branch_machine.specs.Machine.{full_turn};
+ghost use Rattle.branch_machine.specs.Validity.{IsFullyValid};
+ghost use Rattle.branch_files.specs.Reading.{Opens, ReadsAs};
+ghost use Rattle.store_seen.specs.Pairs.{IsPaired, PairRefusedAs};
+ghost use Rattle.store_seen.specs.Turns.{LookRefusedAs};
+ghost use Rattle.store_core.specs.Views.{held};
+ghost use Rattle.store_core.specs.Images.{AllStand, WithOrWithout, NoneOrEmpty};
+ghost use Rattle.store_core.specs.Turns.{step_made, LandsAs, LandRefusedAs, LandLeaves, Forks, ForkRefusedAs, ForkLeaves};
+ghost use Rattle.store_core.specs.Inits.{IsEmpty, InitRefusedAs};
+ghost use Rattle.store_core.specs.Opens.{OpenRefusedAs};
+
+use crate::answers::{ForkRefused, InitRefused, LandRefused, OpenRefused};
+use crate::put::put;
+use crate::reading::read_back;
+use branch_address::Address;
+use branch_disk::{Disk, Part};
+use branch_files::laws::stands_for_what_is_read;
+use branch_machine::laws::grows_by_full_moves;
+use branch_names::{Limits, Name};
+use heads_journal::Journal;
+use mrdt_model::Mrdt;
+use recorded_history::Recorded;
+use std::alloc::Global;
+use std::marker::Model;
+use std::snapshot::Snapshot;
+use store_seen::{Forked, Landed, LookRefused, Pair, PairRefused, Prepared, Seen};
+
+/// A history of accepted moves, kept on a disk. Contracts see a `StoreView`: the history and the limits, whether the
+/// disk has failed, the disk, and the disk as it was when the core was given.
+///
+/// Where the disk has not failed, each image that a crash may leave of it stands for the history. Once it failed,
+/// nothing lands any more; looks are answered as before.
+#[derive(Drop)]
+pub struct Core<T: Mrdt, D: Disk + Drop, A: Address> {
+    recorded: Recorded<T, A>,
+    journal: Journal,
+    disk: D,
+    failed: bool,
+    opened: Snapshot<D>,
+}
+
+impl<T: Mrdt, D: Disk + Drop, A: Address> Model for Core<T, D, A> {
+    ghost use Rattle.branch_history.specs.declared.moves.Move.{Move};
+    ghost use Rattle.store_core.specs.Views.{StoreView};
+
+    ghost Value = { StoreView (Move T.Op T.Reply) D };
+
+    ghost use Rattle.store_core.specs.Keeps.{IsCore};
+
+    ghost view = { λ c. record { history = c.recorded.written; limits = c.recorded.limits; failed = c.failed; disk = c.disk; opened = c.opened.value } };
+
+    ghost invariant = { λ c. IsCore T.meaning A.address D.may_leave D.faults c.recorded c.journal c.disk c.opened.value c.failed };
+}
+
+// Whether a disk holds no bytes.
+fn is_empty<D: Disk>(disk: &mut D) -> Result<(), InitRefused>
+    ensures empty { OnOk result (ForSome (D.contents disk.old) IsEmpty) }
+    ensures refused { IfErr result (λ refused. (refused ≢ InitRefused.Memory) × ForSome (D.contents disk.old) (InitRefusedAs refused)) }
+    ensures same { D.contents disk.new ≡ D.contents disk.old }
+    ensures any_moment { LeavesOnly D.moment D.left_since disk.old disk.new (D.may_leave disk.old) }
+    ensures cause { HasCauseOf InitRefused.DiskFault (D.faults disk.old) (D.faults disk.new) result }
+{
+    let Ok(objects) = disk.length(Part::Objects) else {
+        return Err(InitRefused::DiskFault);
+    };
+    let Ok(heads) = disk.length(Part::Heads) else {
+        return Err(InitRefused::DiskFault);
+    };
+    if objects != 0 || heads != 0 {
+        let length = objects.saturating_add(heads);
+        return Err(InitRefused::NotEmpty { length });
+    }
+    Ok(())
+}
+
+impl<T: Mrdt, D: Disk + Drop, A: Address> Core<T, D, A> {
+    /// Makes a store of an empty disk, of which all that was written is sure. An `Err` hands the disk back. At every
+    /// moment a crash leaves a disk that is no store, or one of no moves; after `Ok`, the latter.
+    pub fn init(alloc: Global, disk: D, limits: Limits) -> Result<Core<T, D, A>, (InitRefused, D)>
+        requires { (c : Files) → D.may_leave disk c → D.contents disk ≡ Some c }
+        ensures made { IfOk result (λ core. core ≡ record { history = []; limits = limits; failed = false; disk = core.disk; opened = core.disk }) }
+        ensures empty { OnOk result (ForSome (D.contents disk) IsEmpty) }
+        ensures refused { IfErr result (λ e. ForSome (D.contents disk) (InitRefusedAs e.0)) }
+        ensures stands { IfOk result (λ core. AllStand (fix T.meaning limits A.address) [] (D.may_leave core.disk)) }
+        ensures any_moment { IfOk result (λ core. LeavesOnly D.moment D.left_since disk core.disk (NoneOrEmpty (fix T.meaning limits A.address))) }
+        ensures any_moment_err { IfErr result (λ e. LeavesOnly D.moment D.left_since disk e.1 (λ c. D.may_leave disk c ⊎ NoneOrEmpty (fix T.meaning limits A.address) c)) }
+        ensures untouched { IfErr result (λ e. e.0 ≢ InitRefused.DiskFault → LeavesOnly D.moment D.left_since disk e.1 (D.may_leave disk)) }
+        ensures no_cause { IfOk result (λ core. D.faults core.disk ≡ D.faults disk) }
+        ensures cause { IfErr result (λ e. HasCauseOf {T = Unit {0}} InitRefused.DiskFault (D.faults disk) (D.faults e.1) (Err e.0)) }
+    {
+        grows_by_full_moves::<T>();
+        let mut disk = disk;
+        match is_empty(&mut disk) {
+            Ok(()) => {}
+            Err(refused) => return Err((refused, disk)),
+        }
+        let Ok(recorded) = Recorded::fresh(alloc, limits) else {
+            return Err((InitRefused::Memory, disk));
+        };
+        let Ok(()) = recorded.create(&mut disk) else {
+            return Err((InitRefused::DiskFault, disk));
+        };
+        let Ok(journal) = Journal::create(&mut disk, limits) else {
+            return Err((InitRefused::DiskFault, disk));
+        };
+        let opened = Snapshot::of(&disk);
+        Ok(Core {
+            recorded,
+            journal,
+            disk,
+            failed: false,
+            opened,
+        })
+    }
+
+    /// Opens the store that a disk holds, which a crash may have left. It syncs both parts and reads, and writes
+    /// nothing. `Ok` and each refusal but `DiskFault` and `Memory` come exactly where the files read so. An `Err` hands
+    /// the disk back.
+    pub fn open(alloc: Global, disk: D) -> Result<Core<T, D, A>, (OpenRefused, D)>
+        ensures opened { IfOk result (λ core. core ≡ record { history = core.history; limits = core.limits; failed = false; disk = core.disk; opened = core.disk }) }
+        ensures reads { IfOk result (λ core. ForSome (D.contents disk) (λ f. ReadsAs T.meaning A.address f (Opens core.limits core.history))) }
+        ensures valid { IfOk result (λ core. IsFullyValid (fix T.meaning core.limits A.address) core.history) }
+        ensures stands { IfOk result (λ core. AllStand (fix T.meaning core.limits A.address) core.history (D.may_leave core.disk)) }
+        ensures refused { IfErr result (λ e. ForSome (D.contents disk) (OpenRefusedAs T.meaning A.address e.0)) }
+        ensures any_moment { IfOk result (λ core. LeavesOnly D.moment D.left_since disk core.disk (D.may_leave disk)) }
+        ensures any_moment_err { IfErr result (λ e. LeavesOnly D.moment D.left_since disk e.1 (D.may_leave disk)) }
+        ensures no_cause { IfOk result (λ core. D.faults core.disk ≡ D.faults disk) }
+        ensures cause { IfErr result (λ e. HasCauseOf {T = Unit {0}} OpenRefused.DiskFault (D.faults disk) (D.faults e.1) (Err e.0)) }
+    {
+        stands_for_what_is_read::<T>();
+        let mut disk = disk;
+        match read_back::<T, D, A>(alloc, &mut disk) {
+            Ok((journal, recorded)) => {
+                let opened = Snapshot::of(&disk);
+                Ok(Core {
+                    recorded,
+                    journal,
+                    disk,
+                    failed: false,
+                    opened,
+                })
+            }
+            Err(refused) => Err((refused, disk)),
+        }
+    }
+
+    /// How many moves the history has, which is a valid one. Until the disk failed, each image stands for it.
+    pub fn moves(&self) -> u64
+        ensures moves { result ≡ length self.now.history }
+        ensures valid { IsFullyValid (fix T.meaning self.now.limits A.address) self.now.history }
+        ensures stands { self.now.failed ≡ false → AllStand (fix T.meaning self.now.limits A.address) self.now.history (D.may_leave self.now.disk) }
+        ensures later { D.faults self.now.opened ≤ D.faults self.now.disk }
+        ensures caused { self.now.failed ≡ true → Rose (D.faults self.now.opened) (D.faults self.now.disk) }
+    {
+        self.recorded.moves()
+    }
+
+    /// How many commits the store holds, commit 0 counted.
+    pub fn commits(&self) -> u32
+        ensures { result ≡ length (store_of self.now.history).commits }
+    {
+        self.recorded.commits()
+    }
+
+    /// How many branches the store holds, `main` counted.
+    pub fn branches(&self) -> u32
+        ensures { result ≡ length (store_of self.now.history).branches }
+    {
+        self.recorded.branches()
+    }
+
+    /// The limits that the store was made under.
+    pub fn limits(&self) -> Limits
+        ensures { result ≡ self.now.limits }
+    {
+        self.recorded.limits()
+    }
+
+    /// The name and the head of a branch; `None` exactly past the last branch. No other branch has the name.
+    pub fn branch(&self, number: u32) -> Option<(Name, u32)>
+        ensures named { IfSome result (λ found. branch_named (store_of self.now.history).branches found.0 ≡ Some number) }
+        ensures found { result ≡ option_map (λ (b : Branch). (b.name, b.head)) (slice_get (store_of self.now.history).branches number) }
+    {
+        self.recorded.branch(number)
+    }
+
+    /// Looks at the branch with a name, also where the disk has failed. `UnknownBranch` comes exactly where no branch
+    /// has the name.
+    pub fn look(&self, name: &Name) -> Result<Seen<T>, LookRefused>
+        ensures on { IfOk result (λ seen. (seen.history ≡ self.now.history) × (seen.limits ≡ self.now.limits)) }
+        ensures sees { IfOk result (λ seen. turn T.meaning self.now.limits self.now.history (machine.Look name.now) ≡ answers (machine.Sees seen.branch seen.head)) }
+        ensures refused { IfErr result (LookRefusedAs T.meaning (held self.now) name.now) }
+    {
+        self.recorded.look(name)
+    }
+
+    /// Pairs a look at this core, taken now or earlier, with the head that a branch has now, also where the disk has
+    /// failed. `UnknownBranch` comes exactly where no branch has the name.
+    pub fn pair(&self, seen: &Seen<T>, from: &Name) -> Result<Pair<T>, PairRefused>
+        requires history { IsPrefix seen.now.history self.now.history }
+        requires limits { seen.now.limits ≡ self.now.limits }
+        ensures paired { IfOk result (IsPaired T.meaning (held self.now) seen.now from.now) }
+        ensures refused { IfErr result (PairRefusedAs T.meaning (held self.now) from.now) }
+    {
+        self.recorded.pair(seen, from)
+    }
+
+    /// Lands what was prepared on a look at this core, now or earlier. It is refused exactly as the machine refuses
+    /// it, and then nothing has changed: `Stale` before `FullCommits`, which only a new commit meets, before
+    /// `FullMoves`, before `Collision`. All memory is taken before the first device call. At every moment a crash
+    /// leaves the history before, or that with the move; after `Ok`, the latter.
+    pub fn land(&mut self, prepared: Prepared<T>) -> Result<Landed<T::Reply>, LandRefused>
+        requires history { IsPrefix prepared.seen.history self.old.history }
+        requires limits { prepared.seen.limits ≡ self.old.limits }
+        ensures landed { IfOk result (λ landed. LandsAs (fix T.meaning self.old.limits A.address) prepared self.old self.new landed.moves landed.kind) }
+        ensures stands { OnOk result (AllStand (fix T.meaning self.old.limits A.address) self.new.history (D.may_leave self.new.disk)) }
+        ensures failed { self.old.failed ≡ true → result ≡ Err (LandRefused.Failed (length self.old.history)) }
+        ensures refused { IfErr result (LandRefusedAs (fix T.meaning self.old.limits A.address) prepared self.old) }
+        ensures kept { IfErr result (LandLeaves self.old self.new) }
+        ensures any_moment { self.old.failed ≡ false → LeavesOnly D.moment D.left_since self.old.disk self.new.disk
+            (WithOrWithout (fix T.meaning self.old.limits A.address) self.old.history (full_turn (fix T.meaning self.old.limits A.address) self.old.history (step_made prepared)).made) }
+        ensures fault_leaves { result ≡ Err LandRefused.DiskFault → (c : Files) → D.may_leave self.new.disk c
+            → WithOrWithout (fix T.meaning self.old.limits A.address) self.old.history (full_turn (fix T.meaning self.old.limits A.address) self.old.history (step_made prepared)).made c }
+        ensures cause { HasCauseOf LandRefused.DiskFault (D.faults self.old.disk) (D.faults self.new.disk) result }
+    {
+        if self.failed {
+            let moves = self.recorded.moves();
+            return Err(LandRefused::Failed { moves });
+        }
+        let made = self.recorded.land(prepared)?;
+        let Ok(()) = put(
+            &mut self.recorded,
+            &mut self.journal,
+            &mut self.disk,
+            &mut self.failed,
+            &made.record,
+        ) else {
+            return Err(LandRefused::DiskFault);
+        };
+        Ok(made.landed)
+    }
+
+    /// Forks a new branch from the head of another. It is refused exactly as the machine refuses it, and then
+    /// nothing has changed: `UnknownBranch` before `NameTaken` before `FullBranches` before `FullMoves`. At every
+    /// moment a crash leaves the history before, or that with the fork; after `Ok`, the latter.
+    pub fn fork(&mut self, new: Name, from: &Name) -> Result<Forked, ForkRefused>
+        ensures forked { IfOk result (Forks (fix T.meaning self.old.limits A.address) new from.now self.old self.new) }
+        ensures stands { OnOk result (AllStand (fix T.meaning self.old.limits A.address) self.new.history (D.may_leave self.new.disk)) }
+        ensures failed { self.old.failed ≡ true → result ≡ Err (ForkRefused.Failed (length self.old.history)) }
+        ensures refused { IfErr result (ForkRefusedAs (fix T.meaning self.old.limits A.address) new from.now self.old) }
+        ensures kept { IfErr result (ForkLeaves self.old self.new) }
+        ensures any_moment { self.old.failed ≡ false → LeavesOnly D.moment D.left_since self.old.disk self.new.disk
+            (WithOrWithout (fix T.meaning self.old.limits A.address) self.old.history (full_turn (fix T.meaning self.old.limits A.address) self.old.history (machine.Fork new from.now)).made) }
+        ensures fault_leaves { result ≡ Err ForkRefused.DiskFault → (c : Files) → D.may_leave self.new.disk c
+            → WithOrWithout (fix T.meaning self.old.limits A.address) self.old.history (full_turn (fix T.meaning self.old.limits A.address) self.old.history (machine.Fork new from.now)).made c }
+        ensures cause { HasCauseOf ForkRefused.DiskFault (D.faults self.old.disk) (D.faults self.new.disk) result }
+    {
+        if self.failed {
+            let moves = self.recorded.moves();
+            return Err(ForkRefused::Failed { moves });
+        }
+        let made = self.recorded.fork(new, from)?;
+        let Ok(()) = put(
+            &mut self.recorded,
+            &mut self.journal,
+            &mut self.disk,
+            &mut self.failed,
+            &made.record,
+        ) else {
+            return Err(ForkRefused::DiskFault);
+        };
+        Ok(made.forked)
+    }
+
+    /// Hands the disk back. It makes no device call, and takes no memory.
+    pub fn close(self) -> D
+        ensures same { result ≡ self.disk }
+        ensures stands { self.failed ≡ false → AllStand (fix T.meaning self.limits A.address) self.history (D.may_leave result) }
+    {
+        self.disk
+    }
+}
