@@ -64,11 +64,13 @@ impl Journal {
     }
 
     /// Writes the header of these limits to the heads file, over what it has there, in six device calls: a closed
-    /// gate, a sync, the header behind it, a sync, the gate, a sync. It takes no memory. Where the file was empty, a
-    /// crash at any moment leaves no store there, or the header and no record; after `Ok`, the latter.
+    /// gate, a sync, the header behind it, a sync, the gate, a sync. It takes no memory. A crash leaves the objects as
+    /// they were. Where the file was empty, a crash at any moment leaves no store there, or the header and no record;
+    /// after `Ok`, the latter, whatever the file was.
     pub fn create<D: Disk>(disk: &mut D, limits: Limits) -> Result<Journal, DiskFailed>
         ensures any_moment { ((c : Files) → D.may_leave disk.old c → c.heads ≡ [])
             → LeavesOnly D.moment D.left_since disk.old disk.new (λ c. (IsNoStore c.heads ⊎ Rests (heads_text limits []) c.heads) × After SameObjects (D.may_leave disk.old) c) }
+        ensures objects_kept { LeavesOnly D.moment D.left_since disk.old disk.new (After SameObjects (D.may_leave disk.old)) }
         ensures created { OnOk result (Spell limits [] (D.may_leave disk.new)) }
         ensures written { OnOk result (Tells (OnPart Part.Heads (Holds 0 (heads_text limits [] ++ 0 ∷ []))) (D.contents disk.old) (D.contents disk.new)) }
         ensures torn { Tells (OnPart Part.Heads (Torn 0 65)) (D.contents disk.old) (D.contents disk.new) }
