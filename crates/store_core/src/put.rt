@@ -66,7 +66,7 @@ pub(crate) fn put<T: Mrdt, D: Disk, A: Address>(
     requires stands { AllStand (fix T.meaning recorded.old.limits A.address) recorded.old.written (D.may_leave disk.old) }
     ensures any_moment { LeavesOnly D.moment D.left_since disk.old disk.new (WithOrWithout (fix T.meaning recorded.old.limits A.address) recorded.old.written recorded.old.pending) }
     ensures settled { OnOk result (recorded.new ≡ record { written = recorded.old.written ++ recorded.old.pending; pending = []; limits = recorded.old.limits }) }
-    ensures valid { OnOk result (IsFullyValid (fix T.meaning recorded.old.limits A.address) (recorded.old.written ++ recorded.old.pending)) }
+    ensures valid { IsFullyValid (fix T.meaning recorded.old.limits A.address) (recorded.old.written ++ recorded.old.pending) }
     ensures stands { OnOk result (AllStand (fix T.meaning recorded.old.limits A.address) (recorded.old.written ++ recorded.old.pending) (D.may_leave disk.new)) }
     ensures working { OnOk result (has_failed journal.new ≡ false) }
     ensures counted { OnOk result (count_of journal.new ≡ length (recorded.old.written ++ recorded.old.pending)) }

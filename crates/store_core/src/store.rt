@@ -1,5 +1,5 @@
 // A store on a disk.
-ghost use Rattle.std.specs.Prelude.{◌≡◌, ◌≢◌, ◌⊎◌, ◌≤◌, [], length, slice_get, IfOk, IfErr, IfSome, OnOk, OnErr, Some, Err, true, false};
+ghost use Rattle.std.specs.Prelude.{◌≡◌, ◌≢◌, ◌≤◌, ◌++◌, [], length, slice_get, IfOk, IfErr, IfSome, OnOk, OnErr, Some, Err, true, false};
 ghost use Rattle.std.specs.Option.{option_map, ForSome};
 ghost use mathlib.Core.List.{IsPrefix};
 ghost use Rattle.branch_io.specs.Causes.{HasCauseOf, Rose};
@@ -18,7 +18,7 @@ ghost use Rattle.store_core.specs.Views.{held};
 ghost use Rattle.store_core.specs.Images.{AllStand, WithOrWithout, NoneOrEmpty};
 ghost use Rattle.store_core.specs.Turns.{step_made, LandsAs, LandRefusedAs, LandLeaves, Forks, ForkRefusedAs, ForkLeaves};
 ghost use Rattle.store_core.specs.Inits.{IsEmpty, InitRefusedAs};
-ghost use Rattle.store_core.specs.Opens.{OpenRefusedAs};
+ghost use Rattle.store_core.specs.Opens.{OpenRefusedAs, ReadsOnlyAs, ReadsAsNone};
 
 use crate::answers::{ForkRefused, InitRefused, LandRefused, OpenRefused};
 use crate::put::put;
@@ -85,17 +85,18 @@ fn is_empty<D: Disk>(disk: &mut D) -> Result<(), InitRefused>
 }
 
 impl<T: Mrdt, D: Disk + Drop, A: Address> Core<T, D, A> {
-    /// Makes a store of an empty disk, of which all that was written is sure. An `Err` hands the disk back. At every
-    /// moment a crash leaves a disk that is no store, or one of no moves; after `Ok`, the latter.
+    /// Makes a store of an empty disk. After `Ok` each image that a crash may leave is a store of no moves. Where each
+    /// image was empty, a crash at any moment leaves a disk that is no store, or one of no moves, whatever the answer.
+    /// An `Err` hands the disk back; of a disk that holds bytes only the two lengths were asked for.
     pub fn init(alloc: Global, disk: D, limits: Limits) -> Result<Core<T, D, A>, (InitRefused, D)>
-        requires { (c : Files) → D.may_leave disk c → D.contents disk ≡ Some c }
         ensures made { IfOk result (λ core. core ≡ record { history = []; limits = limits; failed = false; disk = core.disk; opened = core.disk }) }
         ensures empty { OnOk result (ForSome (D.contents disk) IsEmpty) }
         ensures refused { IfErr result (λ e. ForSome (D.contents disk) (InitRefusedAs e.0)) }
         ensures stands { IfOk result (λ core. AllStand (fix T.meaning limits A.address) [] (D.may_leave core.disk)) }
-        ensures any_moment { IfOk result (λ core. LeavesOnly D.moment D.left_since disk core.disk (NoneOrEmpty (fix T.meaning limits A.address))) }
-        ensures any_moment_err { IfErr result (λ e. LeavesOnly D.moment D.left_since disk e.1 (λ c. D.may_leave disk c ⊎ NoneOrEmpty (fix T.meaning limits A.address) c)) }
+        ensures any_moment { IfOk result (λ core. ((c : Files) → D.may_leave disk c → IsEmpty c) → LeavesOnly D.moment D.left_since disk core.disk (NoneOrEmpty (fix T.meaning limits A.address))) }
+        ensures any_moment_err { IfErr result (λ e. ((c : Files) → D.may_leave disk c → IsEmpty c) → LeavesOnly D.moment D.left_since disk e.1 (NoneOrEmpty (fix T.meaning limits A.address))) }
         ensures untouched { IfErr result (λ e. e.0 ≢ InitRefused.DiskFault → LeavesOnly D.moment D.left_since disk e.1 (D.may_leave disk)) }
+        ensures kept { IfErr result (λ e. (f : Files) → D.contents disk ≡ Some f → ¬ IsEmpty f → LeavesOnly D.moment D.left_since disk e.1 (D.may_leave disk)) }
         ensures no_cause { IfOk result (λ core. D.faults core.disk ≡ D.faults disk) }
         ensures cause { IfErr result (λ e. HasCauseOf {T = Unit {0}} InitRefused.DiskFault (D.faults disk) (D.faults e.1) (Err e.0)) }
     {
@@ -125,14 +126,16 @@ impl<T: Mrdt, D: Disk + Drop, A: Address> Core<T, D, A> {
     }
 
     /// Opens the store that a disk holds, which a crash may have left. It syncs both parts and reads, and writes
-    /// nothing. `Ok` and each refusal but `DiskFault` and `Memory` come exactly where the files read so. An `Err` hands
-    /// the disk back.
+    /// nothing. `Ok` and each refusal but `DiskFault` and `Memory` come exactly where the files read so: what it opens is
+    /// the one answer of the files, and files that it refuses read as no history. An `Err` hands the disk back.
     pub fn open(alloc: Global, disk: D) -> Result<Core<T, D, A>, (OpenRefused, D)>
         ensures opened { IfOk result (λ core. core ≡ record { history = core.history; limits = core.limits; failed = false; disk = core.disk; opened = core.disk }) }
         ensures reads { IfOk result (λ core. ForSome (D.contents disk) (λ f. ReadsAs T.meaning A.address f (Opens core.limits core.history))) }
+        ensures only { IfOk result (λ core. ForSome (D.contents disk) (ReadsOnlyAs T.meaning A.address (Opens core.limits core.history))) }
         ensures valid { IfOk result (λ core. IsFullyValid (fix T.meaning core.limits A.address) core.history) }
         ensures stands { IfOk result (λ core. AllStand (fix T.meaning core.limits A.address) core.history (D.may_leave core.disk)) }
         ensures refused { IfErr result (λ e. ForSome (D.contents disk) (OpenRefusedAs T.meaning A.address e.0)) }
+        ensures refused_only { IfErr result (λ e. e.0 ≢ OpenRefused.DiskFault → e.0 ≢ OpenRefused.Memory → ForSome (D.contents disk) (ReadsAsNone T.meaning A.address)) }
         ensures any_moment { IfOk result (λ core. LeavesOnly D.moment D.left_since disk core.disk (D.may_leave disk)) }
         ensures any_moment_err { IfErr result (λ e. LeavesOnly D.moment D.left_since disk e.1 (D.may_leave disk)) }
         ensures no_cause { IfOk result (λ core. D.faults core.disk ≡ D.faults disk) }
@@ -219,7 +222,8 @@ impl<T: Mrdt, D: Disk + Drop, A: Address> Core<T, D, A> {
     /// Lands what was prepared on a look at this core, now or earlier. It is refused exactly as the machine refuses
     /// it, and then nothing has changed: `Stale` before `FullCommits`, which only a new commit meets, before
     /// `FullMoves`, before `Collision`. All memory is taken before the first device call. At every moment a crash
-    /// leaves the history before, or that with the move; after `Ok`, the latter.
+    /// leaves the history before, or that with the move; after `Ok`, the latter. Both are valid, so that the disk can
+    /// be opened again after a fault.
     pub fn land(&mut self, prepared: Prepared<T>) -> Result<Landed<T::Reply>, LandRefused>
         requires history { IsPrefix prepared.seen.history self.old.history }
         requires limits { prepared.seen.limits ≡ self.old.limits }
@@ -232,6 +236,7 @@ impl<T: Mrdt, D: Disk + Drop, A: Address> Core<T, D, A> {
             (WithOrWithout (fix T.meaning self.old.limits A.address) self.old.history (full_turn (fix T.meaning self.old.limits A.address) self.old.history (step_made prepared)).made) }
         ensures fault_leaves { result ≡ Err LandRefused.DiskFault → (c : Files) → D.may_leave self.new.disk c
             → WithOrWithout (fix T.meaning self.old.limits A.address) self.old.history (full_turn (fix T.meaning self.old.limits A.address) self.old.history (step_made prepared)).made c }
+        ensures fault_valid { result ≡ Err LandRefused.DiskFault → IsFullyValid (fix T.meaning self.old.limits A.address) (self.old.history ++ (full_turn (fix T.meaning self.old.limits A.address) self.old.history (step_made prepared)).made) }
         ensures cause { HasCauseOf LandRefused.DiskFault (D.faults self.old.disk) (D.faults self.new.disk) result }
     {
         if self.failed {
@@ -253,7 +258,7 @@ impl<T: Mrdt, D: Disk + Drop, A: Address> Core<T, D, A> {
 
     /// Forks a new branch from the head of another. It is refused exactly as the machine refuses it, and then
     /// nothing has changed: `UnknownBranch` before `NameTaken` before `FullBranches` before `FullMoves`. At every
-    /// moment a crash leaves the history before, or that with the fork; after `Ok`, the latter.
+    /// moment a crash leaves the history before, or that with the fork; after `Ok`, the latter. Both are valid.
     pub fn fork(&mut self, new: Name, from: &Name) -> Result<Forked, ForkRefused>
         ensures forked { IfOk result (Forks (fix T.meaning self.old.limits A.address) new from.now self.old self.new) }
         ensures stands { OnOk result (AllStand (fix T.meaning self.old.limits A.address) self.new.history (D.may_leave self.new.disk)) }
@@ -264,6 +269,7 @@ impl<T: Mrdt, D: Disk + Drop, A: Address> Core<T, D, A> {
             (WithOrWithout (fix T.meaning self.old.limits A.address) self.old.history (full_turn (fix T.meaning self.old.limits A.address) self.old.history (machine.Fork new from.now)).made) }
         ensures fault_leaves { result ≡ Err ForkRefused.DiskFault → (c : Files) → D.may_leave self.new.disk c
             → WithOrWithout (fix T.meaning self.old.limits A.address) self.old.history (full_turn (fix T.meaning self.old.limits A.address) self.old.history (machine.Fork new from.now)).made c }
+        ensures fault_valid { result ≡ Err ForkRefused.DiskFault → IsFullyValid (fix T.meaning self.old.limits A.address) (self.old.history ++ (full_turn (fix T.meaning self.old.limits A.address) self.old.history (machine.Fork new from.now)).made) }
         ensures cause { HasCauseOf ForkRefused.DiskFault (D.faults self.old.disk) (D.faults self.new.disk) result }
     {
         if self.failed {

@@ -1,6 +1,9 @@
 -- The fork waits; then the history has it, or the files may have it.
+use Rattle.std.proofs.Common.{sym, ◌∙◌, ap}
 use Rattle.branch_disk.specs.Moments.{now_too}
-use Rattle.store_core.proofs.Landings.{waits_so, moves_so, leaves_so}
+use Rattle.branch_history.specs.declared.moves.Move.{Move}
+use Rattle.store_core.specs.Views.{StoreView}
+use Rattle.store_core.proofs.Landings.{waits_so, moves_so, made_so, leaves_so, valid_so}
 use Rattle.store_core.proofs.store.Core.fork.Goals as goal
 
 pub put-requires-clause-waits : goal.put-requires-clause-waits
@@ -19,3 +22,13 @@ returns-in_default-clause-fault_leaves g c = λ fault f image.
     let d = g.D.Disk in let laws = g.met.D.Disk in
     leaves_so g.T.Mrdt.meaning g.A.Address.address c.self.inside.recorded _ _ _ _ _ _ c.in_ok-made.ensures.forked.1 _ _ _ _ c.self.view_is
     f (now_too d.moment d.left_since d.may_leave laws.counts_now _ _ _ c.put.ensures.any_moment f image)
+
+pub returns-in_default-clause-refused : goal.returns-in_default-clause-refused
+returns-in_default-clause-refused g c = (
+  sym (ap (λ (v : StoreView (Move g.row.T-Op.Denot g.row.T-Reply.Denot) g.row.D.Denot). v.failed) c.self.view_is) ∙ c.if-self.false,
+  (_, made_so g.T.Mrdt.meaning g.A.Address.address c.self.inside.recorded _ _ _ _ _ _ c.in_ok-made.ensures.forked.1 _ _ _ _ c.self.view_is),
+)
+
+pub returns-in_default-clause-fault_valid : goal.returns-in_default-clause-fault_valid
+returns-in_default-clause-fault_valid g c = λ fault.
+    valid_so g.T.Mrdt.meaning g.A.Address.address c.self.inside.recorded _ _ _ _ _ _ c.in_ok-made.ensures.forked.1 _ _ _ _ c.self.view_is c.put.ensures.valid
