@@ -1,0 +1,5 @@
+pub mod Adding
+pub mod Digits
+pub mod Five
+pub mod Heard
+pub mod Sure

@@ -1,0 +1,25 @@
+use Rattle.std.proofs.Common.{◌≡◌, ◌∙◌, ap, sym, codes, Option, Some}
+use Rattle.std.specs.Option.{option_map}
+use Rattle.clap.specs.Matches.{found_of}
+use Rattle.clap.specs.Walk.{Text, rows_of}
+use Rattle.clap.specs.Faults.{fault_of}
+use Rattle.clap.proofs.WalkLemmas.{first_value-rows}
+use Rattle.branch_command.specs.Commands.{Init, asked_by, help_words, said_by}
+use Rattle.branch_command.specs.Program.{program}
+use Rattle.branch_command.proofs.Heard.{as_said}
+use Rattle.branch_command.proofs.command.command_named.Goals as goal
+
+pub returns-in-Some : goal.returns-in-Some
+returns-in-Some c =
+    let rows = rows_of (found_of c.args.given.now) in
+    let found = c.in-Some.ensures.some in
+    let is : said_by c.args.name.now rows ≡ Some (Init found.0) = ap (λ (n : Text). said_by n rows) c.in-init.is ∙ ap (option_map Init) found.1 in
+    ((Init found.0, is, found.2), λ u. cc)
+
+pub returns-in-help : goal.returns-in-help
+returns-in-help c =
+    let rows = rows_of (found_of c.args.given.now) in
+    let topic = c.get_str.ensures ∙ first_value-rows (found_of c.args.given.now) (codes "command") in
+    as_said (said_by c.args.name.now rows) (asked_by (fault_of program (help_words (option_map (λ s. s.now) c.get_str.result)))) c.tell_help.result
+    (ap (λ (n : Text). said_by n rows) c.in-help.is ∙ ap (λ (o : Option Text). asked_by (fault_of program (help_words o))) (sym topic))
+    c.tell_help.ensures

@@ -1,0 +1,78 @@
+-- What the words of a command line ask for.
+use Rattle.std.specs.Prelude.{◌≡◌, Bool, true, false, Result, Err, IfOk, codes, Some, None, List, [], ◌∷◌, ◌++◌, map, if◌then◌else◌, bytes_eq}
+use Rattle.std.specs.declared.option.Option.{Option}
+use Rattle.std.specs.Option.{option_map}
+use Rattle.clap.specs.Walk.{Row, Text, first_of}
+use Rattle.clap.specs.Simple.{subcommand_of}
+use Rattle.clap.specs.Kinds.{Kinds}
+use Rattle.clap.specs.Faults.{fault_of}
+use Rattle.clap.specs.declared.error.kind.ErrorKind.{ErrorKind}
+use Rattle.clap.specs.declared.error.kind.ErrorKind.TheVariants.{DisplayHelp, DisplayVersion}
+use Rattle.branch_command.specs.Numbers.{Numbers, numbers_of, AreLimits}
+use Rattle.branch_command.specs.Program.{program}
+use Rattle.branch_command.specs.declared.command.Command.{Command}
+use Rattle.branch_command.specs.declared.command.Command.TheVariants as read
+use Rattle.branch_command.specs.declared.command.CommandRefused.{CommandRefused}
+use Rattle.branch_command.specs.declared.command.CommandRefused.TheVariants.{Usage}
+
+pub data Said : Type 0 where
+  -- make a store under limits of these numbers
+  Init : Numbers → Said
+  Script : Said
+  Check : Said
+  -- tell the text of help or of the version
+  Help : Said
+
+-- help or the version was asked for
+abbrev pub is_request : ErrorKind → Bool
+is_request DisplayHelp = true
+is_request DisplayVersion = true
+is_request kind = false
+
+-- what words ask for that clap answers by an error: a text, or nothing
+abbrev pub asked_by : Kinds → Option Said
+asked_by [] = None
+asked_by (kind ∷ kinds) = if is_request kind then Some Help else None
+
+-- `help NAME` asks for what `NAME --help` does, and `help` alone for what `--help` does
+abbrev pub help_words : Option Text → List Text
+help_words None = codes "--help" ∷ []
+help_words (Some name) = name ∷ codes "--help" ∷ []
+
+-- what a command of a name asks for, by what was given to it
+abbrev pub said_by : Text → List Row → Option Said
+said_by name given =
+    if bytes_eq name (codes "init") then option_map Init (numbers_of given)
+    else if bytes_eq name (codes "script") then Some Script
+    else if bytes_eq name (codes "check") then Some Check
+    else if bytes_eq name (codes "help") then asked_by (fault_of program (help_words (first_of (codes "command") given)))
+    else None
+
+-- what words ask for, by the kinds of error that clap has for them, and by the command that it finds where it has none
+abbrev pub said_of : Kinds → Option (Text × List Row) → Option Said
+said_of [] (Some command) = said_by command.0 command.1
+said_of [] None = None
+said_of (kind ∷ kinds) command = asked_by (kind ∷ kinds)
+
+-- what the words behind PATH ask for; none where they say no command
+unfoldable pub command_of : List Text → Option Said
+command_of words = said_of (fault_of program words) (subcommand_of program words)
+
+-- the words `init --NAME=WORD ..`
+abbrev pub option_word : Text × Text → Text
+option_word option = codes "--" ++ option.0 ++ codes "=" ++ option.1
+
+abbrev pub init_with : List (Text × Text) → List Text
+init_with options = codes "init" ∷ map option_word options
+
+-- the command that was read is the one that was said; the text of help is left open
+abbrev pub Means : Said → Command → Type 0
+Means (Init n) (read.Init limits) = AreLimits n limits
+Means Script read.Script = Unit {0}
+Means Check read.Check = Unit {0}
+Means Help (read.Tell text) = Unit {0}
+Means said command = ⊥
+
+-- the result is the command that was said; `Usage` comes only where none was said
+abbrev pub Answers : Option Said → Result Command CommandRefused → Type 0
+Answers said result = IfOk result (λ command. (s : Said) × (said ≡ Some s) × Means s command) × (result ≡ Err Usage → said ≡ None)

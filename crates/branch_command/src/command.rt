@@ -1,0 +1,123 @@
+// The commands, and how they are read from words.
+ghost use Rattle.std.specs.Prelude.{◌≡◌, ◌≢◌, true, false, Some, None, Err, List, [], map, codes, IfOk, MatchResult, IfErr, bytes_eq, option_map};
+ghost use Rattle.std.specs.String.{string_bytes};
+ghost use Rattle.clap.specs.Words.{found_of, kind_of, HasKind, FailsBy, Kinds};
+ghost use Rattle.clap.specs.Walk.{rows_of, Text};
+ghost use Rattle.clap.specs.Simple.{subcommand_of, subcommand_rows_of};
+ghost use Rattle.clap.specs.Faults.{fault_of};
+ghost use Rattle.branch_command.specs.Program.{program};
+ghost use Rattle.branch_command.specs.Commands.{Said, Help, Means, Answers, is_request, asked_by, help_words, said_by, command_of};
+ghost use Rattle.branch_command.specs.declared.command.CommandRefused.TheVariants.{Usage};
+ghost use Rattle.clap.specs.declared.error.kind.ErrorKind.TheVariants.{OutOfMemory};
+
+use crate::limits::read_limits;
+use crate::table::program;
+use branch_names::Limits;
+use clap::error::ErrorKind;
+use clap::{ArgMatches, Error as Answer};
+use std::alloc::{AllocError, Global};
+use std::convert::AsStr;
+use thiserror::Error;
+
+/// What the words of a command line ask for.
+#[derive(Debug, Drop)]
+pub enum Command {
+    /// Make a store under these limits.
+    Init(Limits),
+    /// Run the lines of standard input.
+    Script,
+    /// Open the store and report.
+    Check,
+    /// Tell this text, of help or of the version.
+    Tell(String),
+}
+
+/// Why no command was read.
+#[derive(Clone, Copy, Debug, PartialEq, Eq, Error)]
+pub enum CommandRefused {
+    /// The words say no command.
+    #[error("the words say no command")]
+    Usage,
+    /// Want of memory.
+    #[error("out of memory")]
+    Memory,
+}
+
+// What clap finds in words.
+fn matches_in<'a, S: AsStr>(alloc: Global, words: &'a [S]) -> Result<ArgMatches<'a>, Answer>
+    ensures kinds { FailsBy (fault_of program (map S.text words.entry.now)) result }
+    ensures found { IfOk result (λ m. subcommand_rows_of m ≡ subcommand_of program (map S.text words.entry.now)) }
+{
+    program(alloc)?.try_get_matches_from(words)
+}
+
+// The text of an answer of clap, where it is no mistake in the words.
+fn told(alloc: Global, answer: Answer) -> Result<Command, CommandRefused>
+    ensures told { IfOk result (λ command. Means Help command × (is_request (kind_of answer) ≡ true)) }
+    ensures usage { result ≡ Err Usage → (is_request (kind_of answer) ≡ false) × (kind_of answer ≢ OutOfMemory) }
+{
+    match answer.kind() {
+        ErrorKind::DisplayHelp | ErrorKind::DisplayVersion => match format!(in alloc; "{answer}") {
+            Ok(text) => Ok(Command::Tell(text)),
+            Err(AllocError) => Err(CommandRefused::Memory),
+        },
+        ErrorKind::OutOfMemory => Err(CommandRefused::Memory),
+        _ => Err(CommandRefused::Usage),
+    }
+}
+
+// The text that words ask for.
+fn tell<S: AsStr>(alloc: Global, words: &[S]) -> Result<Command, CommandRefused>
+    ensures { Answers (asked_by (fault_of program (map S.text words.now))) result }
+{
+    match matches_in(alloc, words) {
+        Ok(_) => Err(CommandRefused::Usage),
+        Err(answer) => told(alloc, answer),
+    }
+}
+
+// The help of the command of a name, or of the program.
+fn tell_help(alloc: Global, name: Option<&str>) -> Result<Command, CommandRefused>
+    ensures { Answers (asked_by (fault_of program (help_words (option_map (λ s. s.now) name.entry)))) result }
+{
+    match name {
+        Some(name) => tell(alloc, [name, "--help"].as_slice()),
+        None => tell(alloc, ["--help"].as_slice()),
+    }
+}
+
+// The command of a name, by what was given to it.
+fn command_named(
+    alloc: Global,
+    name: &str,
+    given: &ArgMatches<'_>,
+) -> Result<Command, CommandRefused>
+    ensures { Answers (said_by name.now (rows_of (found_of given.now))) result }
+{
+    match name {
+        "init" => match read_limits(given) {
+            Some(limits) => Ok(Command::Init(limits)),
+            None => Err(CommandRefused::Usage),
+        },
+        "script" => Ok(Command::Script),
+        "check" => Ok(Command::Check),
+        "help" => tell_help(alloc, given.get_str("command")),
+        _ => Err(CommandRefused::Usage),
+    }
+}
+
+/// The command that the words behind PATH say. `Usage` comes exactly where they say none; a text of help or of the
+/// version is left open.
+pub fn read_command(alloc: Global, words: &[String]) -> Result<Command, CommandRefused>
+    ensures read { IfOk result (λ command. (said : Said) × (command_of (map string_bytes words.now) ≡ Some said) × Means said command) }
+    ensures usage { result ≡ Err Usage → command_of (map string_bytes words.now) ≡ None }
+{
+    let matches = match matches_in(alloc, words) {
+        Ok(matches) => matches,
+        Err(answer) => return told(alloc, answer),
+    };
+    match matches.subcommand() {
+        Some((name, given)) => command_named(alloc, name, given),
+        None => Err(CommandRefused::Usage),
+    }
+}

@@ -1,0 +1,43 @@
+//! What the definition of the words' command says of some words, and of options in general.
+ghost use Rattle.std.specs.Prelude.{◌≡◌, Some, None, List, [], ◌∷◌, ◌++◌, codes, option_map};
+ghost use Rattle.clap.specs.Walk.{Text};
+ghost use Rattle.branch_command.specs.Commands.{Init, Script, Check, Help, command_of, init_with};
+ghost use Rattle.branch_command.specs.Numbers.{Numbers, usual, number_of, all_five};
+
+/// The commands without options, and those that ask for a text.
+#[tactic(auto, unfolding(crate::specs::Commands::command_of, crate::specs::Program::program, clap::proofs::OnLiterals::clap_on_literals))]
+pub fn plain_words()
+    ensures script { command_of (codes "script" ∷ []) ≡ Some Script }
+    ensures check { command_of (codes "check" ∷ []) ≡ Some Check }
+    ensures init { command_of (codes "init" ∷ []) ≡ Some (Init usual) }
+    ensures help { command_of (codes "help" ∷ []) ≡ Some Help }
+    ensures help_flag { command_of (codes "--help" ∷ []) ≡ Some Help }
+    ensures version { command_of (codes "--version" ∷ []) ≡ Some Help }
+    ensures help_init { command_of (codes "help" ∷ codes "init" ∷ []) ≡ Some Help }
+    ensures init_help { command_of (codes "init" ∷ codes "-h" ∷ []) ≡ Some Help }
+    ensures nothing { command_of [] ≡ None }
+    ensures unknown { command_of (codes "generate" ∷ []) ≡ None }
+    ensures more { command_of (codes "script" ∷ codes "x" ∷ []) ≡ None }
+    ensures topic { command_of (codes "help" ∷ codes "x" ∷ []) ≡ None }
+{
+}
+
+/// Each option sets its own number and no other, to what its word says; an option that is given twice says nothing.
+pub fn options()
+    ensures clock { (word : Text) → command_of (init_with ((codes "max-clock", word) ∷ []))
+        ≡ option_map (λ n. Init (record usual { clock = n })) (number_of 18446744073709551615 word) }
+    ensures commits { (word : Text) → command_of (init_with ((codes "max-commits", word) ∷ []))
+        ≡ option_map (λ n. Init (record usual { commits = n })) (number_of 4294967295 word) }
+    ensures branches { (word : Text) → command_of (init_with ((codes "max-branches", word) ∷ []))
+        ≡ option_map (λ n. Init (record usual { branches = n })) (number_of 4294967295 word) }
+    ensures value { (word : Text) → command_of (init_with ((codes "max-value", word) ∷ []))
+        ≡ option_map (λ n. Init (record usual { value = n })) (number_of 1073741824 word) }
+    ensures moves { (word : Text) → command_of (init_with ((codes "max-moves", word) ∷ []))
+        ≡ option_map (λ n. Init (record usual { moves = n })) (number_of 281474976710656 word) }
+    ensures twice { (a b : Text) → command_of (init_with ((codes "max-clock", a) ∷ (codes "max-clock", b) ∷ [])) ≡ None }
+    ensures all { (a b c d e : Text) → command_of (init_with
+        ((codes "max-moves", e) ∷ (codes "max-value", d) ∷ (codes "max-branches", c) ∷ (codes "max-commits", b) ∷ (codes "max-clock", a) ∷ []))
+        ≡ option_map Init (all_five (number_of 18446744073709551615 a) (number_of 4294967295 b) (number_of 4294967295 c)
+        (number_of 1073741824 d) (number_of 281474976710656 e)) }
+{
+}

@@ -1,0 +1,118 @@
+// The commands of the program and their options, as clap reads them.
+ghost use Rattle.std.specs.Prelude.{◌≡◌, IfOk, List, false, codes, ◌∷◌, [], map};
+ghost use Rattle.clap.specs.declared.builder.command.Command.TheViews.{out-Command as fields_of};
+ghost use Rattle.clap.specs.Walk.{rule_of};
+ghost use Rattle.clap.specs.Simple.{app_of, shape_of};
+ghost use Rattle.branch_command.specs.Program.{limit_rule, version_rule, topic_rule, leaf, limit_names, program};
+
+use clap::{Arg, ArgAction, Command};
+use std::alloc::{AllocError, Global};
+
+// An option with a number.
+fn limit<'a>(alloc: Global, name: &'a str, help: &'a str) -> Arg<'a>
+    ensures { (rule_of result ≡ limit_rule name.entry.now) × (result.global ≡ false) }
+{
+    Arg::new(alloc, name)
+        .long(name)
+        .value_name("N")
+        .help(help)
+}
+
+// The flag `--version`.
+fn version<'a>(alloc: Global) -> Arg<'a>
+    ensures { (rule_of result ≡ version_rule) × (result.global ≡ false) }
+{
+    Arg::new(alloc, "version")
+        .long("version")
+        .action(ArgAction::Version)
+        .help("Print version")
+}
+
+// The word behind `help`.
+fn topic<'a>(alloc: Global) -> Arg<'a>
+    ensures { (rule_of result ≡ topic_rule) × (result.global ≡ false) }
+{
+    Arg::new(alloc, "command")
+        .value_name("COMMAND")
+        .help("The command to tell of")
+}
+
+// A command without options of its own.
+fn plain<'a>(alloc: Global, name: &'a str, about: &'a str) -> Result<Command<'a>, AllocError>
+    ensures { IfOk result (λ c. (shape_of c ≡ leaf name.entry.now []) × ((fields_of c).has_globals ≡ false)) }
+{
+    Command::new(alloc, name).about(about).arg(version(alloc))
+}
+
+// `help`, and the name of a command.
+fn help<'a>(alloc: Global) -> Result<Command<'a>, AllocError>
+    ensures { IfOk result (λ c. (shape_of c ≡ leaf (codes "help") (topic_rule ∷ [])) × ((fields_of c).has_globals ≡ false)) }
+{
+    Command::new(alloc, "help")
+        .about("Print this message or the help of a command")
+        .arg(topic(alloc))?
+        .arg(version(alloc))
+}
+
+// `init`, and its options.
+fn init<'a>(alloc: Global) -> Result<Command<'a>, AllocError>
+    ensures { IfOk result (λ c. (shape_of c ≡ leaf (codes "init") (map limit_rule limit_names)) × ((fields_of c).has_globals ≡ false)) }
+{
+    let clock = limit(
+        alloc,
+        "max-clock",
+        "Greatest clock of a commit, 1 to 18446744073709551615 [default: 18446744073709551615]",
+    );
+    let commits = limit(
+        alloc,
+        "max-commits",
+        "Most commits, 1 to 4294967295 [default: 16777216]",
+    );
+    let branches = limit(
+        alloc,
+        "max-branches",
+        "Most branches, 1 to 4294967295 [default: 65536]",
+    );
+    let value = limit(
+        alloc,
+        "max-value",
+        "Most bytes of a value, 1 to 1073741824 [default: 16777216]",
+    );
+    let moves = limit(
+        alloc,
+        "max-moves",
+        "Most head moves, 1 to 281474976710656 [default: 1099511627776]",
+    );
+    Command::new(alloc, "init")
+        .about("Make a store")
+        .arg(clock)?
+        .arg(commits)?
+        .arg(branches)?
+        .arg(value)?
+        .arg(moves)?
+        .arg(version(alloc))
+}
+
+/// The program, whose words have no program's name in front.
+pub(crate) fn program<'a>(alloc: Global) -> Result<Command<'a>, AllocError>
+    ensures { IfOk result (λ c. app_of c ≡ program) }
+{
+    let init = init(alloc)?;
+    let script = plain(alloc, "script", "Run the lines of standard input as steps")?;
+    let check = plain(alloc, "check", "Open the store and print its report")?;
+    let help = help(alloc)?;
+    Command::new(alloc, "bucketplum")
+        .bin_name("bucketplum PATH")?
+        .about("A branch store of mergeable data types, in the file at PATH")
+        .version("0.1.0")
+        .propagate_version(true)
+        .disable_version_flag(true)
+        .disable_help_subcommand(true)
+        .no_binary_name(true)
+        .subcommand_required(true)
+        .arg(version(alloc))?
+        .subcommand(init)?
+        .subcommand(script)?
+        .subcommand(check)?
+        .subcommand(help)
+}
