@@ -1,7 +1,6 @@
 -- The five numbers of a store's limits are in their ranges.
-use Rattle.std.proofs.Common.{◌≡◌, ◌∙◌, ◌+◌, ◌*◌, ◌≤◌, ◌&&◌, ℕ, Bool, true, false, List, [], ◌∷◌, Option, Some, None, IfNone, IsSome, if◌then◌else◌, nat_eq, nat_le, not, codes, arith, refl, sym, ap, ap₂}
+use Rattle.std.proofs.Common.{◌≡◌, ◌+◌, ◌*◌, ◌≤◌, ◌&&◌, ℕ, Bool, true, false, List, [], ◌∷◌, Option, Some, None, IfNone, IsSome, if◌then◌else◌, nat_eq, nat_le, not, codes, arith, refl}
 use Rattle.std.specs.Char.{digit_value, is_ascii_digit}
-use Rattle.std.specs.List.{list_all}
 use Rattle.std.specs.Str.Parse.{digits_value, digits_value_after}
 use Rattle.std.proofs.lemmas.Bool.{eqb-false, leb-true}
 use Rattle.std.proofs.lemmas.Str.{digit_value_digit}
@@ -68,11 +67,16 @@ in_range given n r =
     let value = low_high 1073741824 16777216 n.value (first_of (codes "max-value") given) (omega arith) (omega arith) r.value in
     let moves = low_high 281474976710656 1099511627776 n.moves (first_of (codes "max-moves") given) (omega arith) (omega arith) r.moves in
     record {
-      clock_low = clock.0; clock_high = clock.1;
-      commits_low = commits.0; commits_high = commits.1;
-      branches_low = branches.0; branches_high = branches.1;
-      value_low = value.0; value_high = value.1;
-      moves_low = moves.0; moves_high = moves.1;
+      clock_low = clock.0;
+      clock_high = clock.1;
+      commits_low = commits.0;
+      commits_high = commits.1;
+      branches_low = branches.0;
+      branches_high = branches.1;
+      value_low = value.0;
+      value_high = value.1;
+      moves_low = moves.0;
+      moves_high = moves.1;
     }
 
 pub never_none : {X : Type 0} (o : Option X) (P : Type 0) → IsSome o → IfNone o P

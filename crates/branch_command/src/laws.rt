@@ -4,9 +4,9 @@ ghost use Rattle.clap.specs.Walk.{Text};
 ghost use Rattle.branch_command.specs.Commands.{Init, Script, Check, Help, command_of, init_with};
 ghost use Rattle.branch_command.specs.Numbers.{Numbers, usual, number_of, all_five};
 
-/// The commands without options, and those that ask for a text.
+/// The commands of some words, and words that say none.
 #[tactic(auto, unfolding(crate::specs::Commands::command_of, crate::specs::Program::program, clap::proofs::OnLiterals::clap_on_literals))]
-pub fn plain_words()
+pub fn words()
     ensures script { command_of (codes "script" ∷ []) ≡ Some Script }
     ensures check { command_of (codes "check" ∷ []) ≡ Some Check }
     ensures init { command_of (codes "init" ∷ []) ≡ Some (Init usual) }
@@ -15,12 +15,18 @@ pub fn plain_words()
     ensures version { command_of (codes "--version" ∷ []) ≡ Some Help }
     ensures help_init { command_of (codes "help" ∷ codes "init" ∷ []) ≡ Some Help }
     ensures init_help { command_of (codes "init" ∷ codes "-h" ∷ []) ≡ Some Help }
+    ensures apart { command_of (codes "init" ∷ codes "--max-value" ∷ codes "5" ∷ codes "--max-clock" ∷ codes "70" ∷ [])
+        ≡ Some (Init (record usual { clock = 70; value = 5 })) }
+    ensures sign { command_of (codes "init" ∷ codes "--max-clock" ∷ codes "+5" ∷ []) ≡ None }
+    ensures leading_zero { command_of (codes "init" ∷ codes "--max-clock" ∷ codes "05" ∷ []) ≡ None }
+    ensures zero { command_of (codes "init" ∷ codes "--max-clock" ∷ codes "0" ∷ []) ≡ None }
+    ensures too_large { command_of (codes "init" ∷ codes "--max-commits" ∷ codes "4294967296" ∷ []) ≡ None }
+    ensures no_number { command_of (codes "init" ∷ codes "--max-clock" ∷ []) ≡ None }
     ensures nothing { command_of [] ≡ None }
     ensures unknown { command_of (codes "generate" ∷ []) ≡ None }
     ensures more { command_of (codes "script" ∷ codes "x" ∷ []) ≡ None }
     ensures topic { command_of (codes "help" ∷ codes "x" ∷ []) ≡ None }
-{
-}
+{}
 
 /// Each option sets its own number and no other, to what its word says; an option that is given twice says nothing.
 pub fn options()
@@ -39,5 +45,4 @@ pub fn options()
         ((codes "max-moves", e) ∷ (codes "max-value", d) ∷ (codes "max-branches", c) ∷ (codes "max-commits", b) ∷ (codes "max-clock", a) ∷ []))
         ≡ option_map Init (all_five (number_of 18446744073709551615 a) (number_of 4294967295 b) (number_of 4294967295 c)
         (number_of 1073741824 d) (number_of 281474976710656 e)) }
-{
-}
+{}

@@ -16,13 +16,7 @@ fn read_number(word: &str, most: u64) -> Option<u64>
         return None;
     }
     match word.parse::<u64>() {
-        Ok(number) => {
-            if number <= most {
-                Some(number)
-            } else {
-                None
-            }
-        }
+        Ok(number) => { if number <= most { Some(number) } else { None } }
         Err(_) => None,
     }
 }
@@ -44,8 +38,18 @@ pub(crate) fn read_limits(given: &ArgMatches<'_>) -> Option<Limits>
 {
     let usual = Limits::default();
     let clock = read_option(given, "max-clock", 18_446_744_073_709_551_615, usual.clock)?;
-    let commits = read_option(given, "max-commits", 4_294_967_295, u64::from(usual.commits))?;
-    let branches = read_option(given, "max-branches", 4_294_967_295, u64::from(usual.branches))?;
+    let commits = read_option(
+        given,
+        "max-commits",
+        4_294_967_295,
+        u64::from(usual.commits),
+    )?;
+    let branches = read_option(
+        given,
+        "max-branches",
+        4_294_967_295,
+        u64::from(usual.branches),
+    )?;
     let value = read_option(given, "max-value", 1_073_741_824, usual.value)?;
     let moves = read_option(given, "max-moves", 281_474_976_710_656, usual.moves)?;
     Limits::new(clock, commits as u32, branches as u32, value, moves)

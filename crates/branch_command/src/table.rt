@@ -12,10 +12,7 @@ use std::alloc::{AllocError, Global};
 fn limit<'a>(alloc: Global, name: &'a str, help: &'a str) -> Arg<'a>
     ensures { (rule_of result ≡ limit_rule name.entry.now) × (result.global ≡ false) }
 {
-    Arg::new(alloc, name)
-        .long(name)
-        .value_name("N")
-        .help(help)
+    Arg::new(alloc, name).long(name).value_name("N").help(help)
 }
 
 // The flag `--version`.

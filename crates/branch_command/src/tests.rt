@@ -88,7 +88,7 @@ fn words_and_commands(rt: HostRuntime) -> Result<(), AllocError> {
     ];
     for (text, wanted) in rows {
         let found = read_as(rt.alloc(), text)?;
-        assert!(rt; found == wanted, "`{text}` is read as {found}");
+        assert!(rt; found == wanted);
     }
     Ok(())
 }
@@ -111,9 +111,9 @@ fn texts(rt: HostRuntime) -> Result<(), AllocError> {
     for (text, part) in rows {
         let words = words_of(rt.alloc(), text)?;
         let Ok(Command::Tell(told)) = read_command(rt.alloc(), &words) else {
-            panic!(rt; "`{text}` tells nothing");
+            panic!(rt; "no text");
         };
-        assert!(rt; told.contains(part), "`{text}` tells {told}");
+        assert!(rt; told.contains(part));
     }
     Ok(())
 }

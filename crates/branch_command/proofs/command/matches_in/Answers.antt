@@ -1,10 +1,9 @@
-use Rattle.std.proofs.Common.{rules, ◌≡◌, ◌∙◌, true, refl, sym, ap, map, subst}
+use Rattle.std.proofs.Common.{◌≡◌, ◌∙◌, true, refl, ap, map, subst}
 use Rattle.std.proofs.lemmas.Result.{IfOk-weaker}
 use Rattle.clap.specs.Simple.{App, is_simple, subcommand_of}
 use Rattle.clap.specs.Kinds.{FailsBy}
 use Rattle.clap.specs.Faults.{fault_of, is_simple_and_free}
 use Rattle.branch_command.specs.Program.{program}
-use Rattle.branch_command.proofs.Sure.{program_sure}
 use Rattle.branch_command.proofs.command.matches_in.Goals as goal
 
 is_plain : is_simple_and_free program ≡ true

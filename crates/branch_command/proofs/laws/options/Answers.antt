@@ -1,7 +1,7 @@
 use Rattle.std.proofs.Common.{◌≡◌, ℕ, Option, Some, None, option_map, refl}
 use Rattle.clap.proofs.OnLiterals.{clap_on_literals}
 use Rattle.branch_command.specs.Commands.{Init, command_of}
-use Rattle.branch_command.specs.Numbers.{Numbers, all_five, number_of, usual}
+use Rattle.branch_command.specs.Numbers.{all_five, number_of, usual}
 use Rattle.branch_command.specs.Program.{program}
 use Rattle.branch_command.proofs.laws.options.Goals as goal
 

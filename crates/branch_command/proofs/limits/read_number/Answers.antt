@@ -1,7 +1,6 @@
 use Rattle.std.proofs.Common.{◌≡◌, ◌∙◌, Some, None, true, nat_le, if◌then◌else◌, ap, arith, sym}
 use Rattle.std.specs.Prelude.{slice_get}
 use Rattle.std.proofs.lemmas.Bool.{le-leb}
-use Rattle.branch_command.specs.Numbers.{number_of}
 use Rattle.branch_command.proofs.Digits.{number_read, up_to}
 use Rattle.branch_command.proofs.limits.read_number.Goals as goal
 

@@ -1,7 +1,6 @@
-use Rattle.std.proofs.Common.{rules, ◌≡◌, ◌∙◌, false, codes, ap}
+use Rattle.std.proofs.Common.{rules, codes, ap}
 use Rattle.std.proofs.lemmas.Result.{IfOk-weaker}
 use Rattle.clap.specs.Simple.{App, new_app}
-use Rattle.branch_command.specs.Program.{limit_rule, version_rule}
 use Rattle.branch_command.proofs.Adding.{Is, with_arg}
 use Rattle.branch_command.proofs.table.init.Goals as goal
 
@@ -14,5 +13,5 @@ returns c =
     let value = with_arg _ _ _ _ _ branches c.in_ok-arg-4.ensures c.limit-value.ensures.0 c.limit-value.ensures.1 in
     let moves = with_arg _ _ _ _ _ value c.in_ok-arg-5.ensures c.limit-moves.ensures.0 c.limit-moves.ensures.1 in
     IfOk-weaker c.arg-6.result _ _ (λ r adds.
-      let all = with_arg _ _ _ _ _ moves adds c.version.ensures.0 c.version.ensures.1 in
-      (ap (λ (a : App). a.top) all.app, all.local)) c.arg-6.ensures
+    let all = with_arg _ _ _ _ _ moves adds c.version.ensures.0 c.version.ensures.1 in
+    (ap (λ (a : App). a.top) all.app, all.local)) c.arg-6.ensures

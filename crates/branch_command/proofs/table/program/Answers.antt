@@ -1,8 +1,8 @@
-use Rattle.std.proofs.Common.{rules, ◌≡◌, ◌∙◌, refl, true, false, codes, ap, ap₂}
+use Rattle.std.proofs.Common.{◌∙◌, refl, true, ap₂}
 use Rattle.std.proofs.lemmas.Result.{IfOk-weaker}
-use Rattle.clap.specs.Simple.{App, app_of, new_app, with_rule}
+use Rattle.clap.specs.Simple.{with_rule}
 use Rattle.branch_command.specs.Program.{program}
-use Rattle.branch_command.proofs.Adding.{Is, with_arg, with_leaf, with_setting}
+use Rattle.branch_command.proofs.Adding.{with_leaf, with_setting}
 use Rattle.branch_command.proofs.table.program.Goals as goal
 
 pub returns : goal.returns
