@@ -1,8 +1,8 @@
 // The commands, and how they are read from words.
-ghost use Rattle.std.specs.Prelude.{◌≡◌, ◌≢◌, true, false, Some, None, Err, List, [], map, codes, IfOk, MatchResult, IfErr, bytes_eq, option_map};
+ghost use Rattle.std.specs.Prelude.{◌≡◌, ◌≢◌, true, false, Some, None, Err, map, IfOk, option_map};
 ghost use Rattle.std.specs.String.{string_bytes};
-ghost use Rattle.clap.specs.Words.{found_of, kind_of, HasKind, FailsBy, Kinds};
-ghost use Rattle.clap.specs.Walk.{rows_of, Text};
+ghost use Rattle.clap.specs.Words.{found_of, kind_of, FailsBy};
+ghost use Rattle.clap.specs.Walk.{rows_of};
 ghost use Rattle.clap.specs.Simple.{subcommand_of, subcommand_rows_of};
 ghost use Rattle.clap.specs.Faults.{fault_of};
 ghost use Rattle.branch_command.specs.Program.{program};

@@ -1,8 +1,8 @@
 //! What the definition of the words' command says of some words, and of options in general.
-ghost use Rattle.std.specs.Prelude.{◌≡◌, Some, None, List, [], ◌∷◌, ◌++◌, codes, option_map};
+ghost use Rattle.std.specs.Prelude.{◌≡◌, Some, None, [], ◌∷◌, codes, option_map};
 ghost use Rattle.clap.specs.Walk.{Text};
 ghost use Rattle.branch_command.specs.Commands.{Init, Script, Check, Help, command_of, init_with};
-ghost use Rattle.branch_command.specs.Numbers.{Numbers, usual, number_of, all_five};
+ghost use Rattle.branch_command.specs.Numbers.{usual, number_of, all_five};
 
 /// The commands of some words, and words that say none.
 #[tactic(auto, unfolding(crate::specs::Commands::command_of, crate::specs::Program::program, clap::proofs::OnLiterals::clap_on_literals))]

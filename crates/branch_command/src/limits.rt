@@ -1,5 +1,5 @@
 // The limits that the options of `init` say.
-ghost use Rattle.std.specs.Prelude.{◌≡◌, ◌<◌, ◌^◌, IfSome, IfNone};
+ghost use Rattle.std.specs.Prelude.{◌≡◌, Some, IfSome, IfNone, None};
 ghost use Rattle.clap.specs.Words.{found_of};
 ghost use Rattle.clap.specs.Walk.{first_of, rows_of};
 ghost use Rattle.branch_command.specs.Numbers.{Numbers, number_of, number_or, numbers_of, AreLimits};

@@ -1,5 +1,5 @@
 // The commands of the program and their options, as clap reads them.
-ghost use Rattle.std.specs.Prelude.{◌≡◌, IfOk, List, false, codes, ◌∷◌, [], map};
+ghost use Rattle.std.specs.Prelude.{◌≡◌, IfOk, false, codes, ◌∷◌, [], map};
 ghost use Rattle.clap.specs.declared.builder.command.Command.TheViews.{out-Command as fields_of};
 ghost use Rattle.clap.specs.Walk.{rule_of};
 ghost use Rattle.clap.specs.Simple.{app_of, shape_of};
