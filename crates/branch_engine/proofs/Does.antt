@@ -1,72 +1,171 @@
 -- What a call does that tells a line or a step, from what is told and what was written.
-use Rattle.std.proofs.Common.{◌≡◌, ℕ, List, [], ◌++◌, length, take, ap, sym, subst, ◌∙◌, append-nil, inl}
-use Rattle.std.specs.Prelude.{Result, Ok, Err, IsErr, OnOk, OnErr}
+use Rattle.std.proofs.Common.{◌≡◌, ◌≢◌, ℕ, ◌≤◌, true, false, List, [], ◌∷◌, ◌++◌, length, take, refl, ap, sym, subst, ◌∙◌, append-nil, inl, arith}
+use Rattle.std.specs.Prelude.{Result, Ok, Err, IsErrAnd, OnOk, OnErr, IfErr}
 use Rattle.std.proofs.Math.Seq.{take-length}
 use Rattle.mrdt_model.specs.declared.errors.Memory.{Memory}
 use Rattle.mrdt_model.specs.Spelled.{AppendsPart}
+use Rattle.branch_io.specs.Causes.{Rose, HasCauseOf}
+use Rattle.branch_disk.specs.Disk.{Files, LeavesOnly}
+use Rattle.branch_disk.specs.Moments.{started}
 use Rattle.branch_names.specs.declared.limits.Limits.{Limits}
+use Rattle.branch_history.specs.declared.moves.Move.{Move}
+use Rattle.branch_doc.specs.Forms.{DocOp, DocReply}
+use Rattle.branch_engine.specs.declared.refused.TellRefused.{TellRefused}
+use Rattle.branch_engine.specs.declared.refused.TellRefused.TheVariants as refusal
 use Rattle.branch_engine.specs.Play.{Play, Told}
-use Rattle.branch_engine.specs.Engines.{EngineView, IsAt, Replies, BreaksOff, StandsEitherWay, Does}
+use Rattle.branch_engine.specs.Readings.{doc_fixed, ReadAsEither}
+use Rattle.branch_engine.specs.Engines.{Store, EngineView, IsAt, KeepsLooks, Moves, Telling, Replies, StandsEitherWay, BreaksOff, LeavesEither, Does}
 
-abbrev pub Telling : Type 0
-Telling = Limits → Play → Told
+-- what a disk says of its images and its faults
+pub record Members (D : Type 0) : Type 1 where
+  pub may_leave : D → Files → Type 0
+  pub moment : D → ℕ
+  pub left_since : D → ℕ → Files → Type 0
+  pub faults : D → ℕ
+  pub only_now : (d : D) (c : Files) → left_since d (moment d) c → may_leave d c
 
--- these words are told, and the engine then stands for what is left
-abbrev pub IsTold : Telling → EngineView → EngineView → List ℕ → Type 0
-IsTold told old new words = (limits : Limits) (p : Play) → IsAt limits old p → IsAt limits new (told limits p).after × ((told limits p).text ≡ words)
+abbrev pub members : {D : Type 0} (may_leave : D → Files → Type 0) (moment : D → ℕ) (left_since : D → ℕ → Files → Type 0) (faults : D → ℕ) → ((d : D) (c : Files) → left_since d (moment d) c → may_leave d c) → Members D
+members may_leave moment left_since faults only_now = record { may_leave = may_leave; moment = moment; left_since = left_since; faults = faults; only_now = only_now }
 
--- what is told is this, and the engine stands for what that leaves
-pub told-by : (limits : Limits) (new : EngineView) (told it : Told) (words : List ℕ) → told ≡ it → IsAt limits new it.after → it.text ≡ words → IsAt limits new told.after × (told.text ≡ words)
-told-by limits new told it words is after text = (subst (IsAt limits new) (sym (ap (λ t. t.after) is)) after, ap (λ t. t.text) is ∙ text)
+-- a call that answers want of memory
+pub short-of : (r : Result (Unit {0}) TellRefused) → IsErrAnd r (λ e. e ≡ refusal.Memory) → r ≡ Err refusal.Memory
+short-of (Ok done) never = absurd never
+short-of (Err e) is = ap Err is
 
--- these words are told, and the engine stands for the history before or behind, in which each session sees what it saw
-abbrev pub IsHalfTold : Telling → EngineView → EngineView → List ℕ → Type 0
-IsHalfTold told old new words = (limits : Limits) (p : Play) → IsAt limits old p → StandsEitherWay limits new p (told limits p) × ((told limits p).text ≡ words)
+module _ {D : Type 0} (m : Members D) (address : List ℕ → List ℕ) where
+  abbrev Is : Limits → EngineView D → Play → Type 0
+  Is limits engine p = IsAt m.may_leave (doc_fixed address limits) engine p
 
--- nothing was written, and nothing moved
-pub nothing_done : (told : Telling) (old new : EngineView) (out : List ℕ) → new ≡ old → BreaksOff told old new out out
-nothing_done told old new out same limits p at = (inl (subst (λ v. IsAt limits v p) (sym same) at), (0, sym (append-nil out)))
+  abbrev pub DoesSo : Telling → EngineView D → EngineView D → List ℕ → List ℕ → Result (Unit {0}) TellRefused → Type 0
+  DoesSo told old new out out' r = Does m.may_leave m.moment m.left_since m.faults address told old new out out' r
 
--- a first part of the words was written
-pub part_written : (told : Telling) (old new : EngineView) (out out' words : List ℕ) → IsHalfTold told old new words → AppendsPart out out' words → BreaksOff told old new out out'
-part_written told old new out out' words it part limits p at = let t = it limits p at in (t.0, subst (AppendsPart out out') (sym t.1) part)
+  -- these words are told, and the engine then stands for what is left
+  abbrev pub IsTold : Telling → EngineView D → EngineView D → List ℕ → Type 0
+  IsTold told old new words = (limits : Limits) (p : Play) → Is limits old p → Is limits new (told (doc_fixed address limits) p).after × ((told (doc_fixed address limits) p).text ≡ words)
 
--- the words were written
-all_written : (told : Telling) (old new : EngineView) (out out' words : List ℕ) → IsTold told old new words → out' ≡ out ++ words → Replies told old new out out'
-all_written told old new out out' words it is limits p at = let t = it limits p at in (t.0, is ∙ ap (λ w. out ++ w) (sym t.1))
+  -- what is told is this, and the engine stands for what that leaves
+  pub told-by : (limits : Limits) (new : EngineView D) (told it : Told) (words : List ℕ) → told ≡ it → Is limits new it.after → it.text ≡ words → Is limits new told.after × (told.text ≡ words)
+  told-by limits new told it words is after text = (subst (Is limits new) (sym (ap (λ (t : Told). t.after) is)) after, ap (λ (t : Told). t.text) is ∙ text)
 
--- the words were written, or a first part of them
-pub ends_so : (told : Telling) (old new : EngineView) (out out' words : List ℕ) (r : Result (Unit {0}) Memory) → IsTold told old new words → IsHalfTold told old new words
-    → OnOk r (out' ≡ out ++ words) → OnErr r (AppendsPart out out' words) → Does told old new out out' r
-ends_so told old new out out' words (Ok done) it half ok err = record { ok = all_written told old new out out' words it ok; err = tt }
-ends_so told old new out out' words (Err memory) it half ok err = record { ok = tt; err = part_written told old new out out' words half err }
+  -- these words are told, and the engine stands for the history before or behind, in which each session sees what it saw
+  abbrev pub IsHalfTold : Telling → EngineView D → EngineView D → List ℕ → Type 0
+  IsHalfTold told old new words =
+      (limits : Limits) (p : Play) → Is limits old p → StandsEitherWay m.may_leave (doc_fixed address limits) new p (told (doc_fixed address limits) p) × ((told (doc_fixed address limits) p).text ≡ words)
 
--- and nothing moved
-pub stays_so : (told : Telling) (old new : EngineView) (out out' words : List ℕ) (r : Result (Unit {0}) Memory) → new ≡ old → IsTold told old old words
-    → OnOk r (out' ≡ out ++ words) → OnErr r (AppendsPart out out' words) → Does told old new out out' r
-stays_so told old new out out' words r same it ok err =
-    subst (λ v. Does told old v out out' r) (sym same) (ends_so told old old out out' words r it (λ limits p at. (inl at, (it limits p at).1)) ok err)
+  -- the disk has not failed, and a crash leaves either history
+  pub record Works (told : Telling) (old new : EngineView D) : Type 0 where
+    pub working : new.core.failed ≡ false
+    pub moments : LeavesEither m.may_leave m.moment m.left_since address told old new
+    pub same : m.faults new.core.disk ≡ m.faults old.core.disk
 
--- all words were written, and then a session came to see something or, for want of memory, sees what it saw
-pub sees_so : (told : Telling) (old new : EngineView) (out out' words : List ℕ) (r : Result (Unit {0}) Memory) (P Q : Type 0) → (P → IsTold told old new words) → (Q → IsHalfTold told old new words)
-    → OnOk r P → OnErr r Q → out' ≡ out ++ words → Does told old new out out' r
-sees_so told old new out out' words (Ok done) P Q sees keeps ok err is = record { ok = all_written told old new out out' words (sees ok) is; err = tt }
-sees_so told old new out out' words (Err memory) P Q sees keeps ok err is =
-    record { ok = tt; err = part_written told old new out out' words (keeps err) (length words, is ∙ ap (λ w. out ++ w) (sym (take-length words))) }
+  -- nothing moved
+  pub works-still : (told : Telling) (old new : EngineView D) → old.core.failed ≡ false → new.core ≡ old.core → Works told old new
+  works-still told old new worked core = record {
+    working = ap (λ (k : Store D). k.failed) core ∙ worked;
+    moments = λ limits p at.
+        let Either = ReadAsEither (doc_fixed address limits) p.moves (told (doc_fixed address limits) p).after.moves in
+        subst (λ (k : Store D). LeavesOnly m.moment m.left_since old.core.disk k.disk Either) (sym core)
+        (started m.moment m.left_since old.core.disk Either (λ c left. inl (at.images c (m.only_now old.core.disk c left))));
+    same = ap (λ (k : Store D). m.faults k.disk) core;
+  }
 
--- a call that failed
-pub broke_off : (told : Telling) (old new : EngineView) (out out' : List ℕ) (r : Result (Unit {0}) Memory) → IsErr r → BreaksOff told old new out out' → Does told old new out out' r
-broke_off told old new out out' (Ok done) fails breaks = absurd (let no : ⊥ = cc in no)
-broke_off told old new out out' (Err memory) fails breaks = record { ok = tt; err = breaks }
+  no-fault : (before now : ℕ) (r : Result (Unit {0}) TellRefused) → now ≡ before → r ≢ Err refusal.DiskFault → HasCauseOf refusal.DiskFault before now r
+  no-fault before now r same not = record { later = omega (arith, same); failed = λ is. absurd (not is); others = λ _. same }
 
--- what is told one way is told another way
-pub does_as : (told other : Telling) (old new : EngineView) (out out' : List ℕ) (r : Result (Unit {0}) Memory) → ((limits : Limits) (p : Play) → IsAt limits old p → told limits p ≡ other limits p)
-    → Does other old new out out' r → Does told old new out out' r
-does_as told other old new out out' (Ok done) same does = record {
-  ok = λ limits p at. subst (λ (t : Told). IsAt limits new t.after × (out' ≡ out ++ t.text)) (sym (same limits p at)) (does.ok limits p at);
-  err = tt;
-}
-does_as told other old new out out' (Err memory) same does = record {
-  ok = tt;
-  err = λ limits p at. subst (λ (t : Told). StandsEitherWay limits new p t × AppendsPart out out' t.text) (sym (same limits p at)) (does.err limits p at);
-}
+  -- all was done
+  does-ok : (told : Telling) (old new : EngineView D) (out out' : List ℕ) (r : Result (Unit {0}) TellRefused) → r ≡ Ok tt → Works told old new → Replies m.may_leave address told old new out out' → DoesSo told old new out out' r
+  does-ok told old new out out' r is works replies = subst (DoesSo told old new out out') (sym is) (record {
+    ok = replies;
+    working = works.working;
+    err = tt;
+    moments = works.moments;
+    cause = no-fault _ _ (Ok tt) works.same (λ no. cc);
+  })
+
+  -- memory was short
+  does-memory : (told : Telling) (old new : EngineView D) (out out' : List ℕ) (r : Result (Unit {0}) TellRefused) → r ≡ Err refusal.Memory → Works told old new
+      → BreaksOff m.may_leave address told old new out out' refusal.Memory → DoesSo told old new out out' r
+  does-memory told old new out out' r is works breaks = subst (DoesSo told old new out out') (sym is) (record {
+    ok = tt;
+    working = tt;
+    err = breaks;
+    moments = works.moments;
+    cause = no-fault _ _ (Err refusal.Memory) works.same (λ no. cc);
+  })
+
+  -- the disk failed
+  pub does-fault : (told : Telling) (old new : EngineView D) (out : List ℕ) → new.core ≡ record old.core { failed = true; disk = new.core.disk } → KeepsLooks old.sessions new.sessions
+      → ((limits : Limits) (p : Play) → Is limits old p → Moves p (told (doc_fixed address limits) p).after) → LeavesEither m.may_leave m.moment m.left_since address told old new
+      → m.faults old.core.disk ≤ m.faults new.core.disk → Rose (m.faults old.core.disk) (m.faults new.core.disk) → DoesSo told old new out out (Err refusal.DiskFault)
+  does-fault told old new out core kept moves moments later rose = record {
+    ok = tt;
+    working = tt;
+    err = (refl, core, kept, moves);
+    moments = moments;
+    cause = record { later = later; failed = λ _. rose; others = λ not. absurd (not refl) };
+  }
+
+  -- nothing was written, and nothing moved
+  pub nothing_done : (told : Telling) (old new : EngineView D) (out : List ℕ) (r : Result (Unit {0}) TellRefused) → r ≡ Err refusal.Memory → old.core.failed ≡ false → new ≡ old → DoesSo told old new out out r
+  nothing_done told old new out r is worked same =
+      let works = works-still told old new worked (ap (λ (v : EngineView D). v.core) same) in
+      does-memory told old new out out r is works (works.working, λ limits p at. (inl (subst (λ (v : EngineView D). Is limits v p) (sym same) at), (0, sym (append-nil out))))
+
+  -- a first part of the words was written
+  pub part_written : (told : Telling) (old new : EngineView D) (out out' words : List ℕ) (r : Result (Unit {0}) TellRefused) → r ≡ Err refusal.Memory → Works told old new → IsHalfTold told old new words → AppendsPart out out' words
+      → DoesSo told old new out out' r
+  part_written told old new out out' words r is works it part =
+      does-memory told old new out out' r is works (works.working, λ limits p at. let t = it limits p at in (t.0, subst (AppendsPart out out') (sym t.1) part))
+
+  -- the words were written
+  all_written : (told : Telling) (old new : EngineView D) (out out' words : List ℕ) (r : Result (Unit {0}) TellRefused) → r ≡ Ok tt → Works told old new → IsTold told old new words → out' ≡ out ++ words → DoesSo told old new out out' r
+  all_written told old new out out' words r is works it written =
+      does-ok told old new out out' r is works (λ limits p at. let t = it limits p at in (t.0, written ∙ ap (λ (w : List ℕ). out ++ w) (sym t.1)))
+
+  -- the words were written, or a first part of them; the call answers so
+  pub ends_so : (told : Telling) (old new : EngineView D) (out out' words : List ℕ) (w : Result (Unit {0}) Memory) (r : Result (Unit {0}) TellRefused) → OnOk w (r ≡ Ok tt) → OnErr w (r ≡ Err refusal.Memory)
+      → Works told old new → IsTold told old new words → IsHalfTold told old new words → OnOk w (out' ≡ out ++ words) → OnErr w (AppendsPart out out' words) → DoesSo told old new out out' r
+  ends_so told old new out out' words (Ok done) r through short works it half ok err = all_written told old new out out' words r through works it ok
+  ends_so told old new out out' words (Err memory) r through short works it half ok err = part_written told old new out out' words r short works half err
+
+  -- and nothing moved
+  pub stays_so : (told : Telling) (old new : EngineView D) (out out' words : List ℕ) (w : Result (Unit {0}) Memory) (r : Result (Unit {0}) TellRefused) → OnOk w (r ≡ Ok tt) → OnErr w (r ≡ Err refusal.Memory)
+      → old.core.failed ≡ false → new ≡ old → IsTold told old old words → OnOk w (out' ≡ out ++ words) → OnErr w (AppendsPart out out' words) → DoesSo told old new out out' r
+  stays_so told old new out out' words w r through short worked same it ok err =
+      subst (λ (v : EngineView D). DoesSo told old v out out' r) (sym same)
+      (ends_so told old old out out' words w r through short (works-still told old old worked refl) it (λ limits p at. (inl at, (it limits p at).1)) ok err)
+
+  -- all words were written, and then a session came to see something or, for want of memory, sees what it saw
+  pub sees_so : (told : Telling) (old new : EngineView D) (out out' words : List ℕ) (w : Result (Unit {0}) Memory) (r : Result (Unit {0}) TellRefused) → OnOk w (r ≡ Ok tt) → OnErr w (r ≡ Err refusal.Memory)
+      → Works told old new → (P K : Type 0) → (P → IsTold told old new words) → (K → IsHalfTold told old new words) → OnOk w P → OnErr w K → out' ≡ out ++ words → DoesSo told old new out out' r
+  sees_so told old new out out' words (Ok done) r through short works P K sees keeps ok err is = all_written told old new out out' words r through works (sees ok) is
+  sees_so told old new out out' words (Err memory) r through short works P K sees keeps ok err is =
+      part_written told old new out out' words r short works (keeps err) (length words, is ∙ ap (λ (w : List ℕ). out ++ w) (sym (take-length words)))
+
+  -- what is told one way is told another way
+  module _ (told other : Telling) (old new : EngineView D) (out out' : List ℕ)
+      (same : (limits : Limits) (p : Play) → Is limits old p → told (doc_fixed address limits) p ≡ other (doc_fixed address limits) p) where
+    breaks_as : (e : TellRefused) → BreaksOff m.may_leave address other old new out out' e → BreaksOff m.may_leave address told old new out out' e
+    breaks_as refusal.DiskFault (written, core, kept, moves) = (written, core, kept, λ limits p at. subst (λ (t : Told). Moves p t.after) (sym (same limits p at)) (moves limits p at))
+    breaks_as refusal.Memory (worked, half) =
+        (worked, λ limits p at. subst (λ (t : Told). StandsEitherWay m.may_leave (doc_fixed address limits) new p t × AppendsPart out out' t.text) (sym (same limits p at)) (half limits p at))
+
+    replies_as : Replies m.may_leave address other old new out out' → Replies m.may_leave address told old new out out'
+    replies_as replies limits p at = subst (λ (t : Told). Is limits new t.after × (out' ≡ out ++ t.text)) (sym (same limits p at)) (replies limits p at)
+
+    ok_as : (r : Result (Unit {0}) TellRefused) → OnOk r (Replies m.may_leave address other old new out out') → OnOk r (Replies m.may_leave address told old new out out')
+    ok_as (Ok done) replies = replies_as replies
+    ok_as (Err e) none = tt
+
+    err_as : (r : Result (Unit {0}) TellRefused) → IfErr r (BreaksOff m.may_leave address other old new out out') → IfErr r (BreaksOff m.may_leave address told old new out out')
+    err_as (Ok done) none = tt
+    err_as (Err e) breaks = breaks_as e breaks
+
+    pub does_as : (r : Result (Unit {0}) TellRefused) → DoesSo other old new out out' r → DoesSo told old new out out' r
+    does_as r does = record {
+      ok = ok_as r does.ok;
+      working = does.working;
+      err = err_as r does.err;
+      moments = λ limits p at. subst (λ (t : Told). LeavesOnly m.moment m.left_since old.core.disk new.core.disk (ReadAsEither (doc_fixed address limits) p.moves t.after.moves)) (sym (same limits p at)) (does.moments limits p at);
+      cause = does.cause;
+    }

@@ -12,7 +12,8 @@ use Rattle.branch_history.proofs.Valid.{store_of-more}
 use Rattle.branch_history.proofs.Stores.{head_of-same}
 use Rattle.store_seen.specs.declared.answers.Kind.{Kind}
 use Rattle.store_seen.specs.declared.answers.Kind.TheVariants as kind
-use Rattle.store_seen.specs.Turns.{Moves, step_of, move_of, outcome_of}
+use Rattle.store_seen.specs.Turns.{step_of, move_of, outcome_of}
+use Rattle.store_core.specs.Turns.{Moves}
 use Rattle.store_seen.specs.Views.{Work}
 use Rattle.store_seen.specs.Views as work
 use Rattle.branch_print.specs.Texts.{outcome_text}
@@ -20,7 +21,9 @@ use Rattle.branch_engine.specs.Sessions.{Sight}
 use Rattle.branch_doc.specs.Document.{document}
 use Rattle.branch_doc.specs.Forms.{DocOp, DocReply, DocQuery, DocAnswer}
 use Rattle.branch_engine.specs.Play.{History, sight_after}
-use Rattle.branch_engine.specs.Engines.{Core, Seen, kind_text}
+use Rattle.branch_engine.specs.Readings.{doc_fixed}
+use Rattle.branch_engine.specs.Engines.{Store, Seen, kind_text}
+use Rattle.branch_engine.proofs.Machines.{full-turned}
 
 abbrev Outcome : Type 0
 Outcome = machine.Outcome DocAnswer DocReply
@@ -84,19 +87,20 @@ module _ (limits : Limits) (moves : History) (r : ℕ) (there : r < length (stor
       (move.Merge r m) (move.Forward r m) made (machine.Merged (length commits)) (machine.Forwarded m) outcome
       (ap (λ n. Some (sight_at r n)) (sym (forward_head m))) (ap (λ n. Some (sight_at r n)) (sym (merge_head m))) is
 
-lands_step : (old : Core) (seen : Seen) (does : Work DocOp DocReply) (k : Kind DocReply) → seen.branch < length (store_of old.history).branches
-    → turn document old.limits old.history (step_of {Q = DocQuery} seen does) ≡ makes (move_of seen.branch does) (outcome_of k)
-    → sight_after seen.branch (outcome_of k) ≡ Some (sight_at seen.branch (head_of (store_of (old.history ++ move_of seen.branch does ∷ [])).branches seen.branch))
-lands_step old seen (work.Operation op reply) k there is = land-sees old.limits old.history seen.branch there seen.head op (outcome_of k) (move.Operation seen.branch op reply) is
-lands_step old seen (work.Merge commit) k there is = merge-sees old.limits old.history seen.branch there seen.head commit (outcome_of k) (move.Merge seen.branch commit) is
-lands_step old seen (work.Forward commit) k there is = merge-sees old.limits old.history seen.branch there seen.head commit (outcome_of k) (move.Forward seen.branch commit) is
+lands_step : (limits : Limits) (history : History) (seen : Seen) (does : Work DocOp DocReply) (k : Kind DocReply) → seen.branch < length (store_of history).branches
+    → turn document limits history (step_of {Q = DocQuery} seen does) ≡ makes (move_of seen.branch does) (outcome_of k)
+    → sight_after seen.branch (outcome_of k) ≡ Some (sight_at seen.branch (head_of (store_of (history ++ move_of seen.branch does ∷ [])).branches seen.branch))
+lands_step limits history seen (work.Operation op reply) k there is = land-sees limits history seen.branch there seen.head op (outcome_of k) (move.Operation seen.branch op reply) is
+lands_step limits history seen (work.Merge commit) k there is = merge-sees limits history seen.branch there seen.head commit (outcome_of k) (move.Merge seen.branch commit) is
+lands_step limits history seen (work.Forward commit) k there is = merge-sees limits history seen.branch there seen.head commit (outcome_of k) (move.Forward seen.branch commit) is
 
 -- after what was prepared has landed, its session sees the branch's new head
-pub lands-sees : (old new : Core) (seen : Seen) (does : Work DocOp DocReply) (k : Kind DocReply) (moves : ℕ) → seen.branch < length (store_of old.history).branches
-    → Moves document old new (step_of seen does) (move_of seen.branch does) (outcome_of k) moves
+pub lands-sees : {D : Type 0} (address : List ℕ → List ℕ) (old new : Store D) (seen : Seen) (does : Work DocOp DocReply) (k : Kind DocReply) (moves : ℕ) → seen.branch < length (store_of old.history).branches
+    → Moves (doc_fixed address old.limits) old new (step_of seen does) (move_of seen.branch does) (outcome_of k) moves
     → sight_after seen.branch (outcome_of k) ≡ Some (sight_at seen.branch (head_of (store_of new.history).branches seen.branch))
-lands-sees old new seen does k moves there m =
-    lands_step old seen does k there m.turn_is ∙ ap (λ (c : Core). Some (sight_at seen.branch (head_of (store_of c.history).branches seen.branch))) (sym m.history)
+lands-sees {D} address old new seen does k moves there m =
+    lands_step old.limits old.history seen does k there (full-turned (doc_fixed address old.limits) old.history (step_of seen does) (move_of seen.branch does) (outcome_of k) m.turn_is)
+    ∙ ap (λ (c : Store D). Some (sight_at seen.branch (head_of (store_of c.history).branches seen.branch))) (sym m.history)
 
 -- the text of what landed is that of the machine's outcome
 pub text-of_kind : (session branch : List ℕ) (k : Kind DocReply) → kind_text k ≡ outcome_text session branch (outcome_of k)

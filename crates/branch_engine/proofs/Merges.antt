@@ -10,7 +10,10 @@ use Rattle.store_seen.specs.Views.{PairView, PreparedView, Work}
 use Rattle.store_seen.specs.Views as work
 use Rattle.branch_doc.specs.Document.{document}
 use Rattle.branch_doc.specs.Forms.{DocOp, DocReply, DocQuery, DocAnswer}
+use Rattle.branch_machine.specs.Machine.{full_turn}
+use Rattle.branch_engine.specs.Readings.{doc_fixed}
 use Rattle.branch_engine.specs.Engines.{Core, Seen}
+use Rattle.branch_engine.proofs.Machines.{full-answers}
 use Rattle.branch_engine.proofs.Played.{prefix-self}
 
 abbrev pub Pair : Type 0
@@ -42,10 +45,11 @@ module _ (core : Core) (seen : Seen) (from : List ℕ) (pair : Pair) (paired : I
   same_merge = ap (λ b. merge_of b pair.head pair.other) pair-branch ∙ ap (λ h. merge_of seen.branch h pair.other) pair-head
 
   -- the machine's turn that the pair was told, of the merge that a session asks for
-  pub pair-turn : (outcome : machine.Outcome DocAnswer DocReply) → MergesAs document pair outcome → turn document core.limits core.history (merge_of seen.branch seen.head pair.other) ≡ answers outcome
-  pair-turn outcome merges =
+  pub pair-turn : (address : List ℕ → List ℕ) (outcome : machine.Outcome DocAnswer DocReply) → MergesAs document pair outcome → full_turn (doc_fixed address core.limits) core.history (merge_of seen.branch seen.head pair.other) ≡ answers outcome
+  pair-turn address outcome merges =
       let told = merges core.history (subst (λ h. IsPrefix h core.history) (sym pair-history) (prefix-self core.history)) in
-      subst (λ s. turn document core.limits core.history s ≡ answers outcome) same_merge (subst (λ l. turn document l core.history (merge_of pair.branch pair.head pair.other) ≡ answers outcome) pair-limits told)
+      full-answers (doc_fixed address core.limits) core.history (merge_of seen.branch seen.head pair.other) outcome
+      (subst (λ s. turn document core.limits core.history s ≡ answers outcome) same_merge (subst (λ l. turn document l core.history (merge_of pair.branch pair.head pair.other) ≡ answers outcome) pair-limits told))
 
   -- what was prepared is that merge
   pub pair-work : (made : PreparedView DocOp DocReply) → made.seen ≡ seen_of pair → IsWorkOf document pair made.work → step_of {Q = DocQuery} made.seen made.work ≡ merge_of seen.branch seen.head pair.other

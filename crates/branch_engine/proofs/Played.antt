@@ -7,16 +7,22 @@ use Rattle.std.specs.Ordering.{nat_cmp, is_eq}
 use Rattle.std.specs.Cmp.Lexicographic.{slice_cmp}
 use Rattle.std.proofs.lemmas.Map.Text.{is_eq-slice_cmp}
 use mathlib.Core.List.{IsPrefix}
+use Rattle.branch_disk.specs.Disk.{Files}
 use Rattle.branch_names.specs.declared.limits.Limits.{Limits}
 use Rattle.branch_history.specs.History.{store_of}
 use Rattle.branch_history.specs.Steps as machine
-use Rattle.branch_history.specs.Machine.{turn, answers}
+use Rattle.branch_history.specs.Machine.{answers}
 use Rattle.branch_history.proofs.Heads.{same_branch}
-use Rattle.branch_engine.specs.Sessions.{Sight}
+use Rattle.branch_machine.specs.Machine.{full_turn}
+use Rattle.branch_files.specs.Laws.{ReadsWhatStands}
+use Rattle.branch_machine.specs.Validity.{IsFullyValid}
+use Rattle.store_core.specs.Images.{AllStand}
 use Rattle.branch_doc.specs.Document.{document}
 use Rattle.branch_doc.specs.Forms.{DocOp, DocReply, DocQuery, DocAnswer}
+use Rattle.branch_engine.specs.Sessions.{Sight}
 use Rattle.branch_engine.specs.Play.{History, Play}
-use Rattle.branch_engine.specs.Engines.{Core, Seen, EngineView, session_named, sight_of, AreLooksAt, Puts, KeepsLooks, Plays}
+use Rattle.branch_engine.specs.Readings.{doc_fixed, ReadAs}
+use Rattle.branch_engine.specs.Engines.{Store, Core, Seen, EngineView, session_named, sight_of, AreLooksAt, Puts, KeepsLooks, IsAt}
 
 pub prefix-self : {A : Type 0} (xs : List A) → IsPrefix xs xs
 prefix-self xs = ([], append-nil xs)
@@ -69,32 +75,58 @@ map_step : (t : Bool) (seen : Seen) (old : Option Seen) → option_map sight_of 
 map_step true seen old = refl
 map_step false seen old = refl
 
-module _ (limits : Limits) (core : Core) (sessions : List (List ℕ × Seen)) (p : Play) (at : Plays limits core sessions p) where
-  -- the machine's turn, over the play
-  pub turn-at : (step : machine.Step DocOp DocQuery) (t : machine.Turn DocOp DocReply DocAnswer) → turn document core.limits core.history step ≡ t → turn document limits p.moves step ≡ t
-  turn-at step t is = ap (λ m. turn document limits m step) (sym at.history) ∙ ap (λ l. turn document l core.history step) (sym at.limits_are) ∙ is
+module _ {D : Type 0} (may_leave : D → Files → Type 0) (address : List ℕ → List ℕ) where
+  -- each image reads as the store's history
+  abbrev pub IsWhole : Store D → Type 0
+  IsWhole store = (c : Files) → may_leave store.disk c → ReadAs (doc_fixed address store.limits) store.history c
 
-  -- after a move of the core
-  pub plays-more : (new : Core) (made : History) → new.limits ≡ core.limits → new.history ≡ core.history ++ made → Plays limits new sessions (record { moves = p.moves ++ made; sessions = p.sessions })
-  plays-more new made same grown = record { limits_are = same ∙ at.limits_are; history = grown ∙ ap (λ h. h ++ made) at.history; sights = at.sights }
+  pub whole-so : ReadsWhatStands document → (store : Store D) → IsFullyValid (doc_fixed address store.limits) store.history
+      → AllStand (doc_fixed address store.limits) store.history (may_leave store.disk) → IsWhole store
+  whole-so law store valid stand c image = law store.limits address store.history c valid (stand c image)
 
-  -- with no move
-  pub plays-still : Plays limits core sessions (record { moves = p.moves ++ []; sessions = p.sessions })
-  plays-still = record { limits_are = at.limits_are; history = at.history ∙ sym (append-nil p.moves); sights = at.sights }
+  module _ (limits : Limits) (old : EngineView D) (p : Play) (at : IsAt may_leave (doc_fixed address limits) old p) where
+    -- the machine's turn, over the play
+    pub turn-at : (step : machine.Step DocOp DocQuery) (t : machine.Turn DocOp DocReply DocAnswer) → full_turn (doc_fixed address old.core.limits) old.core.history step ≡ t → full_turn (doc_fixed address limits) p.moves step ≡ t
+    turn-at step t is =
+        ap (λ (m : History). full_turn (doc_fixed address limits) m step) (sym at.history)
+        ∙ ap (λ (l : Limits). full_turn (doc_fixed address l) old.core.history step) (sym at.limits_are) ∙ is
 
-  -- a session came to see a look
-  pub plays-put : (new : List (List ℕ × Seen)) (session : List ℕ) (seen : Seen) (sight : Sight) → Puts sessions new session seen → sight_of seen ≡ sight
-      → Plays limits core new (record { moves = p.moves; sessions = (record { name = session; sight = sight }) ∷ p.sessions })
-  plays-put new session seen sight puts same = record {
-    limits_are = at.limits_are;
-    history = at.history;
-    sights = λ name.
-        ap (option_map sight_of) (puts name) ∙ map_step (is_eq (slice_cmp nat_cmp session name)) seen (session_named sessions name)
-        ∙ ap (λ t. cond t (Some (sight_of seen)) (option_map sight_of (session_named sessions name))) (is_eq-slice_cmp session name)
-        ∙ ap (λ s. cond (bytes_eq session name) (Some s) (option_map sight_of (session_named sessions name))) same
-        ∙ ap (cond (bytes_eq session name) (Some sight)) (at.sights name);
-  }
+    -- after a move of the core
+    pub at-more : (new : EngineView D) (made : History) → new.core.limits ≡ old.core.limits → new.core.history ≡ old.core.history ++ made → KeepsLooks old.sessions new.sessions → IsWhole new.core
+        → IsAt may_leave (doc_fixed address limits) new (record { moves = p.moves ++ made; sessions = p.sessions })
+    at-more new made same grown kept whole =
+        let under : new.core.limits ≡ limits = same ∙ at.limits_are in
+        let now : new.core.history ≡ p.moves ++ made = grown ∙ ap (λ (h : History). h ++ made) at.history in
+        record {
+          limits_are = under;
+          history = now;
+          sights = λ name. ap (option_map sight_of) (kept name) ∙ at.sights name;
+          images = λ c image. subst (λ (h : History). ReadAs (doc_fixed address limits) h c) now (subst (λ (l : Limits). ReadAs (doc_fixed address l) new.core.history c) under (whole c image));
+        }
 
-  -- each session sees what it saw
-  pub plays-kept : (new : List (List ℕ × Seen)) → KeepsLooks sessions new → Plays limits core new p
-  plays-kept new kept = record { limits_are = at.limits_are; history = at.history; sights = λ name. ap (option_map sight_of) (kept name) ∙ at.sights name }
+    -- with no move
+    pub at-still : IsAt may_leave (doc_fixed address limits) old (record { moves = p.moves ++ []; sessions = p.sessions })
+    at-still = subst (λ (h : History). IsAt may_leave (doc_fixed address limits) old (record { moves = h; sessions = p.sessions })) (sym (append-nil p.moves)) at
+
+    -- a session came to see a look
+    pub at-put : (new : EngineView D) (session : List ℕ) (seen : Seen) (sight : Sight) → new.core ≡ old.core → Puts old.sessions new.sessions session seen → sight_of seen ≡ sight
+        → IsAt may_leave (doc_fixed address limits) new (record { moves = p.moves; sessions = (record { name = session; sight = sight }) ∷ p.sessions })
+    at-put new session seen sight core puts same = record {
+      limits_are = ap (λ (k : Store D). k.limits) core ∙ at.limits_are;
+      history = ap (λ (k : Store D). k.history) core ∙ at.history;
+      sights = λ name.
+          ap (option_map sight_of) (puts name) ∙ map_step (is_eq (slice_cmp nat_cmp session name)) seen (session_named old.sessions name)
+          ∙ ap (λ t. cond t (Some (sight_of seen)) (option_map sight_of (session_named old.sessions name))) (is_eq-slice_cmp session name)
+          ∙ ap (λ s. cond (bytes_eq session name) (Some s) (option_map sight_of (session_named old.sessions name))) same
+          ∙ ap (cond (bytes_eq session name) (Some sight)) (at.sights name);
+      images = λ c image. at.images c (subst (λ (k : Store D). may_leave k.disk c) core image);
+    }
+
+    -- each session sees what it saw
+    pub at-kept : (new : EngineView D) → new.core ≡ old.core → KeepsLooks old.sessions new.sessions → IsAt may_leave (doc_fixed address limits) new p
+    at-kept new core kept = record {
+      limits_are = ap (λ (k : Store D). k.limits) core ∙ at.limits_are;
+      history = ap (λ (k : Store D). k.history) core ∙ at.history;
+      sights = λ name. ap (option_map sight_of) (kept name) ∙ at.sights name;
+      images = λ c image. at.images c (subst (λ (k : Store D). may_leave k.disk c) core image);
+    }

@@ -1,61 +1,60 @@
 -- What a step is told, from the machine's turn.
 use Rattle.std.proofs.Common.{◌≡◌, ℕ, List, [], ap, ◌∙◌, None, Some}
-use Rattle.branch_names.specs.declared.limits.Limits.{Limits}
 use Rattle.branch_history.specs.Steps as machine
-use Rattle.branch_history.specs.Machine.{turn, answers}
+use Rattle.branch_history.specs.Machine.{answers}
+use Rattle.branch_machine.specs.Machine.{full_turn}
 use Rattle.branch_script.specs.declared.step.Step.TheVariants.{Look, Fork, Merge, Do, Ask}
 use Rattle.branch_print.specs.Texts.{outcome_text, unseen_text}
 use Rattle.branch_engine.specs.Sessions.{Sight, seen_by}
 use Rattle.branch_doc.specs.declared.plain.PlainOp.{PlainOp}
 use Rattle.branch_doc.specs.declared.plain.PlainQuery.{PlainQuery}
-use Rattle.branch_doc.specs.Document.{document}
 use Rattle.branch_doc.specs.Forms.{DocOp, DocReply, DocAnswer, doc_op, doc_query}
-use Rattle.branch_engine.specs.Play.{Play, told, turn_told, says, do_told, head_merged_told, merge_told, ask_told, step_told}
+use Rattle.branch_engine.specs.Play.{DocFixed, Play, told, turn_told, says, do_told, head_merged_told, merge_told, ask_told, step_told}
 
-module _ (limits : Limits) (p : Play) where
-  pub told-look : (session branch : List ℕ) (t : machine.Turn DocOp DocReply DocAnswer) → turn document limits p.moves (machine.Look branch) ≡ t → step_told limits p (Look session branch) ≡ told p session 0 branch t
+module _ (fixed : DocFixed) (p : Play) where
+  pub told-look : (session branch : List ℕ) (t : machine.Turn DocOp DocReply DocAnswer) → full_turn fixed p.moves (machine.Look branch) ≡ t → step_told fixed p (Look session branch) ≡ told p session 0 branch t
   unfolding step_told
   told-look session branch t is = ap (told p session 0 branch) is
 
-  pub told-fork : (new from : List ℕ) (t : machine.Turn DocOp DocReply DocAnswer) → turn document limits p.moves (machine.Fork new from) ≡ t → step_told limits p (Fork new from) ≡ told p [] 0 new t
+  pub told-fork : (new from : List ℕ) (t : machine.Turn DocOp DocReply DocAnswer) → full_turn fixed p.moves (machine.Fork new from) ≡ t → step_told fixed p (Fork new from) ≡ told p [] 0 new t
   unfolding step_told
   told-fork new from t is = ap (told p [] 0 new) is
 
-  pub told-unseen : (session : List ℕ) (op : PlainOp) → seen_by p.sessions session ≡ None → step_told limits p (Do session op) ≡ says p (unseen_text session)
+  pub told-unseen : (session : List ℕ) (op : PlainOp) → seen_by p.sessions session ≡ None → step_told fixed p (Do session op) ≡ says p (unseen_text session)
   unfolding step_told
-  told-unseen session op none = ap (do_told limits p session (doc_op op)) none
+  told-unseen session op none = ap (do_told fixed p session (doc_op op)) none
 
   pub told-do : (session : List ℕ) (op : PlainOp) (sight : Sight) → seen_by p.sessions session ≡ Some sight
-      → step_told limits p (Do session op) ≡ turn_told limits p session sight.branch (machine.Land sight.branch sight.head (doc_op op))
+      → step_told fixed p (Do session op) ≡ turn_told fixed p session sight.branch (machine.Land sight.branch sight.head (doc_op op))
   unfolding step_told
-  told-do session op sight some = ap (do_told limits p session (doc_op op)) some
+  told-do session op sight some = ap (do_told fixed p session (doc_op op)) some
 
-  pub told-unmerged : (session from : List ℕ) → seen_by p.sessions session ≡ None → step_told limits p (Merge session from) ≡ says p (unseen_text session)
+  pub told-unmerged : (session from : List ℕ) → seen_by p.sessions session ≡ None → step_told fixed p (Merge session from) ≡ says p (unseen_text session)
   unfolding step_told
-  told-unmerged session from none = ap (merge_told limits p session from) none
+  told-unmerged session from none = ap (merge_told fixed p session from) none
 
   pub told-merge_unknown : (session from : List ℕ) (sight : Sight) (refusal : machine.Refusal) → seen_by p.sessions session ≡ Some sight
-      → turn document limits p.moves (machine.Look from) ≡ answers (machine.Refused refusal)
-      → step_told limits p (Merge session from) ≡ says p (outcome_text session from (machine.Refused refusal))
+      → full_turn fixed p.moves (machine.Look from) ≡ answers (machine.Refused refusal)
+      → step_told fixed p (Merge session from) ≡ says p (outcome_text session from (machine.Refused refusal))
   unfolding step_told
   told-merge_unknown session from sight refusal some looks =
-      ap (merge_told limits p session from) some ∙ ap (λ t. head_merged_told limits p session from sight t.outcome) looks
+      ap (merge_told fixed p session from) some ∙ ap (λ t. head_merged_told fixed p session from sight t.outcome) looks
 
   pub told-merge : (session from : List ℕ) (sight : Sight) (number head : ℕ) → seen_by p.sessions session ≡ Some sight
-      → turn document limits p.moves (machine.Look from) ≡ answers (machine.Sees number head)
-      → step_told limits p (Merge session from) ≡ turn_told limits p session sight.branch (machine.Merge sight.branch sight.head head)
+      → full_turn fixed p.moves (machine.Look from) ≡ answers (machine.Sees number head)
+      → step_told fixed p (Merge session from) ≡ turn_told fixed p session sight.branch (machine.Merge sight.branch sight.head head)
   unfolding step_told
   told-merge session from sight number head some looks =
-      ap (merge_told limits p session from) some ∙ ap (λ t. head_merged_told limits p session from sight t.outcome) looks
+      ap (merge_told fixed p session from) some ∙ ap (λ t. head_merged_told fixed p session from sight t.outcome) looks
 
-  pub told-ask : (branch : List ℕ) (query : PlainQuery) (number head : ℕ) (answer : DocAnswer) → turn document limits p.moves (machine.Look branch) ≡ answers (machine.Sees number head)
-      → turn document limits p.moves (machine.Ask head (doc_query query)) ≡ answers (machine.Answered answer)
-      → step_told limits p (Ask branch query) ≡ says p (outcome_text [] branch (machine.Answered answer))
+  pub told-ask : (branch : List ℕ) (query : PlainQuery) (number head : ℕ) (answer : DocAnswer) → full_turn fixed p.moves (machine.Look branch) ≡ answers (machine.Sees number head)
+      → full_turn fixed p.moves (machine.Ask head (doc_query query)) ≡ answers (machine.Answered answer)
+      → step_told fixed p (Ask branch query) ≡ says p (outcome_text [] branch (machine.Answered answer))
   unfolding step_told
   told-ask branch query number head answer looks is =
-      ap (λ t. ask_told limits p branch (doc_query query) t.outcome) looks ∙ ap (λ t. says p (outcome_text [] branch t.outcome)) is
+      ap (λ t. ask_told fixed p branch (doc_query query) t.outcome) looks ∙ ap (λ t. says p (outcome_text [] branch t.outcome)) is
 
-  pub told-ask_refused : (branch : List ℕ) (query : PlainQuery) (refusal : machine.Refusal) → turn document limits p.moves (machine.Look branch) ≡ answers (machine.Refused refusal)
-      → step_told limits p (Ask branch query) ≡ says p (outcome_text [] branch (machine.Refused refusal))
+  pub told-ask_refused : (branch : List ℕ) (query : PlainQuery) (refusal : machine.Refusal) → full_turn fixed p.moves (machine.Look branch) ≡ answers (machine.Refused refusal)
+      → step_told fixed p (Ask branch query) ≡ says p (outcome_text [] branch (machine.Refused refusal))
   unfolding step_told
-  told-ask_refused branch query refusal looks = ap (λ t. ask_told limits p branch (doc_query query) t.outcome) looks
+  told-ask_refused branch query refusal looks = ap (λ t. ask_told fixed p branch (doc_query query) t.outcome) looks

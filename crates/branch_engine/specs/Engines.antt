@@ -1,5 +1,5 @@
 -- The play of the machine that an engine stands for.
-use Rattle.std.specs.Prelude.{◌≡◌, ◌⊎◌, ℕ, List, ◌++◌, Some, Result, OnOk, OnErr, if◌then◌else◌}
+use Rattle.std.specs.Prelude.{◌≡◌, ◌⊎◌, ℕ, true, false, List, [], ◌∷◌, ◌++◌, Some, Result, OnOk, IfErr, if◌then◌else◌}
 use Rattle.std.specs.declared.option.Option.{Option}
 use Rattle.std.specs.Option.{option_map}
 use Rattle.std.specs.Map.{lookup}
@@ -7,7 +7,8 @@ use Rattle.std.specs.Ordering.{nat_cmp, is_eq}
 use Rattle.std.specs.Cmp.Lexicographic.{slice_cmp}
 use mathlib.Core.List.{IsPrefix}
 use Rattle.mrdt_model.specs.Spelled.{AppendsPart}
-use Rattle.mrdt_model.specs.declared.errors.Memory.{Memory}
+use Rattle.branch_io.specs.Causes.{HasCauseOf}
+use Rattle.branch_disk.specs.Disk.{Files, LeavesOnly}
 use Rattle.branch_names.specs.declared.limits.Limits.{Limits}
 use Rattle.branch_names.specs.Heads.{head_of}
 use Rattle.branch_history.specs.History.{store_of}
@@ -15,21 +16,28 @@ use Rattle.branch_history.specs.declared.moves.Move.{Move}
 use Rattle.store_seen.specs.Views.{CoreView, SeenView}
 use Rattle.store_seen.specs.declared.answers.Kind.{Kind}
 use Rattle.store_seen.specs.declared.answers.Kind.TheVariants as kind
+use Rattle.store_core.specs.Views.{StoreView, held}
 use Rattle.branch_print.specs.Texts.{landed_text, merged_text, forward_text}
-use Rattle.branch_engine.specs.Sessions.{Sight, seen_by}
 use Rattle.branch_doc.specs.Forms.{DocOp, DocReply, plain_reply}
-use Rattle.branch_engine.specs.Play.{Play, Told}
+use Rattle.branch_engine.specs.Sessions.{Sight, seen_by}
+use Rattle.branch_engine.specs.Play.{DocFixed, History, Play, Told}
+use Rattle.branch_engine.specs.Readings.{doc_fixed, ReadAs, ReadAsEither}
+use Rattle.branch_engine.specs.declared.refused.TellRefused.{TellRefused}
+use Rattle.branch_engine.specs.declared.refused.TellRefused.TheVariants.{DiskFault, Memory}
 
--- what a core and a look of the engine are
+-- what the store of an engine over a disk of this type, what it holds in memory, and a look at it are
+abbrev pub Store : Type 0 → Type 0
+Store D = StoreView (Move DocOp DocReply) D
+
 abbrev pub Core : Type 0
 Core = CoreView (Move DocOp DocReply)
 
 abbrev pub Seen : Type 0
 Seen = SeenView (Move DocOp DocReply)
 
--- an engine: its core, and the look of each session by name
-pub record EngineView : Type 0 where
-  pub core : Core
+-- an engine: its store, and the look of each session by name
+pub record EngineView (D : Type 0) : Type 0 where
+  pub core : Store D
   pub sessions : List (List ℕ × Seen)
 
 -- what the table of sessions has for a name
@@ -59,37 +67,62 @@ pub record IsLookAt (core : Core) (branch : ℕ) (seen : Seen) : Type 0 where
   pub head_is : seen.head ≡ head_of (store_of core.history).branches branch
 
 -- a session came to see the head of this branch
-abbrev pub SeesHead : EngineView → EngineView → List ℕ → ℕ → Type 0
-SeesHead old new session branch = (seen : Seen) × Puts old.sessions new.sessions session seen × IsLookAt old.core branch seen
+abbrev pub SeesHead : {D : Type 0} → EngineView D → EngineView D → List ℕ → ℕ → Type 0
+SeesHead old new session branch = (seen : Seen) × Puts old.sessions new.sessions session seen × IsLookAt (held old.core) branch seen
 
--- the core has the play's history, and each session's look gives what the session sees
-pub record Plays (limits : Limits) (core : Core) (sessions : List (List ℕ × Seen)) (p : Play) : Type 0 where
-  pub limits_are : core.limits ≡ limits
-  pub history : core.history ≡ p.moves
-  pub sights : (name : List ℕ) → option_map sight_of (session_named sessions name) ≡ seen_by p.sessions name
+-- The engine stands for a play: its store has the play's history, under the limits that are fixed, and each session's look gives what the
+-- session sees. What a crash now leaves reads as that history.
+pub record IsAt {D : Type 0} (may_leave : D → Files → Type 0) (fixed : DocFixed) (engine : EngineView D) (p : Play) : Type 0 where
+  pub limits_are : engine.core.limits ≡ fixed.limits
+  pub history : engine.core.history ≡ p.moves
+  pub sights : (name : List ℕ) → option_map sight_of (session_named engine.sessions name) ≡ seen_by p.sessions name
+  pub images : (c : Files) → may_leave engine.core.disk c → ReadAs fixed p.moves c
 
--- the engine stands for a play, under these limits
-abbrev pub IsAt : Limits → EngineView → Play → Type 0
-IsAt limits engine p = Plays limits engine.core engine.sessions p
+-- a play in which the history goes on by one move
+abbrev pub Moves : Play → Play → Type 0
+Moves before after = (made : Move DocOp DocReply) × (after.moves ≡ before.moves ++ made ∷ [])
 
--- where the engine stood for a play, it stands for what a line or step told leaves of it, and the text was added
-abbrev pub Replies : (Limits → Play → Told) → EngineView → EngineView → List ℕ → List ℕ → Type 0
-Replies told old new old_out new_out =
-    (limits : Limits) (p : Play) → IsAt limits old p → IsAt limits new (told limits p).after × (new_out ≡ old_out ++ (told limits p).text)
+-- what is told of a line or a step over a play
+abbrev pub Telling : Type 1
+Telling = DocFixed → Play → Told
+
+-- where the engine stood for a play, it stands for what the line or step leaves of it, and the text was added
+abbrev pub Replies : {D : Type 0} → (D → Files → Type 0) → (List ℕ → List ℕ) → Telling → EngineView D → EngineView D → List ℕ → List ℕ → Type 0
+Replies may_leave address told old new old_out new_out =
+    (limits : Limits) (p : Play) → let fixed = doc_fixed address limits in
+    IsAt may_leave fixed old p → IsAt may_leave fixed new (told fixed p).after × (new_out ≡ old_out ++ (told fixed p).text)
 
 -- of what was told in part: the history is the old one or the one after it, and each session sees what it saw
-abbrev pub StandsEitherWay : Limits → EngineView → Play → Told → Type 0
-StandsEitherWay limits engine p told = IsAt limits engine p ⊎ IsAt limits engine (record { moves = told.after.moves; sessions = p.sessions })
+abbrev pub StandsEitherWay : {D : Type 0} → (D → Files → Type 0) → DocFixed → EngineView D → Play → Told → Type 0
+StandsEitherWay may_leave fixed engine p told = IsAt may_leave fixed engine p ⊎ IsAt may_leave fixed engine (record { moves = told.after.moves; sessions = p.sessions })
 
--- where the engine stood for a play, telling a line or step was broken off, and a first part of the text was added
-abbrev pub BreaksOff : (Limits → Play → Told) → EngineView → EngineView → List ℕ → List ℕ → Type 0
-BreaksOff told old new old_out new_out =
-    (limits : Limits) (p : Play) → IsAt limits old p → StandsEitherWay limits new p (told limits p) × AppendsPart old_out new_out (told limits p).text
+-- Why telling was broken off. Where the disk failed, nothing was added, the history is the old one, and the line or step makes a move; for want
+-- of memory a first part of the text was added.
+abbrev pub BreaksOff : {D : Type 0} → (D → Files → Type 0) → (List ℕ → List ℕ) → Telling → EngineView D → EngineView D → List ℕ → List ℕ → TellRefused → Type 0
+BreaksOff may_leave address told old new old_out new_out DiskFault =
+    (new_out ≡ old_out)
+    × (new.core ≡ record old.core { failed = true; disk = new.core.disk })
+    × KeepsLooks old.sessions new.sessions
+    × ((limits : Limits) (p : Play) → IsAt may_leave (doc_fixed address limits) old p → Moves p (told (doc_fixed address limits) p).after)
+BreaksOff may_leave address told old new old_out new_out Memory =
+    (new.core.failed ≡ false)
+    × ((limits : Limits) (p : Play) → let fixed = doc_fixed address limits in
+    IsAt may_leave fixed old p → StandsEitherWay may_leave fixed new p (told fixed p) × AppendsPart old_out new_out (told fixed p).text)
 
--- what a call does that tells a line or a step: it does what was told and replies or, for want of memory, breaks off
-pub record Does (told : Limits → Play → Told) (old new : EngineView) (old_out new_out : List ℕ) (result : Result (Unit {0}) Memory) : Type 0 where
-  pub ok : OnOk result (Replies told old new old_out new_out)
-  pub err : OnErr result (BreaksOff told old new old_out new_out)
+-- At each moment of telling a line or a step, what a crash leaves reads as the history before or as the one after.
+abbrev pub LeavesEither : {D : Type 0} → (D → Files → Type 0) → (D → ℕ) → (D → ℕ → Files → Type 0) → (List ℕ → List ℕ) → Telling → EngineView D → EngineView D → Type 0
+LeavesEither may_leave moment left_since address told old new =
+    (limits : Limits) (p : Play) → let fixed = doc_fixed address limits in
+    IsAt may_leave fixed old p → LeavesOnly moment left_since old.core.disk new.core.disk (ReadAsEither fixed p.moves (told fixed p).after.moves)
+
+-- what a call does that tells a line or a step: it does what was told and replies, or breaks off
+pub record Does {D : Type 0} (may_leave : D → Files → Type 0) (moment : D → ℕ) (left_since : D → ℕ → Files → Type 0) (faults : D → ℕ) (address : List ℕ → List ℕ)
+    (told : Telling) (old new : EngineView D) (old_out new_out : List ℕ) (result : Result (Unit {0}) TellRefused) : Type 0 where
+  pub ok : OnOk result (Replies may_leave address told old new old_out new_out)
+  pub working : OnOk result (new.core.failed ≡ false)
+  pub err : IfErr result (BreaksOff may_leave address told old new old_out new_out)
+  pub moments : LeavesEither may_leave moment left_since address told old new
+  pub cause : HasCauseOf DiskFault (faults old.core.disk) (faults new.core.disk) result
 
 -- the text of what landed
 abbrev pub kind_text : Kind DocReply → List ℕ

@@ -1,3 +1,4 @@
 pub mod Sessions
 pub mod Play
+pub mod Readings
 pub mod Engines

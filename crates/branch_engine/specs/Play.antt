@@ -1,20 +1,24 @@
--- The machine runs the lines of a script, with what each named session sees.
+-- The machine that keeps objects runs the lines of a script, with what each named session sees.
 use Rattle.std.specs.Prelude.{ℕ, List, [], ◌∷◌, ◌++◌, Result, Ok, Err, Some, None}
 use Rattle.std.specs.declared.option.Option.{Option}
-use Rattle.branch_doc.specs.Document.{document}
+use Rattle.branch_doc.specs.Document.{DocState}
 use Rattle.branch_doc.specs.Forms.{DocOp, DocReply, DocQuery, DocAnswer, doc_op, doc_query}
-use Rattle.branch_names.specs.declared.limits.Limits.{Limits}
 use Rattle.branch_history.specs.declared.moves.Move.{Move}
 use Rattle.branch_names.specs.Heads.{name_of}
 use Rattle.branch_history.specs.History.{store_of}
 use Rattle.branch_history.specs.Steps as machine
-use Rattle.branch_history.specs.Machine.{turn}
+use Rattle.branch_machine.specs.Fixed.{Fixed}
+use Rattle.branch_machine.specs.Machine.{full_turn}
 use Rattle.branch_script.specs.declared.step.Step.{Step}
 use Rattle.branch_script.specs.declared.step.Step.TheVariants.{Look, Fork, Merge, Do, Ask}
 use Rattle.branch_script.specs.declared.step.LineRefused.{LineRefused}
 use Rattle.branch_script.specs.Script.{step_of}
 use Rattle.branch_print.specs.Texts.{outcome_text, line_refusal_text, unseen_text, line_end}
 use Rattle.branch_engine.specs.Sessions.{Sight, Session, seen_by}
+
+-- what is fixed for a store of documents
+abbrev pub DocFixed : Type 1
+DocFixed = Fixed DocState DocOp DocReply DocQuery DocAnswer
 
 abbrev pub History : Type 0
 History = List (Move DocOp DocReply)
@@ -54,61 +58,61 @@ told p session number branch t = record {
 }
 
 -- a step of the machine for a session, on the branch of this number
-abbrev pub turn_told : Limits → Play → List ℕ → ℕ → machine.Step DocOp DocQuery → Told
-turn_told limits p session number step = told p session number (name_of (store_of p.moves).branches number) (turn document limits p.moves step)
+abbrev pub turn_told : DocFixed → Play → List ℕ → ℕ → machine.Step DocOp DocQuery → Told
+turn_told fixed p session number step = told p session number (name_of (store_of p.moves).branches number) (full_turn fixed p.moves step)
 
 -- an operation of a session, given what it sees
-abbrev pub do_told : Limits → Play → List ℕ → DocOp → Option Sight → Told
-do_told limits p session op None = says p (unseen_text session)
-do_told limits p session op (Some sight) = turn_told limits p session sight.branch (machine.Land sight.branch sight.head op)
+abbrev pub do_told : DocFixed → Play → List ℕ → DocOp → Option Sight → Told
+do_told fixed p session op None = says p (unseen_text session)
+do_told fixed p session op (Some sight) = turn_told fixed p session sight.branch (machine.Land sight.branch sight.head op)
 
 -- a merge of the branch of this name into the one that a session sees, given the outcome of a look at the former: its head is merged
-abbrev pub head_merged_told : Limits → Play → List ℕ → List ℕ → Sight → machine.Outcome DocAnswer DocReply → Told
-head_merged_told limits p session from sight (machine.Sees number head) = turn_told limits p session sight.branch (machine.Merge sight.branch sight.head head)
-head_merged_told limits p session from sight outcome = says p (outcome_text session from outcome)
+abbrev pub head_merged_told : DocFixed → Play → List ℕ → List ℕ → Sight → machine.Outcome DocAnswer DocReply → Told
+head_merged_told fixed p session from sight (machine.Sees number head) = turn_told fixed p session sight.branch (machine.Merge sight.branch sight.head head)
+head_merged_told fixed p session from sight outcome = says p (outcome_text session from outcome)
 
 -- and given what the session sees, if anything
-abbrev pub merge_told : Limits → Play → List ℕ → List ℕ → Option Sight → Told
-merge_told limits p session from None = says p (unseen_text session)
-merge_told limits p session from (Some sight) = head_merged_told limits p session from sight (turn document limits p.moves (machine.Look from)).outcome
+abbrev pub merge_told : DocFixed → Play → List ℕ → List ℕ → Option Sight → Told
+merge_told fixed p session from None = says p (unseen_text session)
+merge_told fixed p session from (Some sight) = head_merged_told fixed p session from sight (full_turn fixed p.moves (machine.Look from)).outcome
 
 -- a query at a branch, given the outcome of a look at it: it is asked at the head
-abbrev pub ask_told : Limits → Play → List ℕ → DocQuery → machine.Outcome DocAnswer DocReply → Told
-ask_told limits p branch query (machine.Sees number head) = says p (outcome_text [] branch (turn document limits p.moves (machine.Ask head query)).outcome)
-ask_told limits p branch query outcome = says p (outcome_text [] branch outcome)
+abbrev pub ask_told : DocFixed → Play → List ℕ → DocQuery → machine.Outcome DocAnswer DocReply → Told
+ask_told fixed p branch query (machine.Sees number head) = says p (outcome_text [] branch (full_turn fixed p.moves (machine.Ask head query)).outcome)
+ask_told fixed p branch query outcome = says p (outcome_text [] branch outcome)
 
-unfoldable pub step_told : Limits → Play → Step → Told
-step_told limits p (Look session branch) = told p session 0 branch (turn document limits p.moves (machine.Look branch))
-step_told limits p (Fork new from) = told p [] 0 new (turn document limits p.moves (machine.Fork new from))
-step_told limits p (Merge session from) = merge_told limits p session from (seen_by p.sessions session)
-step_told limits p (Do session op) = do_told limits p session (doc_op op) (seen_by p.sessions session)
-step_told limits p (Ask branch query) = ask_told limits p branch (doc_query query) (turn document limits p.moves (machine.Look branch)).outcome
+unfoldable pub step_told : DocFixed → Play → Step → Told
+step_told fixed p (Look session branch) = told p session 0 branch (full_turn fixed p.moves (machine.Look branch))
+step_told fixed p (Fork new from) = told p [] 0 new (full_turn fixed p.moves (machine.Fork new from))
+step_told fixed p (Merge session from) = merge_told fixed p session from (seen_by p.sessions session)
+step_told fixed p (Do session op) = do_told fixed p session (doc_op op) (seen_by p.sessions session)
+step_told fixed p (Ask branch query) = ask_told fixed p branch (doc_query query) (full_turn fixed p.moves (machine.Look branch)).outcome
 
 -- an empty line or a comment is not answered; another line is, also where it is no step
-abbrev pub read_told : Limits → Play → Result (Option Step) LineRefused → Told
-read_told limits p (Ok None) = record { text = []; after = p }
-read_told limits p (Ok (Some step)) = step_told limits p step
-read_told limits p (Err refusal) = says p (line_refusal_text refusal)
+abbrev pub read_told : DocFixed → Play → Result (Option Step) LineRefused → Told
+read_told fixed p (Ok None) = record { text = []; after = p }
+read_told fixed p (Ok (Some step)) = step_told fixed p step
+read_told fixed p (Err refusal) = says p (line_refusal_text refusal)
 
-abbrev pub line_told : Limits → Play → List ℕ → Told
-line_told limits p line = read_told limits p (step_of line)
+abbrev pub line_told : DocFixed → Play → List ℕ → Told
+line_told fixed p line = read_told fixed p (step_of line)
 
 -- the text of lines, from a play on, and the play after them
-abbrev pub text_from : Limits → Play → List (List ℕ) → List ℕ
-text_from limits p [] = []
-text_from limits p (line ∷ lines) = (line_told limits p line).text ++ text_from limits (line_told limits p line).after lines
+abbrev pub text_from : DocFixed → Play → List (List ℕ) → List ℕ
+text_from fixed p [] = []
+text_from fixed p (line ∷ lines) = (line_told fixed p line).text ++ text_from fixed (line_told fixed p line).after lines
 
-abbrev pub after_from : Limits → Play → List (List ℕ) → Play
-after_from limits p [] = p
-after_from limits p (line ∷ lines) = after_from limits (line_told limits p line).after lines
+abbrev pub after_from : DocFixed → Play → List (List ℕ) → Play
+after_from fixed p [] = p
+after_from fixed p (line ∷ lines) = after_from fixed (line_told fixed p line).after lines
 
 -- a play over a history, in which no session has looked
 abbrev pub begins : History → Play
 begins moves = record { moves = moves; sessions = [] }
 
 -- the text of lines over a history, and the history after them
-unfoldable pub text_of : Limits → History → List (List ℕ) → List ℕ
-text_of limits moves lines = text_from limits (begins moves) lines
+unfoldable pub text_of : DocFixed → History → List (List ℕ) → List ℕ
+text_of fixed moves lines = text_from fixed (begins moves) lines
 
-unfoldable pub after_lines : Limits → History → List (List ℕ) → History
-after_lines limits moves lines = (after_from limits (begins moves) lines).moves
+unfoldable pub after_lines : DocFixed → History → List (List ℕ) → History
+after_lines fixed moves lines = (after_from fixed (begins moves) lines).moves

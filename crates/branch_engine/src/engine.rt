@@ -1,21 +1,27 @@
-// The engine of a script: a core, and what each session sees.
-ghost use Rattle.std.specs.Prelude.{◌≡◌, ◌<◌, ◌++◌, [], length, ℕ, List, OnOk, OnErr, IfOk};
+// The engine of a script: a core on a disk, and what each session sees.
+ghost use Rattle.std.specs.Prelude.{◌≡◌, ◌<◌, ◌++◌, [], length, Ok, Err, OnOk, OnErr, false};
 ghost use mathlib.Core.List.{IsPrefix};
 ghost use Rattle.branch_names.specs.Heads.{name_of};
 ghost use Rattle.branch_history.specs.History.{store_of};
 ghost use Rattle.branch_history.specs.Steps.{Stale};
 ghost use Rattle.store_seen.specs.Turns.{step_of};
+ghost use Rattle.store_core.specs.Views.{held};
 ghost use Rattle.branch_print.specs.Texts.{refusal_text, line_end};
 ghost use Rattle.mrdt_model.specs.Spelled.{AppendsPart};
+ghost use Rattle.branch_engine.specs.Readings.{doc_fixed};
 ghost use Rattle.branch_engine.specs.Engines.{IsAt, Does, Puts, KeepsLooks, SeesHead, kind_text};
 ghost use Rattle.branch_engine.specs.Play.{begins, turn_told, step_told, line_told};
 ghost use Rattle.branch_script.specs.declared.step.Step.TheVariants as step;
 
+use crate::refused::TellRefused;
+use branch_address::Address;
+use branch_disk::Disk;
 use branch_doc::{DocReply, PlainOp, PlainQuery};
-use branch_names::{Limits, Name};
+use branch_files::laws::reads_what_stands;
+use branch_names::Name;
 use branch_print::refusals::{
-    put_exhausted, put_full_branches, put_full_commits, put_full_moves, put_line_refusal,
-    put_stale, put_taken, put_too_large, put_unknown, put_unseen,
+    put_collision, put_exhausted, put_full_branches, put_full_commits, put_full_moves,
+    put_line_refusal, put_stale, put_taken, put_too_large, put_unknown, put_unseen,
 };
 use branch_print::replies::{
     put_answer, put_forked, put_forward, put_landed, put_merged, put_same, put_sees,
@@ -26,31 +32,29 @@ use mrdt_model::Memory;
 use std::alloc::Global;
 use std::collections::BTreeMap;
 use std::marker::Model;
-use store_seen::{
-    ForkRefused, Kind, LandRefused, LookRefused, PairPrepareRefused, PairRefused, PairStep,
-    PrepareRefused, Prepared, Seen, Versions,
+use store_core::{
+    Core, ForkRefused, Kind, LandRefused, LookRefused, PairPrepareRefused, PairRefused, PairStep,
+    PrepareRefused, Prepared, Seen,
 };
 
-// The commits of a store in memory alone have no stored objects.
-const NO_ADDRESS: [u8; 32] = [0; 32];
-
-/// A core, and what each session sees. Contracts see an `EngineView`: the core's view, and that of each
-/// session's look.
+/// A core of documents on a disk, and what each session sees. Contracts see an `EngineView`: the core's view, and
+/// that of each session's look.
 #[derive(Drop)]
-pub struct Engine {
+pub struct Engine<D: Disk + Drop, A: Address> {
     alloc: Global,
-    versions: Versions<Doc>,
+    core: Core<Doc, D, A>,
     sessions: BTreeMap<Name, Seen<Doc>>,
 }
 
-impl Model for Engine {
+impl<D: Disk + Drop, A: Address> Model for Engine<D, A> {
+    ghost use Rattle.store_core.specs.Views.{held};
     ghost use Rattle.branch_engine.specs.Engines.{EngineView, AreLooksAt};
 
-    ghost Value = { EngineView };
+    ghost Value = { EngineView D };
 
-    ghost view = { λ e. record { core = e.versions.core; sessions = e.sessions.entries } };
+    ghost view = { λ e. record { core = e.core; sessions = e.sessions.entries } };
 
-    ghost invariant = { λ e. AreLooksAt e.versions.core e.sessions.entries };
+    ghost invariant = { λ e. AreLooksAt (held e.core) e.sessions.entries };
 }
 
 // A session sees this from now on.
@@ -84,16 +88,27 @@ fn put_kind(out: &mut Vec<u8>, kind: Kind<DocReply>) -> Result<(), Memory>
     }
 }
 
-impl Engine {
-    /// An engine over the empty history, of which no session has looked.
-    pub fn new(alloc: Global, limits: Limits) -> Result<Engine, Memory>
-        ensures { IfOk result (λ engine. IsAt limits engine (begins [])) }
+// The answer of a call that wrote a reply, or was short of memory.
+fn replied(written: Result<(), Memory>) -> Result<(), TellRefused>
+    ensures ok { OnOk written (result ≡ Ok tt) }
+    ensures err { OnErr written (result ≡ Err TellRefused.Memory) }
+{
+    Ok(written?)
+}
+
+impl<D: Disk + Drop, A: Address> Engine<D, A> {
+    /// An engine over a core, of which no session has looked.
+    pub fn new(alloc: Global, core: Core<Doc, D, A>) -> Engine<D, A>
+        ensures core { result.core ≡ core }
+        ensures begins { core.failed ≡ false → IsAt D.may_leave (doc_fixed A.address core.limits) result (begins core.history) }
     {
-        Ok(Engine {
+        reads_what_stands::<Doc>();
+        let _ = core.moves();
+        Engine {
             alloc,
-            versions: Versions::fresh(alloc, limits, NO_ADDRESS)?,
+            core,
             sessions: BTreeMap::new(alloc),
-        })
+        }
     }
 
     // The session sees this from now on.
@@ -114,8 +129,8 @@ impl Engine {
         ensures sees { OnOk result (SeesHead self.old self.new session.now branch) }
         ensures kept { OnErr result (KeepsLooks self.old.sessions self.new.sessions) }
     {
-        let (name, _) = self.versions.branch(branch).unwrap();
-        match self.versions.look(&name) {
+        let (name, _) = self.core.branch(branch).unwrap();
+        match self.core.look(&name) {
             Ok(seen) => self.sees(session, seen),
             Err(LookRefused::UnknownBranch { .. }) => unreachable!(),
             Err(LookRefused::Memory) => Err(Memory),
@@ -123,85 +138,99 @@ impl Engine {
     }
 
     // A session looks at a branch.
-    fn look(&mut self, out: &mut Vec<u8>, session: &Name, branch: &Name) -> Result<(), Memory>
-        ensures { Does (λ limits p. step_told limits p (step.Look session.now branch.now)) self.old self.new out.old.items out.new.items result }
+    fn look(&mut self, out: &mut Vec<u8>, session: &Name, branch: &Name) -> Result<(), TellRefused>
+        requires { self.old.core.failed ≡ false }
+        ensures { Does D.may_leave D.moment D.left_since D.faults A.address (λ fixed p. step_told fixed p (step.Look session.now branch.now)) self.old self.new out.old.items out.new.items result }
     {
-        match self.versions.look(branch) {
+        match self.core.look(branch) {
             Ok(seen) => {
                 put_sees(out, session, branch, seen.head())?;
-                self.sees(session, seen)
+                replied(self.sees(session, seen))
             }
-            Err(LookRefused::UnknownBranch { .. }) => put_unknown(out, branch),
-            Err(LookRefused::Memory) => Err(Memory),
+            Err(LookRefused::UnknownBranch { .. }) => replied(put_unknown(out, branch)),
+            Err(LookRefused::Memory) => Err(TellRefused::Memory),
         }
     }
 
     // A branch is forked from another.
-    fn fork(&mut self, out: &mut Vec<u8>, new: &Name, from: &Name) -> Result<(), Memory>
-        ensures { Does (λ limits p. step_told limits p (step.Fork new.now from.now)) self.old self.new out.old.items out.new.items result }
+    fn fork(&mut self, out: &mut Vec<u8>, new: &Name, from: &Name) -> Result<(), TellRefused>
+        requires { self.old.core.failed ≡ false }
+        ensures { Does D.may_leave D.moment D.left_since D.faults A.address (λ fixed p. step_told fixed p (step.Fork new.now from.now)) self.old self.new out.old.items out.new.items result }
     {
-        let forked = match self.versions.fork(*new, from) {
+        reads_what_stands::<Doc>();
+        let _ = self.core.moves();
+        let forked = match self.core.fork(*new, from) {
             Ok(forked) => forked,
-            Err(ForkRefused::UnknownBranch { .. }) => return put_unknown(out, from),
-            Err(ForkRefused::NameTaken { number }) => return put_taken(out, number),
-            Err(ForkRefused::FullBranches { count }) => return put_full_branches(out, count),
-            Err(ForkRefused::FullMoves { count }) => return put_full_moves(out, count),
-            Err(ForkRefused::Memory) => return Err(Memory),
+            Err(ForkRefused::UnknownBranch { .. }) => return replied(put_unknown(out, from)),
+            Err(ForkRefused::NameTaken { number }) => return replied(put_taken(out, number)),
+            Err(ForkRefused::FullBranches { count }) => return replied(put_full_branches(
+                out, count,
+            )),
+            Err(ForkRefused::FullMoves { count }) => return replied(put_full_moves(out, count)),
+            Err(ForkRefused::DiskFault) => return Err(TellRefused::DiskFault),
+            Err(ForkRefused::Failed { .. }) => unreachable!(),
+            Err(ForkRefused::Memory) => return Err(TellRefused::Memory),
         };
-        put_forked(out, new, forked.number, forked.head)
+        let _ = self.core.moves();
+        replied(put_forked(out, new, forked.number, forked.head))
     }
 
     // A query is asked at the head of a branch.
-    fn ask(&self, out: &mut Vec<u8>, branch: &Name, query: PlainQuery) -> Result<(), Memory>
-        ensures { Does (λ limits p. step_told limits p (step.Ask branch.now query)) self.now self.now out.old.items out.new.items result }
+    fn ask(&self, out: &mut Vec<u8>, branch: &Name, query: PlainQuery) -> Result<(), TellRefused>
+        requires { self.now.core.failed ≡ false }
+        ensures { Does D.may_leave D.moment D.left_since D.faults A.address (λ fixed p. step_told fixed p (step.Ask branch.now query)) self.now self.now out.old.items out.new.items result }
     {
-        let seen = match self.versions.look(branch) {
+        let seen = match self.core.look(branch) {
             Ok(seen) => seen,
-            Err(LookRefused::UnknownBranch { .. }) => return put_unknown(out, branch),
-            Err(LookRefused::Memory) => return Err(Memory),
+            Err(LookRefused::UnknownBranch { .. }) => return replied(put_unknown(out, branch)),
+            Err(LookRefused::Memory) => return Err(TellRefused::Memory),
         };
         let answer = seen.ask(&branch_doc::query(query))?;
-        put_answer(out, &branch_doc::answer(answer))
+        replied(put_answer(out, &branch_doc::answer(answer)))
     }
 
     // A session lands an operation on the branch that it sees.
-    fn land(&mut self, out: &mut Vec<u8>, session: &Name, op: PlainOp) -> Result<(), Memory>
-        ensures { Does (λ limits p. step_told limits p (step.Do session.now op)) self.old self.new out.old.items out.new.items result }
+    fn land(&mut self, out: &mut Vec<u8>, session: &Name, op: PlainOp) -> Result<(), TellRefused>
+        requires { self.old.core.failed ≡ false }
+        ensures { Does D.may_leave D.moment D.left_since D.faults A.address (λ fixed p. step_told fixed p (step.Do session.now op)) self.old self.new out.old.items out.new.items result }
     {
         let Some(seen) = self.sessions.get(session) else {
-            return put_unseen(out, session);
+            return replied(put_unseen(out, session));
         };
         let branch = seen.branch();
         match seen.prepare(branch_doc::op(op)) {
             Ok(prepared) => self.move_on(out, session, branch, prepared),
-            Err(PrepareRefused::Exhausted { clock }) => put_exhausted(out, clock),
-            Err(PrepareRefused::ValueTooLarge { length }) => put_too_large(out, length),
-            Err(PrepareRefused::Memory) => Err(Memory),
+            Err(PrepareRefused::Exhausted { clock }) => replied(put_exhausted(out, clock)),
+            Err(PrepareRefused::ValueTooLarge { length }) => replied(put_too_large(out, length)),
+            Err(PrepareRefused::Memory) => Err(TellRefused::Memory),
         }
     }
 
     // The head of a branch is merged into the branch that a session sees.
-    fn merge(&mut self, out: &mut Vec<u8>, session: &Name, from: &Name) -> Result<(), Memory>
-        ensures { Does (λ limits p. step_told limits p (step.Merge session.now from.now)) self.old self.new out.old.items out.new.items result }
+    fn merge(&mut self, out: &mut Vec<u8>, session: &Name, from: &Name) -> Result<(), TellRefused>
+        requires { self.old.core.failed ≡ false }
+        ensures { Does D.may_leave D.moment D.left_since D.faults A.address (λ fixed p. step_told fixed p (step.Merge session.now from.now)) self.old self.new out.old.items out.new.items result }
     {
         let Some(seen) = self.sessions.get(session) else {
-            return put_unseen(out, session);
+            return replied(put_unseen(out, session));
         };
         let branch = seen.branch();
-        let pair = match self.versions.pair(seen, from) {
+        let pair = match self.core.pair(seen, from) {
             Ok(pair) => pair,
-            Err(PairRefused::UnknownBranch { .. }) => return put_unknown(out, from),
-            Err(PairRefused::Memory) => return Err(Memory),
+            Err(PairRefused::UnknownBranch { .. }) => return replied(put_unknown(out, from)),
+            Err(PairRefused::Memory) => return Err(TellRefused::Memory),
         };
         match pair.prepare() {
-            Ok(PairStep::Same) => put_same(out),
+            Ok(PairStep::Same) => replied(put_same(out)),
             Ok(PairStep::Land(prepared)) => {
                 // The core lands in place where no pair shares its nodes.
                 drop(pair);
                 self.move_on(out, session, branch, prepared)
             }
-            Err(PairPrepareRefused::ValueTooLarge { length }) => put_too_large(out, length),
-            Err(PairPrepareRefused::Memory) => Err(Memory),
+            Err(PairPrepareRefused::ValueTooLarge { length }) => replied(put_too_large(
+                out, length,
+            )),
+            Err(PairPrepareRefused::Memory) => Err(TellRefused::Memory),
         }
     }
 
@@ -212,22 +241,29 @@ impl Engine {
         session: &Name,
         branch: u32,
         prepared: Prepared<Doc>,
-    ) -> Result<(), Memory>
+    ) -> Result<(), TellRefused>
+        requires working { self.old.core.failed ≡ false }
         requires history { IsPrefix prepared.seen.history self.old.core.history }
         requires limits { prepared.seen.limits ≡ self.old.core.limits }
         requires branch { prepared.seen.branch ≡ branch }
         requires within { branch < length (store_of self.old.core.history).branches }
-        ensures { Does (λ limits p. turn_told limits p session.now branch (step_of prepared.seen prepared.work)) self.old self.new out.old.items out.new.items result }
+        ensures { Does D.may_leave D.moment D.left_since D.faults A.address (λ fixed p. turn_told fixed p session.now branch (step_of prepared.seen prepared.work)) self.old self.new out.old.items out.new.items result }
     {
-        match self.versions.land(prepared, NO_ADDRESS) {
+        reads_what_stands::<Doc>();
+        let _ = self.core.moves();
+        match self.core.land(prepared) {
             Ok(landed) => {
+                let _ = self.core.moves();
                 put_kind(out, landed.kind)?;
-                self.sees_head(session, branch)
+                replied(self.sees_head(session, branch))
             }
-            Err(LandRefused::Stale { newest }) => self.stale(out, branch, newest),
-            Err(LandRefused::FullCommits { count }) => put_full_commits(out, count),
-            Err(LandRefused::FullMoves { count }) => put_full_moves(out, count),
-            Err(LandRefused::Memory) => Err(Memory),
+            Err(LandRefused::Stale { newest }) => replied(self.stale(out, branch, newest)),
+            Err(LandRefused::FullCommits { count }) => replied(put_full_commits(out, count)),
+            Err(LandRefused::FullMoves { count }) => replied(put_full_moves(out, count)),
+            Err(LandRefused::Collision { address, .. }) => replied(put_collision(out, &address)),
+            Err(LandRefused::DiskFault) => Err(TellRefused::DiskFault),
+            Err(LandRefused::Failed { .. }) => unreachable!(),
+            Err(LandRefused::Memory) => Err(TellRefused::Memory),
         }
     }
 
@@ -237,13 +273,14 @@ impl Engine {
         ensures ok { OnOk result (out.new.items ≡ out.old.items ++ (refusal_text (name_of (store_of self.now.core.history).branches branch) (Stale newest) ++ line_end)) }
         ensures err { OnErr result (AppendsPart out.old.items out.new.items (refusal_text (name_of (store_of self.now.core.history).branches branch) (Stale newest) ++ line_end)) }
     {
-        let (name, _) = self.versions.branch(branch).unwrap();
+        let (name, _) = self.core.branch(branch).unwrap();
         put_stale(out, &name, newest)
     }
 
     // Does a step, and writes its reply at the end.
-    fn step(&mut self, out: &mut Vec<u8>, step: Step) -> Result<(), Memory>
-        ensures { Does (λ limits p. step_told limits p step) self.old self.new out.old.items out.new.items result }
+    fn step(&mut self, out: &mut Vec<u8>, step: Step) -> Result<(), TellRefused>
+        requires { self.old.core.failed ≡ false }
+        ensures { Does D.may_leave D.moment D.left_since D.faults A.address (λ fixed p. step_told fixed p step) self.old self.new out.old.items out.new.items result }
     {
         match step {
             Step::Look { session, branch } => self.look(out, &session, &branch),
@@ -254,10 +291,13 @@ impl Engine {
         }
     }
 
-    /// Does what a line says, and writes its reply at the end of `out`. After `Memory` the history is the old one
-    /// or the one after the line, each session sees what it saw, and a first part of the reply was written.
-    pub fn tell(&mut self, out: &mut Vec<u8>, line: &[u8]) -> Result<(), Memory>
-        ensures { Does (λ limits p. line_told limits p line.now) self.old self.new out.old.items out.new.items result }
+    /// Does what a line says, and writes its reply at the end of `out`. At every moment a crash leaves what reads as
+    /// the history before the line, or as the one after it. After `Memory` the history is one of the two, each
+    /// session sees what it saw, and a first part of the reply was written. `DiskFault` comes only in a line that
+    /// moves a head; then nothing was written, and the store has failed.
+    pub fn tell(&mut self, out: &mut Vec<u8>, line: &[u8]) -> Result<(), TellRefused>
+        requires { self.old.core.failed ≡ false }
+        ensures { Does D.may_leave D.moment D.left_since D.faults A.address (λ fixed p. line_told fixed p line.now) self.old self.new out.old.items out.new.items result }
     {
         let refusal = match read_line(self.alloc, line) {
             Ok(None) => return Ok(()),
@@ -265,8 +305,15 @@ impl Engine {
             Err(refusal) => refusal,
         };
         if let LineRefused::Memory = refusal {
-            return Err(Memory);
+            return Err(TellRefused::Memory);
         }
-        put_line_refusal(out, refusal)
+        replied(put_line_refusal(out, refusal))
+    }
+
+    /// Hands the disk back. It makes no device call, and takes no memory.
+    pub fn close(self) -> D
+        ensures { result ≡ self.core.disk }
+    {
+        self.core.close()
     }
 }

@@ -1,4 +1,4 @@
-use Rattle.std.proofs.Common.{◌≡◌, ◌++◌, ◌∙◌, [], refl, sym, ap, subst}
+use Rattle.std.proofs.Common.{◌≡◌, ◌++◌, refl, sym, subst}
 use Rattle.std.specs.Prelude.{OnOk, OnErr}
 use mathlib.Core.List.{IsPrefix}
 use Rattle.mrdt_model.specs.Spelled.{AppendsPart}
@@ -6,46 +6,50 @@ use Rattle.branch_history.specs.Steps as machine
 use Rattle.branch_history.specs.Machine.{turn, answers}
 use Rattle.branch_print.specs.Texts.{refusal_text, answer_text, line_end}
 use Rattle.branch_doc.specs.Document.{document}
-use Rattle.branch_doc.specs.Forms.{DocAnswer, doc_query, plain_answer}
-use Rattle.branch_engine.specs.Engines.{EngineView}
+use Rattle.branch_doc.specs.Forms.{doc_query, plain_answer}
 use Rattle.branch_engine.proofs.Played.{prefix-self}
-use Rattle.branch_engine.proofs.Does.{nothing_done, stays_so, broke_off}
-use Rattle.branch_engine.proofs.Replies.{ask_telling, Refuses, LooksAt, asked, ask_refused}
+use Rattle.branch_engine.proofs.Does.{members, nothing_done, stays_so, short-of}
+use Rattle.branch_engine.proofs.Replies.{full-so, ask_telling, asked, ask_refused}
 use Rattle.branch_engine.proofs.engine.Engine.ask.Goals as goal
 
 pub returns-in-Err-UnknownBranch : goal.returns-in-Err-UnknownBranch
-returns-in-Err-UnknownBranch c =
-    let old = c.args.self.now in
+returns-in-Err-UnknownBranch g c =
+    let d = g.D.Disk in let laws = g.met.D.Disk in
+    let m = members d.may_leave d.moment d.left_since d.faults laws.only_now in let address = g.A.Address.address in
+    let core = c.self.inside.core in let sessions = c.self.inside.sessions.entries in let old = c.args.self.now in
     let branch = c.args.branch.now in
     let refusal = machine.UnknownBranch branch in
-    let is = subst (λ (v : EngineView). Refuses v (machine.Look branch) refusal) c.self.view_is (rw c.in-Err-UnknownBranch.field-0-is at c.in-Err-UnknownBranch.ensures.refused).1 in
-    stays_so (ask_telling branch c.args.query) old old c.args.out.now.items c.put_unknown.new.out.items (refusal_text branch refusal ++ line_end) c.put_unknown.result refl
-    (ask_refused old branch c.args.query refusal is) c.put_unknown.ensures.ok c.put_unknown.ensures.err
+    let is = full-so address core sessions old c.self.view_is (machine.Look branch) (machine.Refused refusal) (rw c.in-Err-UnknownBranch.field-0-is at c.in-Err-UnknownBranch.ensures.refused).1 in
+    stays_so m address (ask_telling branch c.args.query) old old c.args.out.now.items c.put_unknown.new.out.items (refusal_text branch refusal ++ line_end) c.put_unknown.result c.replied.result c.replied.ensures.ok c.replied.ensures.err
+    c.requires refl (ask_refused m address old branch c.args.query refusal is) c.put_unknown.ensures.ok c.put_unknown.ensures.err
 
 pub returns-in-Err-Memory : goal.returns-in-Err-Memory
-returns-in-Err-Memory c = record { ok = tt; err = nothing_done (ask_telling c.args.branch.now c.args.query) c.args.self.now c.args.self.now c.args.out.now.items refl }
+returns-in-Err-Memory g c =
+    let d = g.D.Disk in let laws = g.met.D.Disk in
+    let m = members d.may_leave d.moment d.left_since d.faults laws.only_now in let address = g.A.Address.address in
+    let core = c.self.inside.core in let sessions = c.self.inside.sessions.entries in let old = c.args.self.now in
+    nothing_done m address (ask_telling c.args.branch.now c.args.query) old old c.args.out.now.items _ refl c.requires refl
 
 pub returns-in_err-answer : goal.returns-in_err-answer
-returns-in_err-answer c =
-    let telling = ask_telling c.args.branch.now c.args.query in
-    broke_off telling c.args.self.now c.args.self.now c.args.out.now.items c.args.out.now.items c.from_residual.result c.from_residual.ensures.0
-    (nothing_done telling c.args.self.now c.args.self.now c.args.out.now.items refl)
+returns-in_err-answer g c =
+    let d = g.D.Disk in let laws = g.met.D.Disk in
+    let m = members d.may_leave d.moment d.left_since d.faults laws.only_now in let address = g.A.Address.address in
+    let core = c.self.inside.core in let sessions = c.self.inside.sessions.entries in let old = c.args.self.now in
+    nothing_done m address (ask_telling c.args.branch.now c.args.query) old old c.args.out.now.items c.from_residual.result (short-of c.from_residual.result c.from_residual.ensures.1) c.requires refl
 
 pub returns : goal.returns
-returns c =
-    let old = c.args.self.now in
-    let seen = c.in-Ok.seen in
-    let branch = c.args.branch.now in
-    let query = c.args.query in
-    let answer = c.in_ok-answer.answer in
-    let out = c.args.out.now.items in
-    let out' = c.put_answer.new.out.items in
-    let core = c.self.inside.versions.core in
-    let looks = subst (λ (v : EngineView). LooksAt v branch seen.branch seen.head) c.self.view_is c.in-Ok.ensures.sees in
+returns g c =
+    let d = g.D.Disk in let laws = g.met.D.Disk in
+    let m = members d.may_leave d.moment d.left_since d.faults laws.only_now in let address = g.A.Address.address in
+    let core = c.self.inside.core in let sessions = c.self.inside.sessions.entries in let old = c.args.self.now in
+    let seen = c.in-Ok.seen in let branch = c.args.branch.now in let query = c.args.query in let answer = c.in_ok-answer.answer in
+    let out = c.args.out.now.items in let out' = c.put_answer.new.out.items in
+    let looks = full-so address core sessions old c.self.view_is (machine.Look branch) (machine.Sees seen.branch seen.head) c.in-Ok.ensures.sees in
     let asks : turn document seen.limits core.history (machine.Ask seen.head c.query.result) ≡ answers (machine.Answered answer) = c.in_ok-answer.ensures core.history (subst (λ h. IsPrefix h core.history) (sym c.in-Ok.ensures.on.0) (prefix-self core.history)) in
     let plain = subst (λ q. turn document seen.limits core.history (machine.Ask seen.head q) ≡ answers (machine.Answered answer)) c.query.ensures asks in
     let here = subst (λ l. turn document l core.history (machine.Ask seen.head (doc_query query)) ≡ answers (machine.Answered answer)) c.in-Ok.ensures.on.1 plain in
-    let is = subst (λ (v : EngineView). turn document v.core.limits v.core.history (machine.Ask seen.head (doc_query query)) ≡ answers (machine.Answered answer)) c.self.view_is here in
-    stays_so (ask_telling branch query) old old out out' (answer_text (plain_answer answer) ++ line_end) c.put_answer.result refl (asked old branch query seen.branch seen.head answer looks is)
+    let is = full-so address core sessions old c.self.view_is (machine.Ask seen.head (doc_query query)) (machine.Answered answer) here in
+    stays_so m address (ask_telling branch query) old old out out' (answer_text (plain_answer answer) ++ line_end) c.put_answer.result c.replied-2.result c.replied-2.ensures.ok c.replied-2.ensures.err
+    c.requires refl (asked m address old branch query seen.branch seen.head answer looks is)
     (subst (λ a. OnOk c.put_answer.result (out' ≡ out ++ (answer_text a ++ line_end))) c.answer.ensures c.put_answer.ensures.ok)
     (subst (λ a. OnErr c.put_answer.result (AppendsPart out out' (answer_text a ++ line_end))) c.answer.ensures c.put_answer.ensures.err)

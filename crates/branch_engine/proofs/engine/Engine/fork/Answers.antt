@@ -1,68 +1,103 @@
-use Rattle.std.proofs.Common.{◌≡◌, ◌++◌, ◌∷◌, [], ◌∙◌, ap, subst, List, ℕ}
-use Rattle.std.specs.Prelude.{Result, OnOk, OnErr}
+use Rattle.std.proofs.Common.{◌≡◌, ◌++◌, ◌∷◌, [], ◌∙◌, sym, ap, subst, refl, List, ℕ, false}
+use Rattle.std.specs.Prelude.{Result, Ok, Err, OnOk, OnErr}
 use Rattle.mrdt_model.specs.declared.errors.Memory.{Memory}
 use Rattle.mrdt_model.specs.Spelled.{AppendsPart}
 use Rattle.branch_history.specs.Steps as machine
 use Rattle.branch_print.specs.Texts.{refusal_text, forked_text, line_end}
-use Rattle.branch_engine.specs.Engines.{EngineView, Core, Seen, Does}
-use Rattle.branch_engine.proofs.Does.{nothing_done, ends_so, stays_so}
-use Rattle.branch_engine.proofs.Replies.{fork_telling, Refuses, forked, forked_half, fork_refused}
+use Rattle.branch_engine.specs.declared.refused.TellRefused.{TellRefused}
+use Rattle.branch_engine.specs.declared.refused.TellRefused.TheVariants as refusal
+use Rattle.branch_engine.specs.Engines.{EngineView, Store, Seen}
+use Rattle.branch_engine.proofs.Played.{whole-so}
+use Rattle.branch_engine.proofs.Does.{Members, members, DoesSo, nothing_done, ends_so, stays_so, does-fault}
+use Rattle.branch_engine.proofs.Replies.{view_of, fork_telling, Refuses, fork_takes, leaves_either, moves_too, works_moved, forked, forked_half, fork_refused}
 use Rattle.branch_engine.proofs.engine.Engine.fork.Goals as goal
 
-abbrev view_of : Core → List (List ℕ × Seen) → EngineView
-view_of core sessions = record { core = core; sessions = sessions }
-
--- a refused fork, of an engine whose view is this
-refused : (old : EngineView) (core new_core : Core) (sessions : List (List ℕ × Seen)) (out out' new from : List ℕ) (r : Result (Unit {0}) Memory) (refusal : machine.Refusal)
-    → view_of core sessions ≡ old → new_core ≡ core → Refuses (view_of core sessions) (machine.Fork new from) refusal
-    → OnOk r (out' ≡ out ++ (refusal_text new refusal ++ line_end)) → OnErr r (AppendsPart out out' (refusal_text new refusal ++ line_end))
-    → Does (fork_telling new from) old (view_of new_core sessions) out out' r
-refused old core new_core sessions out out' new from r refusal view kept is ok err =
-    subst (λ v. Does (fork_telling new from) v (view_of new_core sessions) out out' r) view
-    (stays_so (fork_telling new from) (view_of core sessions) (view_of new_core sessions) out out' (refusal_text new refusal ++ line_end) r (ap (λ k. view_of k sessions) kept)
-    (fork_refused (view_of core sessions) new from refusal is) ok err)
+-- a refused fork, of an engine whose view this is
+refused : {D : Type 0} (m : Members D) (address : List ℕ → List ℕ) (old : EngineView D) (core new_core : Store D) (sessions : List (List ℕ × Seen)) (out out' new from : List ℕ) (w : Result (Unit {0}) Memory) (r : Result (Unit {0}) TellRefused)
+    → OnOk w (r ≡ Ok tt) → OnErr w (r ≡ Err refusal.Memory) → (why : machine.Refusal) → view_of core sessions ≡ old → new_core ≡ core → core.failed ≡ false → Refuses m address (view_of core sessions) (machine.Fork new from) why
+    → OnOk w (out' ≡ out ++ (refusal_text new why ++ line_end)) → OnErr w (AppendsPart out out' (refusal_text new why ++ line_end))
+    → DoesSo m address (fork_telling new from) old (view_of new_core sessions) out out' r
+refused {D} m address old core new_core sessions out out' new from w r through short why view kept worked is ok err =
+    subst (λ (v : EngineView D). DoesSo m address (fork_telling new from) v (view_of new_core sessions) out out' r) view
+    (stays_so m address (fork_telling new from) (view_of core sessions) (view_of new_core sessions) out out' (refusal_text new why ++ line_end) w r through short worked (ap (λ (k : Store D). view_of k sessions) kept)
+    (fork_refused m address (view_of core sessions) new from why is) ok err)
 
 pub returns-in-Err-UnknownBranch : goal.returns-in-Err-UnknownBranch
-returns-in-Err-UnknownBranch c =
-    refused c.args.self.now c.self.inside.versions.core c.fork.new.self.core c.self.inside.sessions.entries c.args.out.now.items c.put_unknown.new.out.items c.args.new.now c.args.from.now c.put_unknown.result
-    (machine.UnknownBranch c.args.from.now) c.self.view_is (ap (λ v. v.core) c.in-Err-UnknownBranch.ensures.kept) (rw c.in-Err-UnknownBranch.field-0-is at c.in-Err-UnknownBranch.ensures.refused).1
-    c.put_unknown.ensures.ok c.put_unknown.ensures.err
+returns-in-Err-UnknownBranch g c =
+    let d = g.D.Disk in let laws = g.met.D.Disk in
+    let m = members d.may_leave d.moment d.left_since d.faults laws.only_now in let address = g.A.Address.address in
+    let core = c.self.inside.core in let sessions = c.self.inside.sessions.entries in let old = c.args.self.now in
+    let why = machine.UnknownBranch c.args.from.now in
+    let is = (rw c.in-Err-UnknownBranch.field-0-is at c.in-Err-UnknownBranch.ensures.refused).1 in
+    refused m address old core c.fork.new.self sessions c.args.out.now.items c.put_unknown.new.out.items c.args.new.now c.args.from.now c.put_unknown.result c.replied.result c.replied.ensures.ok c.replied.ensures.err why
+    c.self.view_is (rw c.in-Err-UnknownBranch.field-0-is at c.in-Err-UnknownBranch.ensures.kept) is.0 is.1 c.put_unknown.ensures.ok c.put_unknown.ensures.err
 
 pub returns-in-Err-NameTaken : goal.returns-in-Err-NameTaken
-returns-in-Err-NameTaken c =
-    refused c.args.self.now c.self.inside.versions.core c.fork.new.self.core c.self.inside.sessions.entries c.args.out.now.items c.put_taken.new.out.items c.args.new.now c.args.from.now c.put_taken.result
-    (machine.NameTaken c.in-Err-NameTaken.number) c.self.view_is (ap (λ v. v.core) c.in-Err-NameTaken.ensures.kept) (rw c.in-Err-NameTaken.field-0-is at c.in-Err-NameTaken.ensures.refused)
-    c.put_taken.ensures.ok c.put_taken.ensures.err
+returns-in-Err-NameTaken g c =
+    let d = g.D.Disk in let laws = g.met.D.Disk in
+    let m = members d.may_leave d.moment d.left_since d.faults laws.only_now in let address = g.A.Address.address in
+    let core = c.self.inside.core in let sessions = c.self.inside.sessions.entries in let old = c.args.self.now in
+    let why = machine.NameTaken c.in-Err-NameTaken.number in
+    let is = (rw c.in-Err-NameTaken.field-0-is at c.in-Err-NameTaken.ensures.refused) in
+    refused m address old core c.fork.new.self sessions c.args.out.now.items c.put_taken.new.out.items c.args.new.now c.args.from.now c.put_taken.result c.replied-in-Err-NameTaken.result c.replied-in-Err-NameTaken.ensures.ok c.replied-in-Err-NameTaken.ensures.err why
+    c.self.view_is (rw c.in-Err-NameTaken.field-0-is at c.in-Err-NameTaken.ensures.kept) is.0 is.1 c.put_taken.ensures.ok c.put_taken.ensures.err
 
 pub returns-in-Err-FullBranches : goal.returns-in-Err-FullBranches
-returns-in-Err-FullBranches c =
-    refused c.args.self.now c.self.inside.versions.core c.fork.new.self.core c.self.inside.sessions.entries c.args.out.now.items c.put_full_branches.new.out.items c.args.new.now c.args.from.now c.put_full_branches.result
-    (machine.FullBranches c.in-Err-FullBranches.count) c.self.view_is (ap (λ v. v.core) c.in-Err-FullBranches.ensures.kept) (rw c.in-Err-FullBranches.field-0-is at c.in-Err-FullBranches.ensures.refused)
-    c.put_full_branches.ensures.ok c.put_full_branches.ensures.err
+returns-in-Err-FullBranches g c =
+    let d = g.D.Disk in let laws = g.met.D.Disk in
+    let m = members d.may_leave d.moment d.left_since d.faults laws.only_now in let address = g.A.Address.address in
+    let core = c.self.inside.core in let sessions = c.self.inside.sessions.entries in let old = c.args.self.now in
+    let why = machine.FullBranches c.in-Err-FullBranches.count in
+    let is = (rw c.in-Err-FullBranches.field-0-is at c.in-Err-FullBranches.ensures.refused) in
+    refused m address old core c.fork.new.self sessions c.args.out.now.items c.put_full_branches.new.out.items c.args.new.now c.args.from.now c.put_full_branches.result c.replied-in-Err-FullBranches.result c.replied-in-Err-FullBranches.ensures.ok c.replied-in-Err-FullBranches.ensures.err why
+    c.self.view_is (rw c.in-Err-FullBranches.field-0-is at c.in-Err-FullBranches.ensures.kept) is.0 is.1 c.put_full_branches.ensures.ok c.put_full_branches.ensures.err
 
 pub returns-in-Err-FullMoves : goal.returns-in-Err-FullMoves
-returns-in-Err-FullMoves c =
-    refused c.args.self.now c.self.inside.versions.core c.fork.new.self.core c.self.inside.sessions.entries c.args.out.now.items c.put_full_moves.new.out.items c.args.new.now c.args.from.now c.put_full_moves.result
-    (machine.FullMoves c.in-Err-FullMoves.count) c.self.view_is (ap (λ v. v.core) c.in-Err-FullMoves.ensures.kept) (rw c.in-Err-FullMoves.field-0-is at c.in-Err-FullMoves.ensures.refused)
-    c.put_full_moves.ensures.ok c.put_full_moves.ensures.err
+returns-in-Err-FullMoves g c =
+    let d = g.D.Disk in let laws = g.met.D.Disk in
+    let m = members d.may_leave d.moment d.left_since d.faults laws.only_now in let address = g.A.Address.address in
+    let core = c.self.inside.core in let sessions = c.self.inside.sessions.entries in let old = c.args.self.now in
+    let why = machine.FullMoves c.in-Err-FullMoves.count in
+    let is = (rw c.in-Err-FullMoves.field-0-is at c.in-Err-FullMoves.ensures.refused) in
+    refused m address old core c.fork.new.self sessions c.args.out.now.items c.put_full_moves.new.out.items c.args.new.now c.args.from.now c.put_full_moves.result c.replied-in-Err-FullMoves.result c.replied-in-Err-FullMoves.ensures.ok c.replied-in-Err-FullMoves.ensures.err why
+    c.self.view_is (rw c.in-Err-FullMoves.field-0-is at c.in-Err-FullMoves.ensures.kept) is.0 is.1 c.put_full_moves.ensures.ok c.put_full_moves.ensures.err
+
+pub returns-in-Err-DiskFault : goal.returns-in-Err-DiskFault
+returns-in-Err-DiskFault g c =
+    let d = g.D.Disk in let laws = g.met.D.Disk in
+    let m = members d.may_leave d.moment d.left_since d.faults laws.only_now in let address = g.A.Address.address in
+    let core = c.self.inside.core in let sessions = c.self.inside.sessions.entries in let old = c.args.self.now in
+    let new = c.args.new.now in let from = c.args.from.now in let k = c.fork.new.self in let here = view_of core sessions in
+    let telling = fork_telling new from in let step = machine.Fork new from in
+    let is = rw c.in-Err-DiskFault.field-0-is at c.in-Err-DiskFault.ensures.refused in
+    let fault = ap Err c.in-Err-DiskFault.field-0-is in
+    let takes = fork_takes m address here new from in
+    subst (λ (v : EngineView g.row.D.Denot). DoesSo m address telling v (view_of k sessions) c.args.out.now.items c.args.out.now.items (Err refusal.DiskFault)) c.self.view_is
+    (does-fault m address telling here (view_of k sessions) c.args.out.now.items (rw c.in-Err-DiskFault.field-0-is at c.in-Err-DiskFault.ensures.kept) (λ name. refl)
+    (moves_too m address here telling step takes is.1.0 is.1.1)
+    (leaves_either m address here telling step takes c.reads_what_stands.ensures (view_of k sessions) c.moves.ensures.valid (c.in-Err-DiskFault.ensures.fault_valid fault) (c.in-Err-DiskFault.ensures.any_moment is.0))
+    c.in-Err-DiskFault.ensures.cause.later (c.in-Err-DiskFault.ensures.cause.failed fault))
 
 pub returns-in-Err-Memory : goal.returns-in-Err-Memory
-returns-in-Err-Memory c = record {
-  ok = tt;
-  err = nothing_done (fork_telling c.args.new.now c.args.from.now) c.args.self.now (view_of c.fork.new.self.core c.self.inside.sessions.entries) c.args.out.now.items (ap (λ k. view_of k c.self.inside.sessions.entries) (ap (λ v. v.core) c.in-Err-Memory.ensures.kept) ∙ c.self.view_is);
-}
+returns-in-Err-Memory g c =
+    let d = g.D.Disk in let laws = g.met.D.Disk in
+    let m = members d.may_leave d.moment d.left_since d.faults laws.only_now in let address = g.A.Address.address in
+    let core = c.self.inside.core in let sessions = c.self.inside.sessions.entries in let old = c.args.self.now in
+    nothing_done m address (fork_telling c.args.new.now c.args.from.now) old (view_of c.fork.new.self sessions) c.args.out.now.items _ refl c.requires
+    (ap (λ (k : Store g.row.D.Denot). view_of k sessions) (rw c.in-Err-Memory.field-0-is at c.in-Err-Memory.ensures.kept) ∙ c.self.view_is)
 
 pub returns : goal.returns
-returns c =
-    let new = c.args.new.now in
-    let from = c.args.from.now in
-    let core = c.self.inside.versions.core in
-    let sessions = c.self.inside.sessions.entries in
-    let made = c.in-Ok.ensures.forked in
-    let number = c.in-Ok.forked.number in
-    let head = c.in-Ok.forked.head in
-    subst (λ v. Does (fork_telling new from) v (view_of c.fork.new.self.core sessions) c.args.out.now.items c.put_forked.new.out.items c.put_forked.result) c.self.view_is
-    (ends_so (fork_telling new from) (view_of core sessions) (view_of c.fork.new.self.core sessions) c.args.out.now.items c.put_forked.new.out.items (forked_text new number head ++ line_end) c.put_forked.result
-    (forked (view_of core sessions) c.fork.new.self.core new from number made.0 head made.1.turn_is made.1.history)
-    (forked_half (view_of core sessions) c.fork.new.self.core new from number made.0 head made.1.turn_is made.1.history)
+returns g c =
+    let d = g.D.Disk in let laws = g.met.D.Disk in
+    let m = members d.may_leave d.moment d.left_since d.faults laws.only_now in let address = g.A.Address.address in
+    let core = c.self.inside.core in let sessions = c.self.inside.sessions.entries in let old = c.args.self.now in
+    let new = c.args.new.now in let from = c.args.from.now in let k = c.fork.new.self in let here = view_of core sessions in
+    let telling = fork_telling new from in let step = machine.Fork new from in
+    let made = c.in-Ok.ensures.forked in let number = c.in-Ok.forked.number in let head = c.in-Ok.forked.head in let moves = c.in-Ok.forked.moves in
+    let whole = whole-so d.may_leave address c.reads_what_stands.ensures k c.moves-2.ensures.valid (c.moves-2.ensures.stands (ap (λ (s : Store g.row.D.Denot). s.failed) made.1.history ∙ made.1.worked)) in
+    let works = works_moved m address here telling step (fork_takes m address here new from) c.reads_what_stands.ensures k _ _ moves made.1 c.moves.ensures.valid c.moves-2.ensures.valid (c.in-Ok.ensures.any_moment made.1.worked)
+    (c.in-Ok.ensures.cause.others (λ e. absurd (cc))) (view_of k sessions) refl in
+    subst (λ (v : EngineView g.row.D.Denot). DoesSo m address telling v (view_of k sessions) c.args.out.now.items c.put_forked.new.out.items c.replied-2.result) c.self.view_is
+    (ends_so m address telling here (view_of k sessions) c.args.out.now.items c.put_forked.new.out.items (forked_text new number head ++ line_end) c.put_forked.result c.replied-2.result c.replied-2.ensures.ok c.replied-2.ensures.err works
+    (forked m address here k new from number made.0 head moves made.1 whole) (forked_half m address here k new from number made.0 head moves made.1 whole)
     c.put_forked.ensures.ok c.put_forked.ensures.err)

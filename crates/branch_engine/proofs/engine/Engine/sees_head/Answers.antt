@@ -4,6 +4,7 @@ use Rattle.branch_names.specs.Heads.{branch_named, head_of}
 use Rattle.branch_history.specs.History.{store_of}
 use Rattle.branch_history.proofs.Turns.{look-sees}
 use Rattle.branch_doc.specs.Document.{document}
+use Rattle.store_core.specs.Views.{held}
 use Rattle.branch_engine.specs.Engines.{EngineView, Puts, IsLookAt, SeesHead}
 use Rattle.branch_engine.proofs.Played.{same-look, never-refused}
 use Rattle.branch_engine.proofs.engine.Engine.sees_head.Goals as goal
@@ -14,19 +15,19 @@ on_ok (Ok done) P Q p f = f p
 on_ok (Err error) P Q p f = p
 
 pub unreachable-requires : goal.unreachable-requires
-unreachable-requires c =
-    let core = c.self.inside.versions.core in
+unreachable-requires g c =
+    let core = c.self.inside.core in
     let named : branch_named (store_of core.history).branches c.unwrap-name.result.0 ≡ Some c.args.branch = rw c.unwrap-name.ensures at c.branch-self.ensures.named in
     let sees = look-sees document core.limits core.history c.unwrap-name.result.0 c.args.branch named in
     never-refused c.args.branch (head_of (store_of core.history).branches c.args.branch) _ (sym sees ∙ (rw c.in-Err-UnknownBranch.field-0-is at c.in-Err-UnknownBranch.ensures.refused).1)
 
 pub returns-in-Ok-clause-sees : goal.returns-in-Ok-clause-sees
-returns-in-Ok-clause-sees c =
-    let core = c.self.inside.versions.core in
+returns-in-Ok-clause-sees g c =
+    let core = c.self.inside.core in
     let seen = c.in-Ok.seen in
     let named : branch_named (store_of core.history).branches c.unwrap-name.result.0 ≡ Some c.args.branch = rw c.unwrap-name.ensures at c.branch-self.ensures.named in
     let sees = look-sees document core.limits core.history c.unwrap-name.result.0 c.args.branch named in
     let same = same-look seen.branch seen.head c.args.branch (head_of (store_of core.history).branches c.args.branch) (sym c.in-Ok.ensures.sees ∙ sees) in
-    let at : IsLookAt core c.args.branch seen = record { history = c.in-Ok.ensures.on.0; limits_are = c.in-Ok.ensures.on.1; branch_is = same.0; head_is = same.1 } in
-    let here : IsLookAt c.args.self.now.core c.args.branch seen = subst (λ (v : EngineView). IsLookAt v.core c.args.branch seen) c.self.view_is at in
+    let at : IsLookAt (held core) c.args.branch seen = record { history = c.in-Ok.ensures.on.0; limits_are = c.in-Ok.ensures.on.1; branch_is = same.0; head_is = same.1 } in
+    let here : IsLookAt (held c.args.self.now.core) c.args.branch seen = subst (λ (v : EngineView g.row.D.Denot). IsLookAt (held v.core) c.args.branch seen) c.self.view_is at in
     on_ok c.sees.result (Puts c.args.self.now.sessions c.sees.new.self.sessions c.args.session.now seen) (SeesHead c.args.self.now c.sees.new.self c.args.session.now c.args.branch) c.sees.ensures.put (λ put. (seen, put, here))

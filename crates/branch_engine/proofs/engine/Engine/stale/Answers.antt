@@ -16,10 +16,10 @@ named None x h = absurd (let no : ⊥ = cc in no)
 named (Some b) x h = let e : (b.name, b.head) ≡ x = cc in ap (λ y. y.0) (sym e)
 
 pub returns-clause-err : goal.returns-clause-err
-returns-clause-err c =
-    let branches = (store_of c.self.inside.versions.core.history).branches in
+returns-clause-err g c =
+    let branches = (store_of c.self.inside.core.history).branches in
     let out = c.args.out.now.items in
     let out' = c.put_stale.new.out.items in
     let name : c.unwrap-name.result.0 ≡ name_of branches c.args.branch = named (slice_get branches c.args.branch) c.unwrap-name.result (sym c.branch-self.ensures.found ∙ c.unwrap-name.ensures) in
-    subst (λ (v : EngineView). OnErr c.put_stale.result (AppendsPart out out' (refusal_text (name_of (store_of v.core.history).branches c.args.branch) (Stale c.args.newest) ++ line_end))) c.self.view_is
+    subst (λ (v : EngineView g.row.D.Denot). OnErr c.put_stale.result (AppendsPart out out' (refusal_text (name_of (store_of v.core.history).branches c.args.branch) (Stale c.args.newest) ++ line_end))) c.self.view_is
     (subst (λ n. OnErr c.put_stale.result (AppendsPart out out' (refusal_text n (Stale c.args.newest) ++ line_end))) name c.put_stale.ensures.err)

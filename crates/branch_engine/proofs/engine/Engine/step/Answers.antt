@@ -1,26 +1,42 @@
 use Rattle.std.proofs.Common.{List, ℕ, sym, subst}
 use Rattle.std.specs.Prelude.{Result}
-use Rattle.mrdt_model.specs.declared.errors.Memory.{Memory}
 use Rattle.branch_script.specs.declared.step.Step.{Step}
+use Rattle.branch_engine.specs.declared.refused.TellRefused.{TellRefused}
 use Rattle.branch_engine.specs.Play.{step_told}
-use Rattle.branch_engine.specs.Engines.{EngineView, Does}
+use Rattle.branch_engine.specs.Engines.{EngineView}
+use Rattle.branch_engine.proofs.Does.{Members, members, DoesSo}
 use Rattle.branch_engine.proofs.engine.Engine.step.Goals as goal
 
 -- a step that was done as this one
-abbrev DoesStep : EngineView → EngineView → List ℕ → List ℕ → Result (Unit {0}) Memory → Step → Type 0
-DoesStep old new out out' r step = Does (λ limits p. step_told limits p step) old new out out' r
+abbrev DoesStep : {D : Type 0} → Members D → (List ℕ → List ℕ) → EngineView D → EngineView D → List ℕ → List ℕ → Result (Unit {0}) TellRefused → Step → Type 0
+DoesStep m address old new out out' r step = DoesSo m address (λ fixed p. step_told fixed p step) old new out out' r
 
 pub returns-in-Look : goal.returns-in-Look
-returns-in-Look c = subst (DoesStep c.args.self.now c.look.new.self c.args.out.now.items c.look.new.out.items c.look.result) (sym c.in-Look.is) c.look.ensures
+returns-in-Look g c =
+    let d = g.D.Disk in let laws = g.met.D.Disk in
+    let m = members d.may_leave d.moment d.left_since d.faults laws.only_now in
+    subst (DoesStep m g.A.Address.address c.args.self.now c.look.new.self c.args.out.now.items c.look.new.out.items c.look.result) (sym c.in-Look.is) c.look.ensures
 
 pub returns-in-Fork : goal.returns-in-Fork
-returns-in-Fork c = subst (DoesStep c.args.self.now c.fork.new.self c.args.out.now.items c.fork.new.out.items c.fork.result) (sym c.in-Fork.is) c.fork.ensures
+returns-in-Fork g c =
+    let d = g.D.Disk in let laws = g.met.D.Disk in
+    let m = members d.may_leave d.moment d.left_since d.faults laws.only_now in
+    subst (DoesStep m g.A.Address.address c.args.self.now c.fork.new.self c.args.out.now.items c.fork.new.out.items c.fork.result) (sym c.in-Fork.is) c.fork.ensures
 
 pub returns-in-Merge : goal.returns-in-Merge
-returns-in-Merge c = subst (DoesStep c.args.self.now c.merge.new.self c.args.out.now.items c.merge.new.out.items c.merge.result) (sym c.in-Merge.is) c.merge.ensures
+returns-in-Merge g c =
+    let d = g.D.Disk in let laws = g.met.D.Disk in
+    let m = members d.may_leave d.moment d.left_since d.faults laws.only_now in
+    subst (DoesStep m g.A.Address.address c.args.self.now c.merge.new.self c.args.out.now.items c.merge.new.out.items c.merge.result) (sym c.in-Merge.is) c.merge.ensures
 
 pub returns-in-Do : goal.returns-in-Do
-returns-in-Do c = subst (DoesStep c.args.self.now c.land.new.self c.args.out.now.items c.land.new.out.items c.land.result) (sym c.in-Do.is) c.land.ensures
+returns-in-Do g c =
+    let d = g.D.Disk in let laws = g.met.D.Disk in
+    let m = members d.may_leave d.moment d.left_since d.faults laws.only_now in
+    subst (DoesStep m g.A.Address.address c.args.self.now c.land.new.self c.args.out.now.items c.land.new.out.items c.land.result) (sym c.in-Do.is) c.land.ensures
 
 pub returns-in-Ask : goal.returns-in-Ask
-returns-in-Ask c = subst (DoesStep c.args.self.now c.args.self.now c.args.out.now.items c.ask.new.out.items c.ask.result) (sym c.in-Ask.is) c.ask.ensures
+returns-in-Ask g c =
+    let d = g.D.Disk in let laws = g.met.D.Disk in
+    let m = members d.may_leave d.moment d.left_since d.faults laws.only_now in
+    subst (DoesStep m g.A.Address.address c.args.self.now c.args.self.now c.args.out.now.items c.ask.new.out.items c.ask.result) (sym c.in-Ask.is) c.ask.ensures

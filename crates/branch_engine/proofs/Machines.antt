@@ -1,0 +1,33 @@
+-- The machine that keeps objects, beside the one that keeps none.
+use Rattle.std.proofs.Common.{◌≡◌, List, [], ◌∷◌, refl, ap, None, Some}
+use Rattle.std.specs.Prelude.{Option}
+use Rattle.branch_history.specs.declared.moves.Move.{Move}
+use Rattle.branch_history.specs.Steps.{Step, Outcome, Refused, Refusal, Turn}
+use Rattle.branch_history.specs.Machine.{turn, answers, makes}
+use Rattle.branch_machine.specs.Fixed.{Fixed}
+use Rattle.branch_machine.specs.Machine.{collision_refusal, unless_made, full_turn}
+
+-- a turn that makes a move and was not refused
+made-unless : {O R A : Type 0} (refusal : Move O R → Option Refusal) (t : Turn O R A) (made : Move O R) (outcome : Outcome A R) → unless_made refusal t.made t ≡ makes made outcome → t ≡ makes made outcome
+made-unless {O} {R} {A} refusal t made outcome is = by-made t.made is
+  where
+    by-refusal : (why : Option Refusal) → (m : Move O R) (ms : List (Move O R)) → refusal m ≡ why → unless_made refusal (m ∷ ms) t ≡ makes made outcome → t ≡ makes made outcome
+    by-refusal None m ms none is = rw none at is
+    by-refusal (Some r) m ms some is =
+        let bad : answers {O = O} {R = R} {A = A} (Refused r) ≡ makes made outcome = rw some at is in
+        let no : [] ≡ made ∷ [] = ap (λ (u : Turn O R A). u.made) bad in absurd (let never : ⊥ = cc in never)
+
+    by-made : (ms : List (Move O R)) → unless_made refusal ms t ≡ makes made outcome → t ≡ makes made outcome
+    by-made [] is = is
+    by-made (m ∷ ms) is = by-refusal (refusal m) m ms refl is
+
+module _ {S O R Q A : Type 0} (fixed : Fixed S O R Q A) (moves : List (Move O R)) (step : Step O Q) where
+  -- where no move is made, both answer the same
+  pub full-answers : (outcome : Outcome A R) → turn fixed.meaning fixed.limits moves step ≡ answers outcome → full_turn fixed moves step ≡ answers outcome
+  unfolding full_turn
+  full-answers outcome is = ap (λ (t : Turn O R A). unless_made (collision_refusal fixed moves) t.made t) is
+
+  -- and a move that the one makes the other makes
+  pub full-turned : (made : Move O R) (outcome : Outcome A R) → full_turn fixed moves step ≡ makes made outcome → turn fixed.meaning fixed.limits moves step ≡ makes made outcome
+  unfolding full_turn
+  full-turned made outcome is = made-unless (collision_refusal fixed moves) (turn fixed.meaning fixed.limits moves step) made outcome is
