@@ -54,7 +54,7 @@ fn says_of(
 }
 
 // Some bytes are others.
-const CHANGES: [(Part, usize, &[u8], (Status, &[u8])); 18] = [
+const CHANGES: [(Part, usize, &[u8], (Status, &[u8])); 19] = [
     (Part::Heads, 0, &[0], NO_STORE),
     (Part::Heads, 12, &[3], NO_STORE),
     (Part::Objects, 0, &[0], NO_STORE),
@@ -64,6 +64,7 @@ const CHANGES: [(Part, usize, &[u8], (Status, &[u8])); 18] = [
     (Part::Heads, 69, &[1], RECORD),
     (Part::Heads, 73, &[1], RECORD),
     (Part::Heads, 80, &[0, 0xbf], RECORD),
+    (Part::Heads, 82, &[0, 0], COMMIT),
     (Part::Heads, 114, &[1], RECORD),
     (Part::Heads, 81, &[0xd9], NO_OBJECTS),
     (Part::Heads, 81, &[0xd7], OBJECT),

@@ -30,7 +30,7 @@ fn fit(bytes: &mut Bytes) {
 
 const REFUSED: (Status, &[u8]) = (Status::StoreRefused, b"refused commit 1\n");
 
-// The value in its object, the clock, the amount, a byte of the commit's address, and nothing.
+// The value in its object, the clock, the amount, and nothing.
 const FORGED: [(usize, u8, (Status, &[u8])); 4] = [
     (251, 6, REFUSED),
     (400, 2, REFUSED),
@@ -58,19 +58,6 @@ fn each_move_is_made_anew(rt: HostRuntime) -> Result<(), Fail> {
     Ok(())
 }
 
-// The address of a commit in its record is not trusted.
-#[test]
-fn another_address_is_refused(rt: HostRuntime) -> Result<(), Fail> {
-    let alloc = rt.alloc();
-    let mut bytes = one_operation(&rt, alloc)?;
-    let first = between(&bytes.heads, COMMIT_ADDRESS, COMMIT_ADDRESS + 1)
-        .first()
-        .copied();
-    set(&mut bytes.heads, COMMIT_ADDRESS, &[first.unwrap_or(0) ^ 1]);
-    let _disk = says::<Sha256Address>(&rt, alloc, "check", b"", bytes.disk(&rt, alloc), REFUSED)?;
-    Ok(())
-}
-
 // A store of one addition to a counter with addresses by length: its objects end at 466.
 fn weak(rt: &impl Abort, alloc: Global) -> Result<Bytes, Fail> {
     let disk = made::<WeakAddress>(rt, alloc, "init", MemoryDisk::new(Vec::new(alloc)))?;
@@ -84,8 +71,8 @@ fn weak(rt: &impl Abort, alloc: Global) -> Result<Bytes, Fail> {
 fn forge(bytes: &mut Bytes, alloc: Global) -> Result<(), Fail> {
     let mut region = between(&bytes.objects, 191, 466).to_vec(alloc)?;
     set(&mut region, 57, &[2]);
-    set(&mut region, 146 + 17 + 31, &[0x81]);
-    set(&mut region, 146 + 17 + 32 + 4 + 7, &[2]);
+    set(&mut region, 194, &[0x81]);
+    set(&mut region, 206, &[2]);
     bytes.objects.extend_from_slice(&region)?;
     let mut record = between(&bytes.heads, 64, 128).to_vec(alloc)?;
     set(&mut record, 16, &[2, 0xe5]);

@@ -106,13 +106,14 @@ fn a_stop_leaves_each_move_that_was_answered(rt: HostRuntime) -> Result<(), Fail
         (ran.status, ran.text.as_slice()),
         (Status::Done, whole.as_slice())
     );
-    assert_eq!(rt; ran.disk.calls(), start + CALLS);
+    assert_eq!(rt; ran.disk.calls(), start.saturating_add(CALLS));
     for calls in 0..CALLS + 1 {
         let (sure, begun) = (gates(calls.saturating_sub(1)), gates(calls + 1));
-        opens_to(&rt, alloc, &ran.disk, start + calls, Fill::Old, sure)?;
-        opens_to(&rt, alloc, &ran.disk, start + calls, Fill::Byte(7), sure)?;
-        opens_to(&rt, alloc, &ran.disk, start + calls, Fill::New, begun)?;
-        opens_to(&rt, alloc, &ran.disk, start + calls, Fill::Byte(1), begun)?;
+        let at = start.saturating_add(calls);
+        opens_to(&rt, alloc, &ran.disk, at, Fill::Old, sure)?;
+        opens_to(&rt, alloc, &ran.disk, at, Fill::Byte(7), sure)?;
+        opens_to(&rt, alloc, &ran.disk, at, Fill::New, begun)?;
+        opens_to(&rt, alloc, &ran.disk, at, Fill::Byte(1), begun)?;
     }
     Ok(())
 }
@@ -123,7 +124,7 @@ fn a_device_call_that_fails_ends_the_script(rt: HostRuntime) -> Result<(), Fail>
     let alloc = rt.alloc();
     let start = before(&rt, alloc)?;
     for call in 1..CALLS + 1 {
-        let ran = played(&rt, alloc, &[start + call])?;
+        let ran = played(&rt, alloc, &[start.saturating_add(call)])?;
         let done = gates(call.saturating_sub(2));
         let text = replies(alloc, answered(done))?;
         assert_eq!(rt;
