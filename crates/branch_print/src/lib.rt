@@ -1,4 +1,4 @@
-//! The texts of replies, each a line, written at the end of a list of bytes.
+//! The texts of replies and reports, each a line, written at the end of a list of bytes.
 //!
 //! After want of memory a first part of the text may have been written.
 #![tactic(auto)]
@@ -6,3 +6,4 @@
 mod pieces;
 pub mod refusals;
 pub mod replies;
+pub mod reports;

@@ -1,106 +1,98 @@
--- How a run ends when the sink is to finish, and the counts of faults then.
-use Rattle.std.proofs.Common.{◌≡◌, ℕ, ◌≤◌, List, [], ◌++◌, refl, ap, sym, subst, ◌∙◌, append-nil, ◌⊎◌, inl, inr, arith}
+-- The counts of faults by how a script ends, and what was given where the sink failed to finish.
+use Rattle.std.proofs.Common.{◌≡◌, ℕ, ◌≤◌, List, refl, sym, subst, ◌∙◌, ◌⊎◌, inl, inr, arith}
 use Rattle.std.specs.Prelude.{Option, Result, Ok, Err, OnOk, IfErr}
 use Rattle.std.specs.Io.KnownBytes.{Keeps}
-use Rattle.std.proofs.KnownBytes.{Appends-kept}
-use Rattle.branch_names.specs.declared.limits.Limits.{Limits}
-use Rattle.branch_names.specs.Limits.{AreDefaults}
 use Rattle.branch_io.specs.Causes.{Rose}
-use Rattle.branch_script.specs.Lines.{lines_of}
-use Rattle.branch_shell.specs.Reading.{IsFirstPart}
+use Rattle.branch_disk.specs.Disk.{Files}
 use Rattle.branch_shell.specs.declared.status.Status.{Status}
-use Rattle.branch_shell.specs.declared.status.Status.TheVariants.{Done, Usage, ReadFault, WriteFault, LineTooLong, InputTooLong, Memory}
-use Rattle.branch_shell.specs.Statuses.{EndsAs, Wrote, HasReason, StopsAtFault, status_of, TellsWholeLines, TellsPart, script_text}
-use Rattle.branch_shell.specs.Telling.{StopsTelling}
-
--- a text is a first part of itself
-whole_part : (text : List ℕ) → IsFirstPart text text
-whole_part text = ([], sym (append-nil text))
-
-whole_part_of : (limits : Limits) (left : Option (List ℕ)) (input text rest : List ℕ) → TellsWholeLines limits input text rest → TellsPart limits left input text
-whole_part_of limits left input text rest w = record {
-  lines = lines_of w.whole;
-  read = inl (record { whole = w.whole; rest = rest; parts = w.cut.parts; ended = w.cut.ended; lines_are = refl; short = w.cut.short });
-  part = subst (IsFirstPart text) w.text_is (whole_part text);
-}
-
--- whatever a run wrote is a first part of the text of lines that were read
-is_part : (limits : Limits) (left : Option (List ℕ)) (status : Status) (input text : List ℕ) → Wrote limits left status input text → TellsPart limits left input text
-is_part limits left Done input text w = record { lines = lines_of input; read = inr (w.0, refl, w.2); part = subst (IsFirstPart text) w.3 (whole_part text) }
-is_part limits left Usage input text w = record {
-  lines = [];
-  read = inl (record { whole = []; rest = input; parts = refl; ended = inl refl; lines_are = refl; short = tt });
-  part = (script_text limits [], ap (λ t. t ++ script_text limits []) (sym w.1));
-}
-is_part limits left ReadFault input text w = whole_part_of limits left input text w.1 w.3
-is_part limits left WriteFault input text w = w
-is_part limits left LineTooLong input text w = whole_part_of limits left input text w.0 w.2
-is_part limits left InputTooLong input text w = whole_part_of limits left input text w.1 w.3
-is_part limits left Memory input text w = w
-
-module _ (limits : Limits) (l0 l1 g0 g1 g2 : Option (List ℕ)) (keeps : Keeps g1 g2) where
-  -- a run that ended so, and finished
-  pub ends_finished : (status : Status) → EndsAs limits l0 l1 g0 g1 status → EndsAs limits l0 l1 g0 g2 status
-  ends_finished status e = (e.0, e.1, e.2, Appends-kept g0 g1 g2 e.1 e.3 keeps, e.4, e.5)
-
-  -- a run that ended so, and then could not finish
-  pub ends_unfinished : (status : Status) → EndsAs limits l0 l1 g0 g1 status → EndsAs limits l0 l1 g0 g2 WriteFault
-  ends_unfinished status e = (e.0, e.1, e.2, Appends-kept g0 g1 g2 e.1 e.3 keeps, e.4, is_part limits l1 status e.0 e.1 e.5)
-
-  -- and if that was behind a fault of the source, all was given that such a fault leaves
-  pub behind_fault : (r0 r1 k0 k1 : ℕ) (status : Status) → StopsAtFault r0 r1 k0 k1 status → EndsAs limits l0 l1 g0 g1 status → (r1 ≡ r0) ⊎ EndsAs limits l0 l1 g0 g2 ReadFault
-  behind_fault r0 r1 k0 k1 Done stops e = inl stops.0
-  behind_fault r0 r1 k0 k1 Usage stops e = absurd stops
-  behind_fault r0 r1 k0 k1 ReadFault stops e = inr (ends_finished ReadFault e)
-  behind_fault r0 r1 k0 k1 WriteFault stops e = inl stops.1
-  behind_fault r0 r1 k0 k1 LineTooLong stops e = inl stops.0
-  behind_fault r0 r1 k0 k1 InputTooLong stops e = inl stops.0
-  behind_fault r0 r1 k0 k1 Memory stops e = inl stops.0
-
--- the counts where the sink finished
-pub reason_finished : (r0 r1 k0 k1 k2 : ℕ) (status : Status) → StopsAtFault r0 r1 k0 k1 status → k2 ≡ k1 → HasReason r0 r1 k0 k2 status
-reason_finished r0 r1 k0 k1 k2 Done stops same = (stops.0, same ∙ stops.1)
-reason_finished r0 r1 k0 k1 k2 Usage stops same = absurd stops
-reason_finished r0 r1 k0 k1 k2 ReadFault stops same = (stops.0, same ∙ stops.1)
-reason_finished r0 r1 k0 k1 k2 WriteFault stops same = (subst (Rose k0) (sym same) stops.0, inl stops.1)
-reason_finished r0 r1 k0 k1 k2 LineTooLong stops same = (stops.0, same ∙ stops.1)
-reason_finished r0 r1 k0 k1 k2 InputTooLong stops same = (stops.0, same ∙ stops.1)
-reason_finished r0 r1 k0 k1 k2 Memory stops same = (stops.0, same ∙ stops.1)
+use Rattle.branch_shell.specs.declared.status.Status.TheVariants.{Done, Usage, StoreRefused, DiskFault, ReadFault, WriteFault, LineTooLong, InputTooLong, Memory}
+use Rattle.branch_shell.specs.Counts.{Counts, HasReason, StopsAtFault, StopsTelling}
+use Rattle.branch_shell.specs.Reading.{Exchanges}
+use Rattle.branch_shell.specs.Statuses.{status_of}
 
 rose_from : (a b c : ℕ) → b ≡ a → Rose b c → Rose a c
 rose_from a b c same rose = subst (λ n. Rose n c) same rose
 
--- and where it did not
-pub reason_unfinished : (r0 r1 k0 k1 k2 : ℕ) (status : Status) → StopsAtFault r0 r1 k0 k1 status → k1 ≤ k2 → Rose k1 k2 → HasReason r0 r1 k0 k2 WriteFault
-reason_unfinished r0 r1 k0 k1 k2 Done stops later rose = (rose_from k0 k1 k2 stops.1 rose, inl stops.0)
-reason_unfinished r0 r1 k0 k1 k2 Usage stops later rose = absurd stops
-reason_unfinished r0 r1 k0 k1 k2 ReadFault stops later rose = (rose_from k0 k1 k2 stops.1 rose, inr stops.0)
-reason_unfinished r0 r1 k0 k1 k2 WriteFault stops later rose = let first = stops.0 in (omega (arith, first, later), inl stops.1)
-reason_unfinished r0 r1 k0 k1 k2 LineTooLong stops later rose = (rose_from k0 k1 k2 stops.1 rose, inl stops.0)
-reason_unfinished r0 r1 k0 k1 k2 InputTooLong stops later rose = (rose_from k0 k1 k2 stops.1 rose, inl stops.0)
-reason_unfinished r0 r1 k0 k1 k2 Memory stops later rose = (rose_from k0 k1 k2 stops.1 rose, inl stops.0)
+module _ (r0 r1 k0 k1 d0 d1 : ℕ) where
+  abbrev pub first : Counts
+  first = record { source = r0; sink = k0; disk = d0 }
 
--- a script that runs is no misuse
-pub never_usage : (r0 r1 k0 k1 : ℕ) (status : Status) → StopsAtFault r0 r1 k0 k1 status → status ≡ Usage → ⊥
-never_usage r0 r1 k0 k1 status stops is = subst (StopsAtFault r0 r1 k0 k1) is stops
+  abbrev pub mid : Counts
+  mid = record { source = r1; sink = k1; disk = d1 }
 
--- telling was stopped, before any fault but that of the sink
-pub stops_telling : (r0 r1 k0 k1 k2 : ℕ) (status : Status) → r1 ≡ r0 → k1 ≡ k0 → StopsTelling k1 k2 status → StopsAtFault r0 r1 k0 k2 status
-stops_telling r0 r1 k0 k1 k2 WriteFault same before stops = (rose_from k0 k1 k2 before stops, same)
-stops_telling r0 r1 k0 k1 k2 Memory same before stops = (same, stops ∙ before)
-stops_telling r0 r1 k0 k1 k2 Done same before stops = absurd stops
-stops_telling r0 r1 k0 k1 k2 Usage same before stops = absurd stops
-stops_telling r0 r1 k0 k1 k2 ReadFault same before stops = absurd stops
-stops_telling r0 r1 k0 k1 k2 LineTooLong same before stops = absurd stops
-stops_telling r0 r1 k0 k1 k2 InputTooLong same before stops = absurd stops
+  module _ (k2 : ℕ) where
+    abbrev pub last : Counts
+    last = record { source = r1; sink = k2; disk = d1 }
 
--- the last line was told, or stopped so
-pub last_stops : (r0 r1 k0 k1 k2 : ℕ) (result : Result (Unit {0}) Status) → r1 ≡ r0 → k1 ≡ k0 → OnOk result (k2 ≡ k1) → IfErr result (StopsTelling k1 k2) → StopsAtFault r0 r1 k0 k2 (status_of result)
-last_stops r0 r1 k0 k1 k2 (Ok done) same before ok stops = (same, ok ∙ before)
-last_stops r0 r1 k0 k1 k2 (Err status) same before ok stops = stops_telling r0 r1 k0 k1 k2 status same before stops
+    -- the counts where the sink finished
+    pub reason_finished : (status : Status) → StopsAtFault first mid status → k2 ≡ k1 → HasReason first last status
+    reason_finished Done stops same = (stops.0, same ∙ stops.1, stops.2)
+    reason_finished Usage stops same = absurd stops
+    reason_finished StoreRefused stops same = absurd stops
+    reason_finished DiskFault stops same = (stops.0, stops.1, same ∙ stops.2)
+    reason_finished ReadFault stops same = (stops.0, same ∙ stops.1, stops.2)
+    reason_finished WriteFault stops same = (subst (Rose k0) (sym same) stops.0, inl (stops.1, stops.2))
+    reason_finished LineTooLong stops same = (stops.0, same ∙ stops.1, stops.2)
+    reason_finished InputTooLong stops same = (stops.0, same ∙ stops.1, stops.2)
+    reason_finished Memory stops same = (stops.0, same ∙ stops.1, stops.2)
 
--- under the limits that a run has where none are given
-pub behind_defaults : (same : Type 0) (limits : Limits) (l0 l1 g0 g1 : Option (List ℕ)) → AreDefaults limits → same ⊎ EndsAs limits l0 l1 g0 g1 ReadFault
-    → same ⊎ ((limits : Limits) × AreDefaults limits × EndsAs limits l0 l1 g0 g1 ReadFault)
-behind_defaults same limits l0 l1 g0 g1 are (inl is) = inl is
-behind_defaults same limits l0 l1 g0 g1 are (inr ends) = inr (limits, are, ends)
+    -- and where it did not
+    pub reason_unfinished : (status : Status) → StopsAtFault first mid status → k1 ≤ k2 → Rose k1 k2 → HasReason first last WriteFault
+    reason_unfinished Done stops later rose = (rose_from k0 k1 k2 stops.1 rose, inl (stops.0, stops.2))
+    reason_unfinished Usage stops later rose = absurd stops
+    reason_unfinished StoreRefused stops later rose = absurd stops
+    reason_unfinished DiskFault stops later rose = (rose_from k0 k1 k2 stops.2 rose, inr (inr (stops.1, stops.0)))
+    reason_unfinished ReadFault stops later rose = (rose_from k0 k1 k2 stops.1 rose, inr (inl (stops.0, stops.2)))
+    reason_unfinished WriteFault stops later rose = let first = stops.0 in (omega (arith, first, later), inl (stops.1, stops.2))
+    reason_unfinished LineTooLong stops later rose = (rose_from k0 k1 k2 stops.1 rose, inl (stops.0, stops.2))
+    reason_unfinished InputTooLong stops later rose = (rose_from k0 k1 k2 stops.1 rose, inl (stops.0, stops.2))
+    reason_unfinished Memory stops later rose = (rose_from k0 k1 k2 stops.1 rose, inl (stops.0, stops.2))
+
+  -- behind a fault of the source, or of the disk, what such a fault leaves was given
+  module _ (P : Status → Type 0) where
+    pub behind_source : (status : Status) → StopsAtFault first mid status → P status → (r1 ≡ r0) ⊎ P ReadFault
+    behind_source Done stops e = inl stops.0
+    behind_source Usage stops e = absurd stops
+    behind_source StoreRefused stops e = absurd stops
+    behind_source DiskFault stops e = inl stops.1
+    behind_source ReadFault stops e = inr e
+    behind_source WriteFault stops e = inl stops.1
+    behind_source LineTooLong stops e = inl stops.0
+    behind_source InputTooLong stops e = inl stops.0
+    behind_source Memory stops e = inl stops.0
+
+    pub behind_disk : (status : Status) → StopsAtFault first mid status → P status → (d1 ≡ d0) ⊎ P DiskFault
+    behind_disk Done stops e = inl stops.2
+    behind_disk Usage stops e = absurd stops
+    behind_disk StoreRefused stops e = absurd stops
+    behind_disk DiskFault stops e = inr e
+    behind_disk ReadFault stops e = inl stops.2
+    behind_disk WriteFault stops e = inl stops.2
+    behind_disk LineTooLong stops e = inl stops.2
+    behind_disk InputTooLong stops e = inl stops.2
+    behind_disk Memory stops e = inl stops.2
+
+  -- a script that runs is no misuse, and its store is not refused
+  pub never_usage : (status : Status) → StopsAtFault first mid status → status ≡ Usage → ⊥
+  never_usage status stops is = subst (StopsAtFault first mid) is stops
+
+  -- telling was stopped, before any other fault
+  module _ (k2 d2 : ℕ) (source : r1 ≡ r0) (sink : k1 ≡ k0) (disk : d1 ≡ d0) where
+    abbrev pub stopped : Counts
+    stopped = record { source = r1; sink = k2; disk = d2 }
+
+    pub stops_telling : (status : Status) → StopsTelling k1 k2 d1 d2 status → StopsAtFault first stopped status
+    stops_telling WriteFault stops = (rose_from k0 k1 k2 sink stops.0, source, stops.1 ∙ disk)
+    stops_telling DiskFault stops = (rose_from d0 d1 d2 disk stops.0, source, stops.1 ∙ sink)
+    stops_telling Memory stops = (source, stops.0 ∙ sink, stops.1 ∙ disk)
+    stops_telling Done stops = absurd stops
+    stops_telling Usage stops = absurd stops
+    stops_telling StoreRefused stops = absurd stops
+    stops_telling ReadFault stops = absurd stops
+    stops_telling LineTooLong stops = absurd stops
+    stops_telling InputTooLong stops = absurd stops
+
+    -- the last line was told, or stopped so
+    pub last_stops : (result : Result (Unit {0}) Status) → OnOk result (k2 ≡ k1) → OnOk result (d2 ≡ d1) → IfErr result (StopsTelling k1 k2 d1 d2) → StopsAtFault first stopped (status_of result)
+    last_stops (Ok done) same still stops = (source, same ∙ sink, still ∙ disk)
+    last_stops (Err status) same still stops = stops_telling status stops

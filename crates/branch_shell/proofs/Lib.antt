@@ -4,4 +4,10 @@ pub mod Cuts
 pub mod Told
 pub mod FirstEnd
 pub mod Ends
+pub mod Once
+pub mod Inits
+pub mod Reports
+pub mod Scripts
 pub mod Finish
+pub mod Said
+pub mod Runs

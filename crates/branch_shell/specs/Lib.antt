@@ -1,4 +1,8 @@
 pub mod Reading
-pub mod Statuses
-pub mod StatusNumbers
+pub mod Stores
+pub mod Once
 pub mod Telling
+pub mod Counts
+pub mod Statuses
+pub mod Refusals
+pub mod StatusNumbers

@@ -2,7 +2,7 @@
 use Rattle.std.specs.Prelude.{◌≡◌, ℕ, ◌<◌, ◌⊎◌, List, [], ◌∷◌, ◌++◌, length, false, nat_eq}
 use Rattle.std.specs.declared.option.Option.{Option}
 use Rattle.std.specs.List.{AllByRecursion, list_any}
-use Rattle.std.specs.Io.KnownBytes.{IsAtEnd}
+use Rattle.std.specs.Io.KnownBytes.{IsAtEnd, Consumes, Appends}
 use Rattle.branch_script.specs.Lines.{lines_of}
 
 -- nothing, or bytes of which the last ends a line
@@ -38,3 +38,15 @@ WereRead left input lines = AreFirstLines input lines ⊎ (IsAtEnd left × (line
 
 abbrev pub IsFirstPart : List ℕ → List ℕ → Type 0
 IsFirstPart part text = (rest : List ℕ) × (text ≡ part ++ rest)
+
+-- the sink was given a first part of a text
+pub record GivesPart (old new : Option (List ℕ)) (text : List ℕ) : Type 0 where
+  pub part : List ℕ
+  pub rest : List ℕ
+  pub whole : text ≡ part ++ rest
+  pub given : Appends old new part
+
+-- some input was taken from the source and some text given to the sink, of which this is true
+abbrev pub Exchanges : Option (List ℕ) → Option (List ℕ) → Option (List ℕ) → Option (List ℕ) → (List ℕ → List ℕ → Type 0) → Type 0
+Exchanges left_old left_new given_old given_new P =
+    (input : List ℕ) × (text : List ℕ) × Consumes left_old left_new input × Appends given_old given_new text × P input text

@@ -1,66 +1,117 @@
--- How a run ends, by what it took from its source and gave to its sink.
-use Rattle.std.specs.Prelude.{◌≡◌, ℕ, ◌^◌, ◌<◌, ◌≤◌, ◌⊎◌, List, [], ◌∷◌, length, codes, String, Result, Ok, Err}
+-- How a run ends, by what it took from its source, gave to its sink and left on its disk.
+use Rattle.std.specs.Prelude.{◌≡◌, ℕ, ◌^◌, ◌<◌, ◌≤◌, ◌⊎◌, List, [], ◌∷◌, ◌++◌, length, Result, Ok, Err, Some}
 use Rattle.std.specs.declared.option.Option.{Option}
-use Rattle.std.specs.declared.alloc.Global.{Global}
-use Rattle.std.specs.String.{string_bytes}
-use Rattle.std.specs.Io.KnownBytes.{IsAtEnd, Consumes, Appends}
-use Rattle.branch_names.specs.declared.limits.Limits.{Limits}
-use Rattle.branch_io.specs.Causes.{Rose}
+use Rattle.std.specs.Io.KnownBytes.{IsAtEnd}
+use Rattle.branch_disk.specs.Disk.{Files, LeavesOnly}
+use Rattle.branch_doc.specs.Document.{document}
+use Rattle.branch_doc.specs.Forms.{DocOp, DocReply}
 use Rattle.branch_script.specs.Lines.{lines_of}
-use Rattle.branch_engine.specs.Play.{text_of}
+use Rattle.branch_engine.specs.Play.{DocFixed, begins, text_of, after_lines}
+use Rattle.branch_engine.specs.Readings.{doc_fixed}
+use Rattle.branch_command.specs.Commands.{Said, Init, Script, Check, Help}
 use Rattle.branch_shell.specs.declared.status.Status.{Status}
-use Rattle.branch_shell.specs.declared.status.Status.TheVariants.{Done, Usage, ReadFault, WriteFault, LineTooLong, InputTooLong, Memory}
+use Rattle.branch_shell.specs.declared.status.Status.TheVariants.{Done, Usage, StoreRefused, DiskFault, ReadFault, WriteFault, LineTooLong, InputTooLong, Memory}
 use Rattle.branch_shell.specs.Reading.{IsCut, AreShort, WereRead, IsFirstPart}
+use Rattle.branch_shell.specs.Stores.{Stored, ReadsAsStore, IsOpenedAs, SaysRefused, SaysReport, SaysReady, SaysNotEmpty}
+use Rattle.branch_shell.specs.Once.{WroteOnce}
+use Rattle.branch_shell.specs.Telling.{ReadsAfterSome}
 
--- the one word `script`
-abbrev pub IsScript : List (String Global) → Type 0
-IsScript [] = ⊥
-IsScript (word ∷ []) = string_bytes word ≡ codes "script"
-IsScript (word ∷ other ∷ words) = ⊥
+-- a store of documents, and what is fixed for it
+abbrev pub DocStore : Type 0
+DocStore = Stored DocOp DocReply
 
--- the text of lines over the empty history
-abbrev pub script_text : Limits → List (List ℕ) → List ℕ
-script_text limits lines = text_of limits [] lines
+abbrev pub fixed_of : (List ℕ → List ℕ) → DocStore → DocFixed
+fixed_of address store = doc_fixed address store.limits
+
+-- the text of lines over a store
+abbrev pub script_text : (List ℕ → List ℕ) → DocStore → List (List ℕ) → List ℕ
+script_text address store lines = text_of (fixed_of address store) store.history lines
+
+-- the store after lines
+abbrev pub store_after : (List ℕ → List ℕ) → DocStore → List (List ℕ) → DocStore
+store_after address store lines = record { limits = store.limits; history = after_lines (fixed_of address store) store.history lines }
 
 -- the text is that of the input's whole lines, behind which this is left
-pub record TellsWholeLines (limits : Limits) (input text rest : List ℕ) : Type 0 where
+pub record TellsWholeLines (address : List ℕ → List ℕ) (store : DocStore) (input text rest : List ℕ) : Type 0 where
   pub whole : List ℕ
   pub cut : IsCut input whole rest
-  pub text_is : text ≡ script_text limits (lines_of whole)
+  pub text_is : text ≡ script_text address store (lines_of whole)
 
 -- the text is a first part of that of lines that were read
-pub record TellsPart (limits : Limits) (left : Option (List ℕ)) (input text : List ℕ) : Type 0 where
+pub record TellsPart (address : List ℕ → List ℕ) (store : DocStore) (left : Option (List ℕ)) (input text : List ℕ) : Type 0 where
   pub lines : List (List ℕ)
   pub read : WereRead left input lines
-  pub part : IsFirstPart text (script_text limits lines)
+  pub part : IsFirstPart text (script_text address store lines)
 
--- what was written of the input that was read, with what is left of the source
-abbrev pub Wrote : Limits → Option (List ℕ) → Status → List ℕ → List ℕ → Type 0
-Wrote limits left Done input text = IsAtEnd left × (length input < 2 ^ 32) × AreShort (lines_of input) × (text ≡ script_text limits (lines_of input))
-Wrote limits left Usage input text = (input ≡ []) × (text ≡ [])
-Wrote limits left ReadFault input text = (length input < 2 ^ 32) × (rest : List ℕ) × (length rest < 4096) × TellsWholeLines limits input text rest
-Wrote limits left LineTooLong input text = (rest : List ℕ) × (length rest ≡ 4096) × TellsWholeLines limits input text rest
-Wrote limits left InputTooLong input text = (length input ≡ 2 ^ 32) × (rest : List ℕ) × (length rest < 4096) × TellsWholeLines limits input text rest
-Wrote limits left WriteFault input text = TellsPart limits left input text
-Wrote limits left Memory input text = TellsPart limits left input text
+-- the text is that of the lines before one that was read
+pub record TellsBefore (address : List ℕ → List ℕ) (store : DocStore) (left : Option (List ℕ)) (input text : List ℕ) : Type 0 where
+  pub before : List (List ℕ)
+  pub line : List ℕ
+  pub read : WereRead left input (before ++ line ∷ [])
+  pub text_is : text ≡ script_text address store before
 
--- the run took some input, never more than 2^32 bytes, and wrote some text, as its status says
-abbrev pub EndsAs : Limits → Option (List ℕ) → Option (List ℕ) → Option (List ℕ) → Option (List ℕ) → Status → Type 0
-EndsAs limits left_old left_new given_old given_new status =
-    (input : List ℕ) × (text : List ℕ) × Consumes left_old left_new input × Appends given_old given_new text × (length input ≤ 2 ^ 32) × Wrote limits left_new status input text
+-- what a script wrote of the input that it read over a store, with what is left of the source
+abbrev pub WroteOver : (List ℕ → List ℕ) → DocStore → Option (List ℕ) → Status → List ℕ → List ℕ → Type 0
+WroteOver address store left Done input text = IsAtEnd left × (length input < 2 ^ 32) × AreShort (lines_of input) × (text ≡ script_text address store (lines_of input))
+WroteOver address store left Usage input text = ⊥
+WroteOver address store left StoreRefused input text = ⊥
+WroteOver address store left DiskFault input text = TellsBefore address store left input text
+WroteOver address store left ReadFault input text = (length input < 2 ^ 32) × (rest : List ℕ) × (length rest < 4096) × TellsWholeLines address store input text rest
+WroteOver address store left WriteFault input text = TellsPart address store left input text
+WroteOver address store left LineTooLong input text = (rest : List ℕ) × (length rest ≡ 4096) × TellsWholeLines address store input text rest
+WroteOver address store left InputTooLong input text = (length input ≡ 2 ^ 32) × (rest : List ℕ) × (length rest < 4096) × TellsWholeLines address store input text rest
+WroteOver address store left Memory input text = TellsPart address store left input text
 
--- the counts of faults of the source and of the sink by how a run ends: only the fault that the status tells raises its object's count, but that a sink may fail to finish behind a fault of the source
-abbrev pub HasReason : ℕ → ℕ → ℕ → ℕ → Status → Type 0
-HasReason read_before read_now given_before given_now ReadFault = Rose read_before read_now × (given_now ≡ given_before)
-HasReason read_before read_now given_before given_now WriteFault = Rose given_before given_now × ((read_now ≡ read_before) ⊎ Rose read_before read_now)
-HasReason read_before read_now given_before given_now status = (read_now ≡ read_before) × (given_now ≡ given_before)
+-- a script: before a line is read it is refused, or it fails to open the store; else it runs over the store that opening found
+abbrev pub ScriptWrote : (List ℕ → List ℕ) → Option Files → Option (List ℕ) → Status → List ℕ → List ℕ → Type 0
+ScriptWrote address told left status input text =
+    ((input ≡ []) × WroteOnce (λ whole. ⊥) (SaysRefused document address told) status text)
+    ⊎ ((store : DocStore) × IsOpenedAs document address told store × (length input ≤ 2 ^ 32) × WroteOver address store left status input text)
 
--- why telling a script stopped before the sink was to finish: at the first fault
-abbrev pub StopsAtFault : ℕ → ℕ → ℕ → ℕ → Status → Type 0
-StopsAtFault read_before read_now given_before given_now ReadFault = Rose read_before read_now × (given_now ≡ given_before)
-StopsAtFault read_before read_now given_before given_now WriteFault = Rose given_before given_now × (read_now ≡ read_before)
-StopsAtFault read_before read_now given_before given_now Usage = ⊥
-StopsAtFault read_before read_now given_before given_now status = (read_now ≡ read_before) × (given_now ≡ given_before)
+-- What a command wrote of the input that it read, by the status that it ended with. The text of help is left open.
+abbrev pub Wrote : (List ℕ → List ℕ) → Said → Option Files → Option (List ℕ) → Status → List ℕ → List ℕ → Type 0
+Wrote address (Init numbers) told left status input text = (input ≡ []) × WroteOnce (SaysReady told) (SaysNotEmpty told) status text
+Wrote address Script told left status input text = ScriptWrote address told left status input text
+Wrote address Check told left status input text = (input ≡ []) × WroteOnce (SaysReport document address told) (SaysRefused document address told) status text
+Wrote address Help told left status input text = input ≡ []
+
+-- at the start the disk tells files that read as the store, and so does each image
+pub record Holds {D : Type 0} (contents : D → Option Files) (may_leave : D → Files → Type 0) (address : List ℕ → List ℕ) (disk : D) (store : DocStore) : Type 0 where
+  pub files : Files
+  pub told : contents disk ≡ Some files
+  pub reads : ReadsAsStore document address store files
+  pub images : (c : Files) → may_leave disk c → ReadsAsStore document address store c
+
+-- the files read as the store after some of the lines that were read
+abbrev pub HoldsSome : (List ℕ → List ℕ) → DocStore → Option (List ℕ) → List ℕ → Files → Type 0
+HoldsSome address store left input c = (lines : List (List ℕ)) × WereRead left input lines × ReadsAfterSome (fixed_of address store) (begins store.history) lines [] c
+
+-- all of the lines but the last
+abbrev pub but_last : List (List ℕ) → List (List ℕ)
+but_last [] = []
+but_last (line ∷ []) = []
+but_last (line ∷ next ∷ lines) = line ∷ but_last (next ∷ lines)
+
+-- the files read as the store after the lines that were answered, or after one line more, of whose reply not all was given
+abbrev pub HoldsAnswered : (List ℕ → List ℕ) → DocStore → Option (List ℕ) → List ℕ → List ℕ → Files → Type 0
+HoldsAnswered address store left input text c =
+    (lines : List (List ℕ)) × WereRead left input lines × ReadsAfterSome (fixed_of address store) (begins store.history) lines text c
+    × IsFirstPart (script_text address store (but_last lines)) text
+
+-- What a crash leaves of a script's disk: at each moment the store after some of the lines that were read; at the end after the lines
+-- that were answered, or one more; and after `Done` after all.
+pub record Survives {D : Type 0} (may_leave : D → Files → Type 0) (moment : D → ℕ) (left_since : D → ℕ → Files → Type 0) (address : List ℕ → List ℕ)
+    (store : DocStore) (old new : D) (left : Option (List ℕ)) (status : Status) (input text : List ℕ) : Type 0 where
+  pub any_moment : LeavesOnly moment left_since old new (HoldsSome address store left input)
+  pub answered : (c : Files) → may_leave new c → HoldsAnswered address store left input text c
+  pub complete : status ≡ Done → (c : Files) → may_leave new c → ReadsAsStore document address (store_after address store (lines_of input)) c
+
+-- what a script did over a store: what it wrote of the input, and what a crash leaves
+pub record Runs {D : Type 0} (may_leave : D → Files → Type 0) (moment : D → ℕ) (left_since : D → ℕ → Files → Type 0) (address : List ℕ → List ℕ)
+    (store : DocStore) (old new : D) (left : Option (List ℕ)) (status : Status) (input text : List ℕ) : Type 0 where
+  pub wrote : WroteOver address store left status input text
+  pub size : length input ≤ 2 ^ 32
+  pub survives : Survives may_leave moment left_since address store old new left status input text
 
 -- the status of a script that ran to its end, or was stopped
 abbrev pub status_of : Result (Unit {0}) Status → Status

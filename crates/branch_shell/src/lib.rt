@@ -1,6 +1,7 @@
 //! The commands of the store, from the words of the command line to a status.
 #![tactic(auto)]
 
+mod answer;
 mod script;
 pub mod status;
 #[cfg(test)]

@@ -1,18 +1,28 @@
 // A script: its lines are taken from a source, and their replies are given to a sink.
-ghost use Rattle.std.specs.Prelude.{◌≡◌, ◌⊎◌, ◌+◌, ◌-◌, ◌<◌, ◌≤◌, ◌++◌, ◌∷◌, [], ℕ, List, length, take, drop, nat_eq, IfOk, IfErr, IfSome, IfNone, OnOk, OnErr};
+ghost use Rattle.std.specs.Prelude.{◌≡◌, ◌⊎◌, ◌+◌, ◌-◌, ◌<◌, ◌≤◌, ◌++◌, ◌∷◌, [], ℕ, List, Some, false, length, take, drop, nat_eq, IfOk, IfErr, IfSome, IfNone, OnOk, OnErr};
 ghost use Rattle.std.specs.List.{position_from};
 ghost use Rattle.std.specs.Io.KnownBytes.{Appends, Keeps};
 ghost use Rattle.branch_io.specs.Causes.{HasCause};
+ghost use Rattle.branch_disk.specs.Disk.{Files, LeavesOnly};
+ghost use Rattle.branch_doc.specs.Document.{document};
 ghost use Rattle.branch_script.specs.Lines.{lines_of};
-ghost use Rattle.branch_shell.specs.Reading.{HasNoLineEnd};
-ghost use Rattle.branch_shell.specs.Statuses.{EndsAs, HasReason, StopsAtFault, status_of};
-ghost use Rattle.branch_shell.specs.Telling.{GivesPart, TellsLines, TellsPartOf, TellsWhole, TellsSome, StopsTelling, Takes};
+ghost use Rattle.branch_engine.specs.Play.{begins};
+ghost use Rattle.branch_engine.specs.Engines.{IsAt};
+ghost use Rattle.store_core.specs.Opens.{ReadsAsNone};
+ghost use Rattle.branch_shell.specs.Reading.{HasNoLineEnd, GivesPart, Exchanges};
+ghost use Rattle.branch_shell.specs.Counts.{HasReason, StopsAtFault, StopsTelling};
+ghost use Rattle.branch_shell.specs.Telling.{TellsLines, StopsLines, TellsWhole, StopsWhole, Takes};
+ghost use Rattle.branch_shell.specs.Statuses.{DocStore, fixed_of, ScriptWrote, Holds, Survives, Runs, status_of};
 
+use crate::answer::refuse;
 use crate::status::Status;
-use branch_engine::Engine;
+use branch_address::Address;
+use branch_disk::Disk;
+use branch_engine::{Engine, TellRefused};
 use branch_io::{Sink, SinkFailed, Source, SourceFailed};
-use branch_names::Limits;
+use mrdt_doc::Doc;
 use std::alloc::Global;
+use store_core::Core;
 
 // The most bytes that a line has before its end, and one more.
 const LINE_LIMIT: usize = 4096;
@@ -21,7 +31,7 @@ const LINE_LIMIT: usize = 4096;
 const INPUT_LIMIT: u64 = 1 << 32;
 
 // Gives all the bytes of a text.
-fn give_all<K: Sink>(sink: &mut K, text: &[u8]) -> Result<(), SinkFailed>
+pub(crate) fn give_all<K: Sink>(sink: &mut K, text: &[u8]) -> Result<(), SinkFailed>
     ensures ok { OnOk result (Appends (K.given sink.old) (K.given sink.new) text.now) }
     ensures err { OnErr result (GivesPart (K.given sink.old) (K.given sink.new) text.now) }
     ensures cause { HasCause (K.faults sink.old) (K.faults sink.new) result }
@@ -35,20 +45,25 @@ fn give_all<K: Sink>(sink: &mut K, text: &[u8]) -> Result<(), SinkFailed>
 }
 
 // Tells one line, and gives its reply.
-fn tell_line<K: Sink>(
+fn tell_line<K: Sink, D: Disk + Drop, A: Address>(
     alloc: Global,
-    engine: &mut Engine,
+    engine: &mut Engine<D, A>,
     sink: &mut K,
     line: &[u8],
 ) -> Result<(), Status>
-    ensures ok { OnOk result (TellsLines (line.now ∷ []) engine.old engine.new (K.given sink.old) (K.given sink.new)) }
-    ensures err { OnErr result (TellsPartOf (line.now ∷ []) engine.old (K.given sink.old) (K.given sink.new)) }
-    ensures same { OnOk result (K.faults sink.new ≡ K.faults sink.old) }
-    ensures cause { IfErr result (StopsTelling (K.faults sink.old) (K.faults sink.new)) }
+    requires { engine.old.core.failed ≡ false }
+    ensures ok { OnOk result (TellsLines D.may_leave D.moment D.left_since A.address (line.now ∷ []) engine.old engine.new (K.given sink.old) (K.given sink.new)) }
+    ensures err { IfErr result (StopsLines D.may_leave D.moment D.left_since A.address (line.now ∷ []) engine.old engine.new (K.given sink.old) (K.given sink.new)) }
+    ensures working { OnOk result (engine.new.core.failed ≡ false) }
+    ensures sink_same { OnOk result (K.faults sink.new ≡ K.faults sink.old) }
+    ensures disk_same { OnOk result (D.faults engine.new.core.disk ≡ D.faults engine.old.core.disk) }
+    ensures cause { IfErr result (StopsTelling (K.faults sink.old) (K.faults sink.new) (D.faults engine.old.core.disk) (D.faults engine.new.core.disk)) }
 {
     let mut reply = Vec::new(alloc);
-    if engine.tell(&mut reply, line).is_err() {
-        return Err(Status::Memory);
+    match engine.tell(&mut reply, line) {
+        Ok(()) => {}
+        Err(TellRefused::DiskFault) => return Err(Status::DiskFault),
+        Err(TellRefused::Memory) => return Err(Status::Memory),
     }
     match give_all(sink, &reply) {
         Ok(()) => Ok(()),
@@ -78,20 +93,23 @@ fn first_line(bytes: &[u8], known: usize) -> Option<(&[u8], &[u8])>
 }
 
 // Tells the whole lines, and says what is behind the last. The first `known` bytes hold no line end.
-fn tell_whole_lines<'a, K: Sink>(
+fn tell_whole_lines<'a, K: Sink, D: Disk + Drop, A: Address>(
     alloc: Global,
-    engine: &mut Engine,
+    engine: &mut Engine<D, A>,
     sink: &mut K,
     bytes: &'a [u8],
     known: usize,
 ) -> Result<&'a [u8], Status>
+    requires working { engine.old.core.failed ≡ false }
     requires few { length bytes.now ≤ 4096 }
     requires within { known ≤ length bytes.now }
     requires unended { HasNoLineEnd (take known bytes.now) }
-    ensures ok { IfOk result (λ rest. TellsWhole bytes.now rest.now engine.old engine.new (K.given sink.old) (K.given sink.new)) }
-    ensures err { OnErr result (TellsSome bytes.now engine.old (K.given sink.old) (K.given sink.new)) }
-    ensures same { OnOk result (K.faults sink.new ≡ K.faults sink.old) }
-    ensures cause { IfErr result (StopsTelling (K.faults sink.old) (K.faults sink.new)) }
+    ensures ok { IfOk result (λ rest. TellsWhole D.may_leave D.moment D.left_since A.address bytes.now rest.now engine.old engine.new (K.given sink.old) (K.given sink.new)) }
+    ensures err { IfErr result (StopsWhole D.may_leave D.moment D.left_since A.address bytes.now engine.old engine.new (K.given sink.old) (K.given sink.new)) }
+    ensures working { OnOk result (engine.new.core.failed ≡ false) }
+    ensures sink_same { OnOk result (K.faults sink.new ≡ K.faults sink.old) }
+    ensures disk_same { OnOk result (D.faults engine.new.core.disk ≡ D.faults engine.old.core.disk) }
+    ensures cause { IfErr result (StopsTelling (K.faults sink.old) (K.faults sink.new) (D.faults engine.old.core.disk) (D.faults engine.new.core.disk)) }
 {
     let mut rest = bytes;
     let mut scanned = known;
@@ -104,17 +122,19 @@ fn tell_whole_lines<'a, K: Sink>(
 }
 
 // Tells the last line, which has no end, if there is one.
-fn tell_last<K: Sink>(
+fn tell_last<K: Sink, D: Disk + Drop, A: Address>(
     alloc: Global,
-    engine: &mut Engine,
+    engine: &mut Engine<D, A>,
     sink: &mut K,
     line: &[u8],
 ) -> Result<(), Status>
-    requires { HasNoLineEnd line.now }
-    ensures ok { OnOk result (TellsLines (lines_of line.now) engine.old engine.new (K.given sink.old) (K.given sink.new)) }
-    ensures err { OnErr result (TellsPartOf (lines_of line.now) engine.old (K.given sink.old) (K.given sink.new)) }
-    ensures same { OnOk result (K.faults sink.new ≡ K.faults sink.old) }
-    ensures cause { IfErr result (StopsTelling (K.faults sink.old) (K.faults sink.new)) }
+    requires working { engine.old.core.failed ≡ false }
+    requires unended { HasNoLineEnd line.now }
+    ensures ok { OnOk result (TellsLines D.may_leave D.moment D.left_since A.address (lines_of line.now) engine.old engine.new (K.given sink.old) (K.given sink.new)) }
+    ensures err { IfErr result (StopsLines D.may_leave D.moment D.left_since A.address (lines_of line.now) engine.old engine.new (K.given sink.old) (K.given sink.new)) }
+    ensures sink_same { OnOk result (K.faults sink.new ≡ K.faults sink.old) }
+    ensures disk_same { OnOk result (D.faults engine.new.core.disk ≡ D.faults engine.old.core.disk) }
+    ensures cause { IfErr result (StopsTelling (K.faults sink.old) (K.faults sink.new) (D.faults engine.old.core.disk) (D.faults engine.new.core.disk)) }
 {
     if line.is_empty() {
         return Ok(());
@@ -152,19 +172,20 @@ fn move_to_front(buffer: &mut [u8], start: usize, end: usize)
     buffer.copy_within(start..end, 0);
 }
 
-// Runs a script to the end of the source, or to what stops it.
-fn tell_all<S: Source, K: Sink>(
+// Tells the lines of the source to its end, or to what stops it.
+fn tell_all<S: Source, K: Sink, D: Disk + Drop, A: Address>(
     alloc: Global,
-    limits: Limits,
+    engine: &mut Engine<D, A>,
     source: &mut S,
     sink: &mut K,
 ) -> Result<(), Status>
-    ensures wrote { EndsAs limits (S.left source.old) (S.left source.new) (K.given sink.old) (K.given sink.new) (status_of result) }
-    ensures reason { StopsAtFault (S.faults source.old) (S.faults source.new) (K.faults sink.old) (K.faults sink.new) (status_of result) }
+    requires { engine.old.core.failed ≡ false }
+    ensures ran { (store : DocStore) → IsAt D.may_leave (fixed_of A.address store) engine.old (begins store.history)
+        → Exchanges (S.left source.old) (S.left source.new) (K.given sink.old) (K.given sink.new)
+        (Runs D.may_leave D.moment D.left_since A.address store engine.old.core.disk engine.new.core.disk (S.left source.new) (status_of result)) }
+    ensures reason { StopsAtFault (record { source = S.faults source.old; sink = K.faults sink.old; disk = D.faults engine.old.core.disk })
+        (record { source = S.faults source.new; sink = K.faults sink.new; disk = D.faults engine.new.core.disk }) (status_of result) }
 {
-    let Ok(mut engine) = Engine::new(alloc, limits) else {
-        return Err(Status::Memory);
-    };
     let mut buffer = [0u8; LINE_LIMIT];
     let mut waiting: usize = 0;
     let mut read: u64 = 0;
@@ -176,11 +197,11 @@ fn tell_all<S: Source, K: Sink>(
             Err(SourceFailed) => return Err(Status::ReadFault),
         };
         if count == 0 {
-            return tell_last(alloc, &mut engine, sink, &buffer[..waiting]);
+            return tell_last(alloc, engine, sink, &buffer[..waiting]);
         }
         read += count as u64;
         let end = waiting + count;
-        let rest = tell_whole_lines(alloc, &mut engine, sink, &buffer[..end], waiting)?;
+        let rest = tell_whole_lines(alloc, engine, sink, &buffer[..end], waiting)?;
         waiting = rest.len();
         if waiting >= LINE_LIMIT {
             return Err(Status::LineTooLong);
@@ -200,24 +221,61 @@ fn ended(outcome: Result<(), Status>) -> Status
     }
 }
 
-/// Runs the script that the source holds over an empty history, and gives the sink its replies, each before
-/// the next line is worked on. It takes from the source only when no whole line is left.
-pub fn run_script<S: Source, K: Sink>(
+// Runs a script over a store that was opened, and hands its disk back.
+fn run_opened<S: Source, K: Sink, D: Disk + Drop, A: Address>(
     alloc: Global,
-    limits: Limits,
+    core: Core<Doc, D, A>,
     source: &mut S,
     sink: &mut K,
-) -> Status
-    ensures wrote { EndsAs limits (S.left source.old) (S.left source.new) (K.given sink.old) (K.given sink.new) result }
-    ensures works { result ≡ Status.Usage → ⊥ }
-    ensures reason { HasReason (S.faults source.old) (S.faults source.new) (K.faults sink.old) (K.faults sink.new) result }
-    // Where the sink fails behind a fault of the source, all that such a fault leaves was given.
-    ensures behind { result ≡ Status.WriteFault
-        → (S.faults source.new ≡ S.faults source.old) ⊎ EndsAs limits (S.left source.old) (S.left source.new) (K.given sink.old) (K.given sink.new) Status.ReadFault }
+) -> (Status, D)
+    requires { core.failed ≡ false }
+    ensures ran { Exchanges (S.left source.old) (S.left source.new) (K.given sink.old) (K.given sink.new)
+        (Runs D.may_leave D.moment D.left_since A.address (record { limits = core.limits; history = core.history }) core.disk result.1 (S.left source.new) result.0) }
+    ensures reason { HasReason (record { source = S.faults source.old; sink = K.faults sink.old; disk = D.faults core.disk })
+        (record { source = S.faults source.new; sink = K.faults sink.new; disk = D.faults result.1 }) result.0 }
+    // Where the sink fails behind a fault, all that such a fault leaves was given.
+    ensures behind_source { result.0 ≡ Status.WriteFault → (S.faults source.new ≡ S.faults source.old)
+        ⊎ Exchanges (S.left source.old) (S.left source.new) (K.given sink.old) (K.given sink.new)
+        (Runs D.may_leave D.moment D.left_since A.address (record { limits = core.limits; history = core.history }) core.disk result.1 (S.left source.new) Status.ReadFault) }
+    ensures behind_disk { result.0 ≡ Status.WriteFault → (D.faults result.1 ≡ D.faults core.disk)
+        ⊎ Exchanges (S.left source.old) (S.left source.new) (K.given sink.old) (K.given sink.new)
+        (Runs D.may_leave D.moment D.left_since A.address (record { limits = core.limits; history = core.history }) core.disk result.1 (S.left source.new) Status.DiskFault) }
 {
-    let outcome = tell_all(alloc, limits, source, sink);
+    let mut engine = Engine::new(alloc, core);
+    let outcome = tell_all(alloc, &mut engine, source, sink);
     match sink.finish() {
-        Ok(()) => ended(outcome),
-        Err(SinkFailed) => Status::WriteFault,
+        Ok(()) => (ended(outcome), engine.close()),
+        Err(SinkFailed) => (Status::WriteFault, engine.close()),
+    }
+}
+
+/// Runs the lines that the source holds over the store that the disk holds, and gives the sink their replies, each
+/// before the next line is worked on. It takes from the source only when no whole line is left.
+pub(crate) fn run_script<S: Source, K: Sink, D: Disk + Drop, A: Address>(
+    alloc: Global,
+    source: &mut S,
+    sink: &mut K,
+    disk: D,
+) -> (Status, D)
+    ensures wrote { Exchanges (S.left source.old) (S.left source.new) (K.given sink.old) (K.given sink.new) (ScriptWrote A.address (D.contents disk) (S.left source.new) result.0) }
+    ensures crashes { (store : DocStore) → Holds D.contents D.may_leave A.address disk store
+        → Exchanges (S.left source.old) (S.left source.new) (K.given sink.old) (K.given sink.new)
+        (Survives D.may_leave D.moment D.left_since A.address store disk result.1 (S.left source.new) result.0) }
+    // Where the files are refused, they read as no store, and a crash leaves only what it might have left at the start.
+    ensures refused { result.0 ≡ Status.StoreRefused → LeavesOnly D.moment D.left_since disk result.1 (D.may_leave disk) }
+    ensures refused_only { result.0 ≡ Status.StoreRefused → (f : Files) → D.contents disk ≡ Some f → ReadsAsNone document A.address f }
+    ensures keeps { (f : Files) → D.contents disk ≡ Some f → ReadsAsNone document A.address f → LeavesOnly D.moment D.left_since disk result.1 (D.may_leave disk) }
+    ensures works { result.0 ≡ Status.Usage → ⊥ }
+    ensures reason { HasReason (record { source = S.faults source.old; sink = K.faults sink.old; disk = D.faults disk })
+        (record { source = S.faults source.new; sink = K.faults sink.new; disk = D.faults result.1 }) result.0 }
+    // Where the sink fails behind a fault, all that such a fault leaves was given.
+    ensures behind_source { result.0 ≡ Status.WriteFault → (S.faults source.new ≡ S.faults source.old)
+        ⊎ Exchanges (S.left source.old) (S.left source.new) (K.given sink.old) (K.given sink.new) (ScriptWrote A.address (D.contents disk) (S.left source.new) Status.ReadFault) }
+    ensures behind_disk { result.0 ≡ Status.WriteFault → (D.faults result.1 ≡ D.faults disk)
+        ⊎ Exchanges (S.left source.old) (S.left source.new) (K.given sink.old) (K.given sink.new) (ScriptWrote A.address (D.contents disk) (S.left source.new) Status.DiskFault) }
+{
+    match Core::<Doc, D, A>::open(alloc, disk) {
+        Ok(core) => run_opened(alloc, core, source, sink),
+        Err((refusal, disk)) => (refuse(alloc, sink, refusal), disk),
     }
 }

@@ -1,4 +1,5 @@
 // How a run ends.
+use mrdt_model::Memory;
 
 /// How a run ends; the program's exit status is `number`.
 #[derive(Clone, Copy, Debug, PartialEq, Eq)]
@@ -7,6 +8,10 @@ pub enum Status {
     Done,
     /// The command does not take the words. 1.
     Usage,
+    /// The files are no store, or a store was to be made of files that are not empty. 2.
+    StoreRefused,
+    /// The disk failed. 3.
+    DiskFault,
     /// The source failed. 4.
     ReadFault,
     /// The sink failed. 5.
@@ -30,11 +35,24 @@ impl Status {
         match self {
             Status::Done => 0,
             Status::Usage => 1,
+            Status::StoreRefused => 2,
+            Status::DiskFault => 3,
             Status::ReadFault => 4,
             Status::WriteFault => 5,
             Status::LineTooLong => 6,
             Status::InputTooLong => 7,
             Status::Memory => 8,
         }
+    }
+}
+
+impl From<Memory> for Status {
+    ghost use Rattle.std.specs.Prelude.{◌≡◌};
+    ghost use Rattle.branch_shell.specs.declared.status.Status.TheVariants as status;
+
+    ghost from_gives = { λ _ ended. ended ≡ status.Memory };
+
+    fn from(_: Memory) -> Status {
+        Status::Memory
     }
 }

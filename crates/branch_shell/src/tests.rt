@@ -1,22 +1,46 @@
 // Scripts through the top call.
 use crate::{Status, run};
+use branch_address::Sha256Address;
+use branch_disk::MemoryDisk;
 use branch_io::{MemorySink, MemorySource};
 use std::alloc::Global;
 use std::process::Abort;
 use std::test::Fail;
 
-// What a run over these bytes answers and writes; the listed calls of the source and of the sink fail.
+// What a command answers and writes over a disk; the listed calls of the source and of the sink fail.
+fn ran(
+    alloc: Global,
+    command: &str,
+    input: &[u8],
+    source_fails: &[u64],
+    sink_fails: &[u64],
+    disk: MemoryDisk,
+) -> Result<(Status, Vec<u8>, MemoryDisk), Fail> {
+    let mut words = Vec::new(alloc);
+    for word in command.split(' ') {
+        words.push(String::from_str(alloc, word)?)?;
+    }
+    let mut source = MemorySource::new(input.to_vec(alloc)?, 16, source_fails.to_vec(alloc)?);
+    let mut sink = MemorySink::new(sink_fails.to_vec(alloc)?);
+    let (status, disk) = run::<_, _, _, Sha256Address>(alloc, &words, &mut source, &mut sink, disk);
+    Ok((status, sink.bytes().to_vec(alloc)?, disk))
+}
+
+// A disk that `init` made a store of.
+fn fresh(alloc: Global) -> Result<MemoryDisk, Fail> {
+    let (_, _, disk) = ran(alloc, "init", b"", &[], &[], MemoryDisk::new(Vec::new(alloc)))?;
+    Ok(disk)
+}
+
+// What a script answers and writes over a fresh store; the listed calls of the source and of the sink fail.
 fn played(
     alloc: Global,
     input: &[u8],
     source_fails: &[u64],
     sink_fails: &[u64],
 ) -> Result<(Status, Vec<u8>), Fail> {
-    let words = vec![in alloc; String::from_str(alloc, "script")?]?;
-    let mut source = MemorySource::new(input.to_vec(alloc)?, 16, source_fails.to_vec(alloc)?);
-    let mut sink = MemorySink::new(sink_fails.to_vec(alloc)?);
-    let status = run(alloc, &words, &mut source, &mut sink);
-    Ok((status, sink.bytes().to_vec(alloc)?))
+    let (status, text, _) = ran(alloc, "script", input, source_fails, sink_fails, fresh(alloc)?)?;
+    Ok((status, text))
 }
 
 // Each script ends Done, with these replies.
@@ -300,21 +324,30 @@ fn faults_in_mid_stream(rt: HostRuntime) -> Result<(), Fail> {
 }
 
 #[test]
-fn words_that_are_no_command(rt: HostRuntime) -> Result<(), Fail> {
-    let alloc = rt.alloc();
-    for words in [
-        vec![in alloc]?,
-        vec![in alloc; String::from_str(alloc, "scripts")?]?,
-        vec![in alloc;
-            String::from_str(alloc, "script")?,
-            String::from_str(alloc, "x")?,
-        ]?,
-    ] {
-        let mut source = MemorySource::new(b"look a main\n".to_vec(alloc)?, 16, vec![in alloc]?);
-        let mut sink = MemorySink::new(vec![in alloc]?);
-        let status = run(alloc, &words, &mut source, &mut sink);
-        assert_eq!(rt; status, Status::Usage);
-        assert_eq!(rt; sink.bytes().len(), 0);
+fn commands_over_one_disk(rt: HostRuntime) -> Result<(), Fail> {
+    let rows: [(&str, &[u8], Status, &[u8]); 10] = [
+        ("check", b"", Status::StoreRefused, b"refused not a store\n"),
+        ("script", b"", Status::StoreRefused, b"refused not a store\n"),
+        ("init --max-clock 0", b"", Status::Usage, b""),
+        ("turn", b"", Status::Usage, b""),
+        ("init", b"", Status::Done, b"ready\n"),
+        ("init", b"", Status::StoreRefused, b"refused not empty\n"),
+        ("check", b"", Status::Done, b"branch main #0\nmoves 0 commits 1 branches 1\n"),
+        (
+            "script",
+            b"look a main\ndo a counter c add 1\n",
+            Status::Done,
+            b"a sees main at #0\nlanded #1 at 1.0\n",
+        ),
+        ("check", b"", Status::Done, b"branch main #1\nmoves 1 commits 2 branches 1\n"),
+        ("script", b"ask main counter c value\n", Status::Done, b"1\n"),
+    ];
+    let mut disk = MemoryDisk::new(Vec::new(rt.alloc()));
+    for (command, input, ends, output) in rows.iter() {
+        let (status, text, after) = ran(rt.alloc(), command, input, &[], &[], disk)?;
+        assert_eq!(rt; status, *ends);
+        assert_eq!(rt; text.as_slice(), *output);
+        disk = after;
     }
     Ok(())
 }
@@ -324,6 +357,8 @@ fn numbers_of_statuses(rt: HostRuntime) {
     let rows = [
         (Status::Done, 0),
         (Status::Usage, 1),
+        (Status::StoreRefused, 2),
+        (Status::DiskFault, 3),
         (Status::ReadFault, 4),
         (Status::WriteFault, 5),
         (Status::LineTooLong, 6),

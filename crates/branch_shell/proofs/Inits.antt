@@ -1,0 +1,56 @@
+-- What is left of a disk of which a store is made.
+use Rattle.std.proofs.Common.{◌≡◌, ◌⊎◌, ℕ, ◌+◌, ◌-◌, ◌^◌, min, List, [], length, refl, ap, inl, inr, arith}
+use Rattle.mrdt_model.specs.Laws.{Meaning}
+use Rattle.branch_disk.specs.Disk.{Files, LeavesOnly}
+use Rattle.branch_disk.specs.Moments.{weakened, started}
+use Rattle.branch_names.specs.declared.limits.Limits.{Limits}
+use Rattle.heads_journal.specs.Heads.{IsNoStore}
+use Rattle.branch_machine.specs.Fixed.{fix}
+use Rattle.branch_machine.specs.Validity.{IsFullyValid}
+use Rattle.branch_files.specs.Laws.{ReadsWhatStands}
+use Rattle.commit_replay.specs.Laws.{ReadsAsNoStore}
+use Rattle.store_core.specs.Images.{AllStand, NoneOrEmpty}
+use Rattle.store_core.specs.Inits.{IsEmpty, HasBytes}
+use Rattle.branch_shell.specs.Stores.{ReadsAsEmpty, ReadsAsNoneOrEmpty}
+
+-- files with bytes are not empty
+pub has_bytes : (n : ℕ) (files : Files) → HasBytes n files → IsEmpty files → ⊥
+has_bytes n files has empty =
+    let objects : length files.objects ≡ 0 = ap length empty.0 in
+    let heads : length files.heads ≡ 0 = ap length empty.1 in
+    has.1 (omega (arith, has.0, objects, heads))
+
+no_header : (limits : Limits) (files : Files) → IsEmpty files → IsNoStore files.heads
+no_header limits files empty other header =
+    let long = header.long in
+    let none : length files.heads ≡ 0 = ap length empty.1 in
+    absurd (omega (arith, long, none))
+
+module _ {S O R Q A : Type 0} (m : Meaning S O R Q A) (address : List ℕ → List ℕ) (stands : ReadsWhatStands m) (no_store : ReadsAsNoStore m) where
+  no_moves : (limits : Limits) → IsFullyValid (fix m limits address) []
+  unfolding IsFullyValid
+  no_moves limits = tt
+
+  pub empty_store : (limits : Limits) (P : Limits → Type 0) → P limits → (images : Files → Type 0) → AllStand (fix m limits address) [] images → (c : Files) → images c → ReadsAsEmpty m address P c
+  empty_store limits P is images all c image = (limits, is, stands limits address [] c (no_moves limits) (all c image))
+
+  none_or_empty : (limits : Limits) (P : Limits → Type 0) → P limits → (c : Files) → NoneOrEmpty (fix m limits address) c → ReadsAsNoneOrEmpty m address P c
+  none_or_empty limits P is c (inl none) = inl (no_store address c none)
+  none_or_empty limits P is c (inr empty) = inr (limits, is, stands limits address [] c (no_moves limits) empty)
+
+  module _ {D : Type 0} (may_leave : D → Files → Type 0) (moment : D → ℕ) (left_since : D → ℕ → Files → Type 0) where
+    pub made_empty : (limits : Limits) (P : Limits → Type 0) → P limits → (old new : D) → LeavesOnly moment left_since old new (NoneOrEmpty (fix m limits address)) → LeavesOnly moment left_since old new (ReadsAsNoneOrEmpty m address P)
+    made_empty limits P is old new all = weakened moment left_since old new (NoneOrEmpty (fix m limits address)) (ReadsAsNoneOrEmpty m address P) all (none_or_empty limits P is)
+
+  -- empty files read as no store
+  pub empty_reads : (limits : Limits) (P : Limits → Type 0) (c : Files) → IsEmpty c → ReadsAsNoneOrEmpty m address P c
+  empty_reads limits P c empty = inl (no_store address c (no_header limits c empty))
+
+module _ {S O R Q A : Type 0} (m : Meaning S O R Q A) (address : List ℕ → List ℕ) where
+  -- limits of which this is true are such of which that is true
+  pub empty_map : (P Q : Limits → Type 0) → ((limits : Limits) → P limits → Q limits) → (c : Files) → ReadsAsEmpty m address P c → ReadsAsEmpty m address Q c
+  empty_map P Q f c (limits, is, reads) = (limits, f limits is, reads)
+
+  pub none_or_empty_map : (P Q : Limits → Type 0) → ((limits : Limits) → P limits → Q limits) → (c : Files) → ReadsAsNoneOrEmpty m address P c → ReadsAsNoneOrEmpty m address Q c
+  none_or_empty_map P Q f c (inl none) = inl none
+  none_or_empty_map P Q f c (inr empty) = inr (empty_map P Q f c empty)

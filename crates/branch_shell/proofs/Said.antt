@@ -1,0 +1,63 @@
+-- A command that was read is the one that the words say.
+use Rattle.std.proofs.Common.{◌≡◌, ◌⊎◌, ℕ, List, [], refl, sym, subst, ◌∙◌, ap}
+use Rattle.std.specs.Prelude.{Option, Some, None, String}
+use Rattle.std.specs.declared.alloc.Global.{Global}
+use Rattle.branch_names.specs.declared.limits.Limits.{Limits}
+use Rattle.branch_command.specs.declared.command.Command.{Command}
+use Rattle.branch_command.specs.declared.command.Command.TheVariants as read
+use Rattle.branch_command.specs.Numbers.{Numbers, AreLimits}
+use Rattle.branch_command.specs.Commands.{Said, Init, Script, Check, Help, Means}
+
+is_init : (said : Said) (limits : Limits) → Means said (read.Init limits) → (n : Numbers) × (said ≡ Init n) × AreLimits n limits
+is_init (Init n) limits means = (n, refl, means)
+is_init Script limits means = absurd means
+is_init Check limits means = absurd means
+is_init Help limits means = absurd means
+
+is_script : (said : Said) → Means said read.Script → said ≡ Script
+is_script (Init n) means = absurd means
+is_script Script means = refl
+is_script Check means = absurd means
+is_script Help means = absurd means
+
+is_check : (said : Said) → Means said read.Check → said ≡ Check
+is_check (Init n) means = absurd means
+is_check Script means = absurd means
+is_check Check means = refl
+is_check Help means = absurd means
+
+is_help : (said : Said) (text : String Global) → Means said (read.Tell text) → said ≡ Help
+is_help (Init n) text means = absurd means
+is_help Script text means = absurd means
+is_help Check text means = absurd means
+is_help Help text means = refl
+
+-- what was said, of the command that was read
+abbrev pub Reads : Option Said → Command → Type 0
+Reads words command = (said : Said) × (words ≡ Some said) × Means said command
+
+module _ (words : Option Said) where
+  pub said_init : (command : Command) (limits : Limits) → command ≡ read.Init limits → Reads words command → (n : Numbers) × (words ≡ Some (Init n)) × AreLimits n limits
+  said_init command limits is r = let i = is_init r.0 limits (subst (Means r.0) is r.2) in (i.0, r.1 ∙ ap Some i.1, i.2)
+
+  pub said_script : (command : Command) → command ≡ read.Script → Reads words command → words ≡ Some Script
+  said_script command is r = r.1 ∙ ap Some (is_script r.0 (subst (Means r.0) is r.2))
+
+  pub said_check : (command : Command) → command ≡ read.Check → Reads words command → words ≡ Some Check
+  said_check command is r = r.1 ∙ ap Some (is_check r.0 (subst (Means r.0) is r.2))
+
+  pub said_help : (command : Command) (text : String Global) → command ≡ read.Tell text → Reads words command → words ≡ Some Help
+  said_help command text is r = r.1 ∙ ap Some (is_help r.0 text (subst (Means r.0) is r.2))
+
+  pub one_command : (a b : Said) → words ≡ Some a → words ≡ Some b → a ≡ b
+  one_command a b x y = cc (x, y)
+
+  pub same_numbers : (m n : Numbers) → words ≡ Some (Init m) → words ≡ Some (Init n) → m ≡ n
+  same_numbers m n x y = cc (x, y)
+
+  -- limits that are those of the command have the numbers that were said
+  pub limits_said : (command : Command) (limits : Limits) → command ≡ read.Init limits → Reads words command → (n : Numbers) → words ≡ Some (Init n) → (l : Limits) → l ≡ limits → AreLimits n l
+  limits_said command limits is r n said l same =
+      let i = said_init command limits is r in
+      let numbers : i.0 ≡ n = same_numbers i.0 n i.1 said in
+      subst (AreLimits n) (sym same) (subst (λ (m : Numbers). AreLimits m limits) numbers i.2)

@@ -1,0 +1,170 @@
+// The commands that take no input, and what they write.
+ghost use Rattle.std.specs.Prelude.{◌≡◌, ◌⊎◌, ◌++◌, [], ℕ, List, Some, Err, OnOk, IfErr, IfSome, IsSome, ◌↔◌};
+ghost use Rattle.std.specs.Io.KnownBytes.{Keeps};
+ghost use Rattle.branch_io.specs.Causes.{Rose};
+ghost use Rattle.branch_disk.specs.Disk.{Files, LeavesOnly};
+ghost use Rattle.branch_names.specs.declared.limits.Limits.{Limits as SpecLimits};
+ghost use Rattle.branch_print.specs.Reports.{report_text};
+ghost use Rattle.store_core.specs.Inits.{IsEmpty};
+ghost use Rattle.store_core.specs.Opens.{ReadsAsNone};
+ghost use Rattle.branch_shell.specs.Counts.{HasReason, SaysReason};
+ghost use Rattle.branch_shell.specs.Refusals.{open_refusal_text};
+ghost use Rattle.branch_shell.specs.Stores.{Stored, ReadsAsStore, SaysRefused, SaysReport, SaysReady, SaysNotEmpty, ReadsAsEmpty, ReadsAsNoneOrEmpty};
+ghost use Rattle.branch_shell.specs.Once.{Answers, Says};
+
+use crate::script::give_all;
+use crate::status::Status;
+use branch_address::Address;
+use branch_disk::Disk;
+use branch_files::laws::reads_what_stands;
+use branch_io::{Sink, SinkFailed};
+use branch_names::Limits;
+use branch_print::reports::{
+    put_bad_commit, put_bad_object, put_bad_record, put_branch, put_no_store, put_totals,
+    put_truncated,
+};
+use commit_replay::laws::reads_as_no_store;
+use mrdt_model::{Memory, Mrdt};
+use std::alloc::Global;
+use store_core::{Core, InitRefused, OpenRefused};
+
+// The status of a run whose sink is to hand on what it holds back.
+fn finish<K: Sink>(sink: &mut K, status: Status) -> Status
+    ensures kept { Keeps (K.given sink.old) (K.given sink.new) }
+    ensures status { ((result ≡ status) × (K.faults sink.new ≡ K.faults sink.old)) ⊎ ((result ≡ Status.WriteFault) × Rose (K.faults sink.old) (K.faults sink.new)) }
+{
+    match sink.finish() {
+        Ok(()) => status,
+        Err(SinkFailed) => Status::WriteFault,
+    }
+}
+
+/// Gives a text, and ends with this status.
+pub(crate) fn say<K: Sink>(sink: &mut K, text: &[u8], status: Status) -> Status
+    ensures { Says text.now status result (K.given sink.old) (K.given sink.new) (K.faults sink.old) (K.faults sink.new) }
+{
+    match give_all(sink, text) {
+        Ok(()) => finish(sink, status),
+        Err(SinkFailed) => Status::WriteFault,
+    }
+}
+
+// Writes why the files are refused.
+fn put_refusal(out: &mut Vec<u8>, refusal: OpenRefused) -> Result<(), Status>
+    ensures ok { OnOk result (IfSome (open_refusal_text refusal) (λ text. out.new.items ≡ out.old.items ++ text)) }
+    ensures files { OnOk result (IsSome (open_refusal_text refusal)) }
+    ensures err { IfErr result (λ status. (status ≡ Status.Memory) ⊎ ((status ≡ Status.DiskFault) × (refusal ≡ OpenRefused.DiskFault))) }
+    ensures fault { refusal ≡ OpenRefused.DiskFault → result ≡ Err Status.DiskFault }
+{
+    match refusal {
+        OpenRefused::NotAStore => Ok(put_no_store(out)?),
+        OpenRefused::BadRecord { number } => Ok(put_bad_record(out, number)?),
+        OpenRefused::Truncated { part, place } => Ok(put_truncated(out, part, place)?),
+        OpenRefused::BadObject { place } => Ok(put_bad_object(out, place)?),
+        OpenRefused::BadCommit { number } => Ok(put_bad_commit(out, number)?),
+        OpenRefused::DiskFault => Err(Status::DiskFault),
+        OpenRefused::Memory => Err(Status::Memory),
+    }
+}
+
+// Says why a store was not opened.
+pub(crate) fn refuse<K: Sink>(alloc: Global, sink: &mut K, refusal: OpenRefused) -> Status
+    ensures wrote { Answers (λ whole. ⊥) (λ whole. open_refusal_text refusal ≡ Some whole) result (K.given sink.old) (K.given sink.new) }
+    ensures files { result ≡ Status.StoreRefused → IsSome (open_refusal_text refusal) }
+    ensures fault { (result ≡ Status.DiskFault) ↔ (refusal ≡ OpenRefused.DiskFault) }
+    ensures reason { SaysReason (K.faults sink.old) (K.faults sink.new) result }
+{
+    let mut text = Vec::new(alloc);
+    match put_refusal(&mut text, refusal) {
+        Ok(()) => say(sink, &text, Status::StoreRefused),
+        Err(status) => status,
+    }
+}
+
+// Writes the report of a store.
+fn put_report<T: Mrdt, D: Disk + Drop, A: Address>(
+    out: &mut Vec<u8>,
+    core: &Core<T, D, A>,
+) -> Result<(), Memory>
+    ensures { OnOk result (out.new.items ≡ out.old.items ++ report_text core.now.history) }
+{
+    for number in 0..core.branches() {
+        let (name, head) = core.branch(number).unwrap();
+        put_branch(out, &name, head)?;
+    }
+    put_totals(out, core.moves(), core.commits(), core.branches())
+}
+
+// Says the report of a store.
+fn report<T: Mrdt, K: Sink, D: Disk + Drop, A: Address>(
+    alloc: Global,
+    sink: &mut K,
+    core: &Core<T, D, A>,
+) -> Status
+    ensures wrote { Answers (λ whole. whole ≡ report_text core.now.history) (λ whole. ⊥) result (K.given sink.old) (K.given sink.new) }
+    ensures reason { SaysReason (K.faults sink.old) (K.faults sink.new) result }
+{
+    let mut text = Vec::new(alloc);
+    match put_report(&mut text, core) {
+        Ok(()) => say(sink, &text, Status::Done),
+        Err(_) => Status::Memory,
+    }
+}
+
+/// Opens the store that the disk holds and reports what it holds. It writes nothing to the disk.
+pub(crate) fn run_check<T: Mrdt, K: Sink, D: Disk + Drop, A: Address>(
+    alloc: Global,
+    sink: &mut K,
+    disk: D,
+) -> (Status, D)
+    ensures wrote { Answers (SaysReport T.meaning A.address (D.contents disk)) (SaysRefused T.meaning A.address (D.contents disk)) result.0 (K.given sink.old) (K.given sink.new) }
+    // A crash leaves only what it might have left at the start.
+    ensures any_moment { LeavesOnly D.moment D.left_since disk result.1 (D.may_leave disk) }
+    ensures keeps { result.0 ≡ Status.Done → (f : Files) (store : Stored T.Op T.Reply) → D.contents disk ≡ Some f → ReadsAsStore T.meaning A.address store f
+        → (c : Files) → D.may_leave result.1 c → ReadsAsStore T.meaning A.address store c }
+    ensures refused_only { result.0 ≡ Status.StoreRefused → (f : Files) → D.contents disk ≡ Some f → ReadsAsNone T.meaning A.address f }
+    ensures reason { (n : ℕ) → HasReason (record { source = n; sink = K.faults sink.old; disk = D.faults disk })
+        (record { source = n; sink = K.faults sink.new; disk = D.faults result.1 }) result.0 }
+    // Where the sink failed, the disk did not.
+    ensures no_fault { result.0 ≡ Status.WriteFault → D.faults result.1 ≡ D.faults disk }
+{
+    reads_what_stands::<T>();
+    match Core::<T, D, A>::open(alloc, disk) {
+        Ok(core) => (report(alloc, sink, &core), core.close()),
+        Err((refusal, disk)) => (refuse(alloc, sink, refusal), disk),
+    }
+}
+
+/// Makes a store of a disk that holds no bytes.
+pub(crate) fn run_init<T: Mrdt, K: Sink, D: Disk + Drop, A: Address>(
+    alloc: Global,
+    limits: Limits,
+    sink: &mut K,
+    disk: D,
+) -> (Status, D)
+    ensures wrote { Answers (SaysReady (D.contents disk)) (SaysNotEmpty (D.contents disk)) result.0 (K.given sink.old) (K.given sink.new) }
+    // Where each image was empty, a crash leaves no store, or one of no moves; after `Done` that, whatever the images were.
+    ensures any_moment { ((c : Files) → D.may_leave disk c → IsEmpty c) → LeavesOnly D.moment D.left_since disk result.1 (ReadsAsNoneOrEmpty T.meaning A.address (λ (l : SpecLimits). l ≡ limits)) }
+    ensures made { result.0 ≡ Status.Done → (c : Files) → D.may_leave result.1 c → ReadsAsEmpty T.meaning A.address (λ (l : SpecLimits). l ≡ limits) c }
+    // Where there are bytes, a crash leaves only what it might have left at the start.
+    ensures refused { result.0 ≡ Status.StoreRefused → LeavesOnly D.moment D.left_since disk result.1 (D.may_leave disk) }
+    ensures kept { (f : Files) → D.contents disk ≡ Some f → ¬ IsEmpty f → LeavesOnly D.moment D.left_since disk result.1 (D.may_leave disk) }
+    ensures reason { (n : ℕ) → HasReason (record { source = n; sink = K.faults sink.old; disk = D.faults disk })
+        (record { source = n; sink = K.faults sink.new; disk = D.faults result.1 }) result.0 }
+    // Where the sink failed, the disk did not.
+    ensures no_fault { result.0 ≡ Status.WriteFault → D.faults result.1 ≡ D.faults disk }
+{
+    reads_what_stands::<T>();
+    reads_as_no_store::<T>();
+    match Core::<T, D, A>::init(alloc, disk, limits) {
+        Ok(core) => (say(sink, b"ready\n", Status::Done), core.close()),
+        Err((InitRefused::NotEmpty { .. }, disk)) => {
+            (
+                say(sink, b"refused not empty\n", Status::StoreRefused),
+                disk,
+            )
+        }
+        Err((InitRefused::DiskFault, disk)) => (Status::DiskFault, disk),
+        Err((InitRefused::Memory, disk)) => (Status::Memory, disk),
+    }
+}
