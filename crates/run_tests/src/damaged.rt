@@ -122,15 +122,18 @@ fn lengthen(bytes: &mut Vec<u8>) -> Result<(), Fail> {
     Ok(())
 }
 
-// What stands behind the last record is not looked at, in either file, and the store goes on over it.
+// What stands behind the last record is not looked at, in the objects, in the heads or in both, and the store goes on
+// over it.
 #[test]
 fn bytes_behind_the_files_are_passed_over(rt: HostRuntime) -> Result<(), Fail> {
     let alloc = rt.alloc();
     let mut bytes = one_operation(&rt, alloc)?;
+    let mut other = bytes.copy(alloc)?;
+    lengthen(&mut other.objects)?;
+    says_of(&rt, alloc, &other, ONE)?;
     lengthen(&mut bytes.heads)?;
     says_of(&rt, alloc, &bytes, ONE)?;
     lengthen(&mut bytes.objects)?;
-    says_of(&rt, alloc, &bytes, ONE)?;
     let input = b"look a main\ndo a counter hits add 1\n";
     let output = b"a sees main at #1\nlanded #2 at 2.0\n";
     let disk = says::<Sha256Address>(

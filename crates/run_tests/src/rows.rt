@@ -1,9 +1,9 @@
 // Scripts over new stores, and their replies.
-use crate::stores::{Bytes, checks, fresh, made, ran, says};
+use crate::stores::{Bytes, Outcome, checks, fresh, made, ran, ran_with, says};
 use branch_address::{Address, Sha256Address, WeakAddress};
 use branch_disk::MemoryDisk;
 use branch_io::{MemorySink, MemorySource};
-use branch_shell::{Status, run};
+use branch_shell::Status;
 use std::alloc::Global;
 use std::process::Abort;
 use std::test::Fail;
@@ -120,13 +120,11 @@ fn failing(
     input: &[u8],
     source_fails: &[u64],
     sink_fails: &[u64],
-) -> Result<(Status, Vec<u8>), Fail> {
-    let words = crate::stores::words_of(alloc, "script")?;
-    let mut source = MemorySource::new(input.to_vec(alloc)?, 12, source_fails.to_vec(alloc)?);
-    let mut sink = MemorySink::new(sink_fails.to_vec(alloc)?);
+) -> Result<Outcome, Fail> {
+    let source = MemorySource::new(input.to_vec(alloc)?, 12, source_fails.to_vec(alloc)?);
+    let sink = MemorySink::new(sink_fails.to_vec(alloc)?);
     let disk = fresh(rt, alloc)?;
-    let (status, _) = run::<_, _, _, Sha256Address>(alloc, &words, &mut source, &mut sink, disk);
-    Ok((status, sink.bytes().to_vec(alloc)?))
+    ran_with::<Sha256Address>(alloc, "script", source, sink, disk)
 }
 
 #[test]
@@ -138,9 +136,9 @@ fn streams_that_fail_stop_a_script(rt: HostRuntime) -> Result<(), Fail> {
         (b"look a main\n", &[], &[], Status::Done),
     ];
     for (input, source_fails, sink_fails, wanted) in rows {
-        let (status, text) = failing(&rt, alloc, input, source_fails, sink_fails)?;
-        assert_eq!(rt; status, wanted);
-        assert_eq!(rt; text.as_slice(), b"a sees main at #0\n".as_slice());
+        let ran = failing(&rt, alloc, input, source_fails, sink_fails)?;
+        assert_eq!(rt; ran.status, wanted);
+        assert_eq!(rt; ran.text.as_slice(), b"a sees main at #0\n".as_slice());
     }
     Ok(())
 }

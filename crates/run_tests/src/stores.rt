@@ -16,7 +16,7 @@ pub struct Outcome {
 }
 
 // The words of a text, with a space between two.
-pub fn words_of(alloc: Global, text: &str) -> Result<Vec<String>, AllocError> {
+fn words_of(alloc: Global, text: &str) -> Result<Vec<String>, AllocError> {
     let mut words = Vec::new(alloc);
     for word in text.split(' ') {
         if !word.is_empty() {
@@ -26,19 +26,31 @@ pub fn words_of(alloc: Global, text: &str) -> Result<Vec<String>, AllocError> {
     Ok(words)
 }
 
-// Runs a command.
+// Runs a command with a source and a sink.
+pub fn ran_with<A: Address>(
+    alloc: Global,
+    command: &str,
+    source: MemorySource,
+    sink: MemorySink,
+    disk: MemoryDisk,
+) -> Result<Outcome, Fail> {
+    let words = words_of(alloc, command)?;
+    let (mut source, mut sink) = (source, sink);
+    let (status, disk) = run::<_, _, _, A>(alloc, &words, &mut source, &mut sink, disk);
+    let text = sink.bytes().to_vec(alloc)?;
+    Ok(Outcome { status, text, disk })
+}
+
+// Runs a command over an input, of which each call gives up to 16 bytes.
 pub fn ran<A: Address>(
     alloc: Global,
     command: &str,
     input: &[u8],
     disk: MemoryDisk,
 ) -> Result<Outcome, Fail> {
-    let words = words_of(alloc, command)?;
-    let mut source = MemorySource::new(input.to_vec(alloc)?, 16, Vec::new(alloc));
-    let mut sink = MemorySink::new(Vec::new(alloc));
-    let (status, disk) = run::<_, _, _, A>(alloc, &words, &mut source, &mut sink, disk);
-    let text = sink.bytes().to_vec(alloc)?;
-    Ok(Outcome { status, text, disk })
+    let source = MemorySource::new(input.to_vec(alloc)?, 16, Vec::new(alloc));
+    let sink = MemorySink::new(Vec::new(alloc));
+    ran_with::<A>(alloc, command, source, sink, disk)
 }
 
 // Runs a command that ends so and writes this, and gives the disk that it left.
