@@ -5,8 +5,6 @@
 
 pub mod engine;
 pub mod refused;
-#[cfg(test)]
-mod tests;
 
 pub use engine::Engine;
 pub use refused::TellRefused;
