@@ -113,3 +113,8 @@ reason_opening success refused n k0 k1 d0 d1 g0 g1 r Memory w cause fault says =
 -- where the sink failed, the disk did not
 pub not_behind : (d0 d1 : ℕ) (r : OpenRefused) (status : Status) → HasCauseOf {T = Unit {0}} refusal.DiskFault d0 d1 (Err r) → (status ≡ DiskFault) ↔ (r ≡ refusal.DiskFault) → status ≡ WriteFault → d1 ≡ d0
 not_behind d0 d1 r status cause fault is = cause.others (λ e. let f = fault.1 (cc e) in absurd (cc (f, is)))
+
+-- success or a fault of the sink is no fault of the disk
+pub done_is_no_fault : (text : List ℕ) (result : Status) (g0 g1 : Option (List ℕ)) (before now : ℕ) → Says text Done result g0 g1 before now → result ≡ DiskFault → ⊥
+done_is_no_fault text result g0 g1 before now (inl (is, gave, same)) fault = absurd (cc (is, fault))
+done_is_no_fault text result g0 g1 before now (inr (is, gives, rose)) fault = absurd (cc (is, fault))

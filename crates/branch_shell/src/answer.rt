@@ -102,6 +102,7 @@ fn report<T: Mrdt, K: Sink, D: Disk + Drop, A: Address>(
     core: &Core<T, D, A>,
 ) -> Status
     ensures wrote { Answers (λ whole. whole ≡ report_text core.now.history) (λ whole. ⊥) result (K.given sink.old) (K.given sink.new) }
+    ensures other { result ≡ Status.DiskFault → ⊥ }
     ensures reason { SaysReason (K.faults sink.old) (K.faults sink.new) result }
 {
     let mut text = Vec::new(alloc);

@@ -4,8 +4,6 @@
 mod answer;
 mod script;
 pub mod status;
-#[cfg(test)]
-mod tests;
 pub mod top;
 
 pub use status::Status;

@@ -9,6 +9,8 @@ mod forged;
 #[cfg(test)]
 mod rows;
 #[cfg(test)]
+mod scripts;
+#[cfg(test)]
 mod stops;
 #[cfg(test)]
 mod stores;

@@ -130,15 +130,26 @@ fn failing(
 #[test]
 fn streams_that_fail_stop_a_script(rt: HostRuntime) -> Result<(), Fail> {
     let alloc = rt.alloc();
-    let rows: [(&[u8], &[u64], &[u64], Status); 3] = [
-        (b"look a main\n", &[2], &[], Status::ReadFault),
-        (b"look a main\nlook b main\n", &[], &[2], Status::WriteFault),
-        (b"look a main\n", &[], &[], Status::Done),
+    let one: &[u8] = b"a sees main at #0\n";
+    let rows: [(&[u8], &[u64], &[u64], Status, &[u8]); 7] = [
+        (b"look a main\n", &[2], &[], Status::ReadFault, one),
+        (b"look a main\nlo", &[2], &[], Status::ReadFault, one),
+        (b"look a main\nlo", &[2], &[2], Status::WriteFault, one),
+        (
+            b"look a main\nlook b main\n",
+            &[],
+            &[2],
+            Status::WriteFault,
+            one,
+        ),
+        (b"look a main\n", &[], &[2], Status::WriteFault, one),
+        (b"", &[], &[1], Status::WriteFault, b""),
+        (b"look a main\n", &[], &[], Status::Done, one),
     ];
-    for (input, source_fails, sink_fails, wanted) in rows {
+    for (input, source_fails, sink_fails, wanted, text) in rows {
         let ran = failing(&rt, alloc, input, source_fails, sink_fails)?;
         assert_eq!(rt; ran.status, wanted);
-        assert_eq!(rt; ran.text.as_slice(), b"a sees main at #0\n".as_slice());
+        assert_eq!(rt; ran.text.as_slice(), text);
     }
     Ok(())
 }

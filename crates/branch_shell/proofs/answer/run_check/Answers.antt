@@ -1,10 +1,10 @@
-use Rattle.std.proofs.Common.{refl, sym, subst}
+use Rattle.std.proofs.Common.{sym, subst, ap, ◌∙◌}
 use Rattle.branch_files.specs.Reading.{Opens, Answer}
 use Rattle.branch_shell.specs.Refusals.{open_refusal_text}
 use Rattle.branch_shell.specs.Stores.{SaysReport, SaysRefused, ReadsAsStore}
 use Rattle.std.specs.Prelude.{Some, ◌≡◌}
 use Rattle.branch_print.specs.Reports.{report_text}
-use Rattle.branch_shell.proofs.Once.{answers_map, says_refused, none_refused, not_behind}
+use Rattle.branch_shell.proofs.Once.{answers_map, says_refused, none_refused, not_behind, reason_said}
 use Rattle.branch_shell.proofs.answer.run_check.Goals as goal
 
 pub returns-in-Ok-clause-wrote : goal.returns-in-Ok-clause-wrote
@@ -42,3 +42,9 @@ returns-in-Err-clause-refused_only g c refused f told =
 
 pub returns-in-Err-clause-no_fault : goal.returns-in-Err-clause-no_fault
 returns-in-Err-clause-no_fault g c = not_behind (g.D.Disk.faults c.args.disk) (g.D.Disk.faults c.in-Err.disk) c.in-Err.refusal c.refuse.result c.in-Err.ensures.cause c.refuse.ensures.fault
+
+pub returns-in-Ok-clause-reason : goal.returns-in-Ok-clause-reason
+returns-in-Ok-clause-reason g c n =
+    let faults = g.D.Disk.faults in
+    reason_said (λ whole. whole ≡ report_text c.in-Ok.core.history) (λ whole. ⊥) n (g.K.Sink.faults c.args.sink.now) (g.K.Sink.faults c.report.new.sink) (faults c.args.disk) (faults c.close.result)
+    (g.K.Sink.given c.args.sink.now) (g.K.Sink.given c.report.new.sink) c.report.result c.report.ensures.wrote (ap faults c.close.ensures.same ∙ c.in-Ok.ensures.no_cause) c.report.ensures.other c.report.ensures.reason

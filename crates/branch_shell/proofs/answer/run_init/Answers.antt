@@ -48,3 +48,9 @@ returns-in-Err-Memory-default-clause-any_moment g c empty =
     let limits = c.args.limits in
     made_empty g.T.Mrdt.meaning g.A.Address.address c.reads_what_stands.ensures c.reads_as_no_store.ensures d.may_leave d.moment d.left_since limits (λ (l : Limits). l ≡ limits) refl c.args.disk c.in-Err-Memory-default.disk
     (c.in-Err-Memory-default.ensures.any_moment_err empty)
+
+pub returns-in-Ok-clause-wrote : goal.returns-in-Ok-clause-wrote
+returns-in-Ok-clause-wrote g c =
+    let told = g.D.Disk.contents c.args.disk in
+    said_done (SaysReady told) (SaysNotEmpty told) ready_text c.say.result (g.K.Sink.given c.args.sink.now) (g.K.Sink.given c.say.new.sink) (g.K.Sink.faults c.args.sink.now) (g.K.Sink.faults c.say.new.sink)
+    (c.in-Ok.ensures.empty, refl) c.say.ensures

@@ -27,7 +27,7 @@ returns-in-Ok-clause-ran g c =
     let began = c.new-engine.ensures.begins c.requires in
     let ran = subst (λ (k : Store _). Exchanges l0 l1 g0 g1 (Runs d.may_leave d.moment d.left_since address store k.disk last l1 status)) core_is (c.tell_all-outcome.ensures.ran store began) in
     let reason = subst (λ (k : Store _). StopsAtFault (record { source = g.S.Source.faults c.args.source.now; sink = g.K.Sink.faults c.args.sink.now; disk = d.faults k.disk })
-        (record { source = g.S.Source.faults c.tell_all-outcome.new.source; sink = g.K.Sink.faults c.tell_all-outcome.new.sink; disk = d.faults last }) status) core_is c.tell_all-outcome.ensures.reason in
+    (record { source = g.S.Source.faults c.tell_all-outcome.new.source; sink = g.K.Sink.faults c.tell_all-outcome.new.sink; disk = d.faults last }) status) core_is c.tell_all-outcome.ensures.reason in
     let all = finished address d.contents d.may_leave d.moment d.left_since laws.counts_now store disk last l0 l1 g0 g1 g2 status c.in-Ok.ensures.bytes ran in
     rw (c.ended.ensures, c.close.ensures) all
 
@@ -49,7 +49,7 @@ returns-in-Ok-clause-reason g c =
     let began = c.new-engine.ensures.begins c.requires in
     let ran = subst (λ (k : Store _). Exchanges l0 l1 g0 g1 (Runs d.may_leave d.moment d.left_since address store k.disk last l1 status)) core_is (c.tell_all-outcome.ensures.ran store began) in
     let reason = subst (λ (k : Store _). StopsAtFault (record { source = g.S.Source.faults c.args.source.now; sink = g.K.Sink.faults c.args.sink.now; disk = d.faults k.disk })
-        (record { source = g.S.Source.faults c.tell_all-outcome.new.source; sink = g.K.Sink.faults c.tell_all-outcome.new.sink; disk = d.faults last }) status) core_is c.tell_all-outcome.ensures.reason in
+    (record { source = g.S.Source.faults c.tell_all-outcome.new.source; sink = g.K.Sink.faults c.tell_all-outcome.new.sink; disk = d.faults last }) status) core_is c.tell_all-outcome.ensures.reason in
     let all = reason_finished (g.S.Source.faults c.args.source.now) (g.S.Source.faults c.tell_all-outcome.new.source) (g.K.Sink.faults c.args.sink.now) (g.K.Sink.faults c.tell_all-outcome.new.sink) (d.faults disk) (d.faults last) (g.K.Sink.faults c.finish.new.self) status reason c.in-Ok.ensures.cause.succeeded in
     rw (c.ended.ensures, c.close.ensures) all
 
@@ -71,9 +71,9 @@ returns-in-Ok-clause-behind_source g c = λ is.
     let began = c.new-engine.ensures.begins c.requires in
     let ran = subst (λ (k : Store _). Exchanges l0 l1 g0 g1 (Runs d.may_leave d.moment d.left_since address store k.disk last l1 status)) core_is (c.tell_all-outcome.ensures.ran store began) in
     let reason = subst (λ (k : Store _). StopsAtFault (record { source = g.S.Source.faults c.args.source.now; sink = g.K.Sink.faults c.args.sink.now; disk = d.faults k.disk })
-        (record { source = g.S.Source.faults c.tell_all-outcome.new.source; sink = g.K.Sink.faults c.tell_all-outcome.new.sink; disk = d.faults last }) status) core_is c.tell_all-outcome.ensures.reason in
+    (record { source = g.S.Source.faults c.tell_all-outcome.new.source; sink = g.K.Sink.faults c.tell_all-outcome.new.sink; disk = d.faults last }) status) core_is c.tell_all-outcome.ensures.reason in
     let all = behind_source (g.S.Source.faults c.args.source.now) (g.S.Source.faults c.tell_all-outcome.new.source) (g.K.Sink.faults c.args.sink.now) (g.K.Sink.faults c.tell_all-outcome.new.sink) (d.faults disk) (d.faults last) (λ (s : Status). Exchanges l0 l1 g0 g2 (Runs d.may_leave d.moment d.left_since address store disk last l1 s)) status reason
-        (finished address d.contents d.may_leave d.moment d.left_since laws.counts_now store disk last l0 l1 g0 g1 g2 status c.in-Ok.ensures.bytes ran) in
+    (finished address d.contents d.may_leave d.moment d.left_since laws.counts_now store disk last l0 l1 g0 g1 g2 status c.in-Ok.ensures.bytes ran) in
     rw c.close.ensures all
 
 pub returns-in-Ok-clause-behind_disk : goal.returns-in-Ok-clause-behind_disk
@@ -94,9 +94,9 @@ returns-in-Ok-clause-behind_disk g c = λ is.
     let began = c.new-engine.ensures.begins c.requires in
     let ran = subst (λ (k : Store _). Exchanges l0 l1 g0 g1 (Runs d.may_leave d.moment d.left_since address store k.disk last l1 status)) core_is (c.tell_all-outcome.ensures.ran store began) in
     let reason = subst (λ (k : Store _). StopsAtFault (record { source = g.S.Source.faults c.args.source.now; sink = g.K.Sink.faults c.args.sink.now; disk = d.faults k.disk })
-        (record { source = g.S.Source.faults c.tell_all-outcome.new.source; sink = g.K.Sink.faults c.tell_all-outcome.new.sink; disk = d.faults last }) status) core_is c.tell_all-outcome.ensures.reason in
+    (record { source = g.S.Source.faults c.tell_all-outcome.new.source; sink = g.K.Sink.faults c.tell_all-outcome.new.sink; disk = d.faults last }) status) core_is c.tell_all-outcome.ensures.reason in
     let all = behind_disk (g.S.Source.faults c.args.source.now) (g.S.Source.faults c.tell_all-outcome.new.source) (g.K.Sink.faults c.args.sink.now) (g.K.Sink.faults c.tell_all-outcome.new.sink) (d.faults disk) (d.faults last) (λ (s : Status). Exchanges l0 l1 g0 g2 (Runs d.may_leave d.moment d.left_since address store disk last l1 s)) status reason
-        (finished address d.contents d.may_leave d.moment d.left_since laws.counts_now store disk last l0 l1 g0 g1 g2 status c.in-Ok.ensures.bytes ran) in
+    (finished address d.contents d.may_leave d.moment d.left_since laws.counts_now store disk last l0 l1 g0 g1 g2 status c.in-Ok.ensures.bytes ran) in
     rw c.close.ensures all
 
 pub returns-in-Err-clause-ran : goal.returns-in-Err-clause-ran
@@ -117,7 +117,7 @@ returns-in-Err-clause-ran g c =
     let began = c.new-engine.ensures.begins c.requires in
     let ran = subst (λ (k : Store _). Exchanges l0 l1 g0 g1 (Runs d.may_leave d.moment d.left_since address store k.disk last l1 status)) core_is (c.tell_all-outcome.ensures.ran store began) in
     let reason = subst (λ (k : Store _). StopsAtFault (record { source = g.S.Source.faults c.args.source.now; sink = g.K.Sink.faults c.args.sink.now; disk = d.faults k.disk })
-        (record { source = g.S.Source.faults c.tell_all-outcome.new.source; sink = g.K.Sink.faults c.tell_all-outcome.new.sink; disk = d.faults last }) status) core_is c.tell_all-outcome.ensures.reason in
+    (record { source = g.S.Source.faults c.tell_all-outcome.new.source; sink = g.K.Sink.faults c.tell_all-outcome.new.sink; disk = d.faults last }) status) core_is c.tell_all-outcome.ensures.reason in
     let all = unfinished address d.contents d.may_leave d.moment d.left_since laws.counts_now store disk last l0 l1 g0 g1 g2 status c.in-Err.ensures.bytes ran in
     rw c.close-in-Err.ensures all
 
@@ -139,7 +139,7 @@ returns-in-Err-clause-reason g c =
     let began = c.new-engine.ensures.begins c.requires in
     let ran = subst (λ (k : Store _). Exchanges l0 l1 g0 g1 (Runs d.may_leave d.moment d.left_since address store k.disk last l1 status)) core_is (c.tell_all-outcome.ensures.ran store began) in
     let reason = subst (λ (k : Store _). StopsAtFault (record { source = g.S.Source.faults c.args.source.now; sink = g.K.Sink.faults c.args.sink.now; disk = d.faults k.disk })
-        (record { source = g.S.Source.faults c.tell_all-outcome.new.source; sink = g.K.Sink.faults c.tell_all-outcome.new.sink; disk = d.faults last }) status) core_is c.tell_all-outcome.ensures.reason in
+    (record { source = g.S.Source.faults c.tell_all-outcome.new.source; sink = g.K.Sink.faults c.tell_all-outcome.new.sink; disk = d.faults last }) status) core_is c.tell_all-outcome.ensures.reason in
     let all = reason_unfinished (g.S.Source.faults c.args.source.now) (g.S.Source.faults c.tell_all-outcome.new.source) (g.K.Sink.faults c.args.sink.now) (g.K.Sink.faults c.tell_all-outcome.new.sink) (d.faults disk) (d.faults last) (g.K.Sink.faults c.finish.new.self) status reason c.in-Err.ensures.cause.later c.in-Err.ensures.cause.failed in
     rw c.close-in-Err.ensures all
 
@@ -161,9 +161,9 @@ returns-in-Err-clause-behind_source g c = λ is.
     let began = c.new-engine.ensures.begins c.requires in
     let ran = subst (λ (k : Store _). Exchanges l0 l1 g0 g1 (Runs d.may_leave d.moment d.left_since address store k.disk last l1 status)) core_is (c.tell_all-outcome.ensures.ran store began) in
     let reason = subst (λ (k : Store _). StopsAtFault (record { source = g.S.Source.faults c.args.source.now; sink = g.K.Sink.faults c.args.sink.now; disk = d.faults k.disk })
-        (record { source = g.S.Source.faults c.tell_all-outcome.new.source; sink = g.K.Sink.faults c.tell_all-outcome.new.sink; disk = d.faults last }) status) core_is c.tell_all-outcome.ensures.reason in
+    (record { source = g.S.Source.faults c.tell_all-outcome.new.source; sink = g.K.Sink.faults c.tell_all-outcome.new.sink; disk = d.faults last }) status) core_is c.tell_all-outcome.ensures.reason in
     let all = behind_source (g.S.Source.faults c.args.source.now) (g.S.Source.faults c.tell_all-outcome.new.source) (g.K.Sink.faults c.args.sink.now) (g.K.Sink.faults c.tell_all-outcome.new.sink) (d.faults disk) (d.faults last) (λ (s : Status). Exchanges l0 l1 g0 g2 (Runs d.may_leave d.moment d.left_since address store disk last l1 s)) status reason
-        (finished address d.contents d.may_leave d.moment d.left_since laws.counts_now store disk last l0 l1 g0 g1 g2 status c.in-Err.ensures.bytes ran) in
+    (finished address d.contents d.may_leave d.moment d.left_since laws.counts_now store disk last l0 l1 g0 g1 g2 status c.in-Err.ensures.bytes ran) in
     rw c.close-in-Err.ensures all
 
 pub returns-in-Err-clause-behind_disk : goal.returns-in-Err-clause-behind_disk
@@ -184,7 +184,7 @@ returns-in-Err-clause-behind_disk g c = λ is.
     let began = c.new-engine.ensures.begins c.requires in
     let ran = subst (λ (k : Store _). Exchanges l0 l1 g0 g1 (Runs d.may_leave d.moment d.left_since address store k.disk last l1 status)) core_is (c.tell_all-outcome.ensures.ran store began) in
     let reason = subst (λ (k : Store _). StopsAtFault (record { source = g.S.Source.faults c.args.source.now; sink = g.K.Sink.faults c.args.sink.now; disk = d.faults k.disk })
-        (record { source = g.S.Source.faults c.tell_all-outcome.new.source; sink = g.K.Sink.faults c.tell_all-outcome.new.sink; disk = d.faults last }) status) core_is c.tell_all-outcome.ensures.reason in
+    (record { source = g.S.Source.faults c.tell_all-outcome.new.source; sink = g.K.Sink.faults c.tell_all-outcome.new.sink; disk = d.faults last }) status) core_is c.tell_all-outcome.ensures.reason in
     let all = behind_disk (g.S.Source.faults c.args.source.now) (g.S.Source.faults c.tell_all-outcome.new.source) (g.K.Sink.faults c.args.sink.now) (g.K.Sink.faults c.tell_all-outcome.new.sink) (d.faults disk) (d.faults last) (λ (s : Status). Exchanges l0 l1 g0 g2 (Runs d.may_leave d.moment d.left_since address store disk last l1 s)) status reason
-        (finished address d.contents d.may_leave d.moment d.left_since laws.counts_now store disk last l0 l1 g0 g1 g2 status c.in-Err.ensures.bytes ran) in
+    (finished address d.contents d.may_leave d.moment d.left_since laws.counts_now store disk last l0 l1 g0 g1 g2 status c.in-Err.ensures.bytes ran) in
     rw c.close-in-Err.ensures all

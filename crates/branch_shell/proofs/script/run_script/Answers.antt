@@ -121,7 +121,7 @@ returns-in-Err-clause-wrote g c =
     let told = g.D.Disk.contents c.args.disk in
     let address = g.A.Address.address in
     let w = answers_map (λ whole. ⊥) (λ whole. open_refusal_text c.in-Err.refusal ≡ Some whole) (λ whole. ⊥) (SaysRefused document address told) (λ whole no. no)
-        (says_refused document address told c.in-Err.refusal c.in-Err.ensures.refused c.in-Err.ensures.refused_only) c.refuse.result (g.K.Sink.given c.args.sink.now) (g.K.Sink.given c.refuse.new.sink) c.refuse.ensures.wrote in
+    (says_refused document address told c.in-Err.refusal c.in-Err.ensures.refused c.in-Err.ensures.refused_only) c.refuse.result (g.K.Sink.given c.args.sink.now) (g.K.Sink.given c.refuse.new.sink) c.refuse.ensures.wrote in
     ([], w.0, Consumes-nil (g.S.Source.left c.args.source.now), w.1, inl (refl, w.2))
 
 pub returns-in-Err-clause-crashes : goal.returns-in-Err-clause-crashes
@@ -131,7 +131,7 @@ returns-in-Err-clause-crashes g c store holds =
     let told = d.contents c.args.disk in
     let address = g.A.Address.address in
     let w = answers_map (λ whole. ⊥) (λ whole. open_refusal_text c.in-Err.refusal ≡ Some whole) (λ whole. ⊥) (SaysRefused document address told) (λ whole no. no)
-        (says_refused document address told c.in-Err.refusal c.in-Err.ensures.refused c.in-Err.ensures.refused_only) c.refuse.result (g.K.Sink.given c.args.sink.now) (g.K.Sink.given c.refuse.new.sink) c.refuse.ensures.wrote in
+    (says_refused document address told c.in-Err.refusal c.in-Err.ensures.refused c.in-Err.ensures.refused_only) c.refuse.result (g.K.Sink.given c.args.sink.now) (g.K.Sink.given c.refuse.new.sink) c.refuse.ensures.wrote in
     crashes_refused address d.contents d.may_leave d.moment d.left_since laws.counts_now c.args.disk c.in-Err.disk store (g.S.Source.left c.args.source.now) (g.K.Sink.given c.args.sink.now) (g.K.Sink.given c.refuse.new.sink) c.refuse.result holds c.in-Err.ensures.any_moment_err w
 
 pub returns-in-Err-clause-refused_only : goal.returns-in-Err-clause-refused_only

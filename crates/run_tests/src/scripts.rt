@@ -1,54 +1,21 @@
-// Scripts through the top call.
-use crate::{Status, run};
+// Scripts over a fresh store, and what they reply.
+use crate::stores::{Outcome, fresh, ran, says};
 use branch_address::Sha256Address;
-use branch_disk::MemoryDisk;
-use branch_io::{MemorySink, MemorySource};
+use branch_shell::Status;
 use std::alloc::Global;
 use std::process::Abort;
 use std::test::Fail;
 
-// What a command answers and writes over a disk; the listed calls of the source and of the sink fail.
-fn ran(
-    alloc: Global,
-    command: &str,
-    input: &[u8],
-    source_fails: &[u64],
-    sink_fails: &[u64],
-    disk: MemoryDisk,
-) -> Result<(Status, Vec<u8>, MemoryDisk), Fail> {
-    let mut words = Vec::new(alloc);
-    for word in command.split(' ') {
-        words.push(String::from_str(alloc, word)?)?;
-    }
-    let mut source = MemorySource::new(input.to_vec(alloc)?, 16, source_fails.to_vec(alloc)?);
-    let mut sink = MemorySink::new(sink_fails.to_vec(alloc)?);
-    let (status, disk) = run::<_, _, _, Sha256Address>(alloc, &words, &mut source, &mut sink, disk);
-    Ok((status, sink.bytes().to_vec(alloc)?, disk))
-}
-
-// A disk that `init` made a store of.
-fn fresh(alloc: Global) -> Result<MemoryDisk, Fail> {
-    let (_, _, disk) = ran(alloc, "init", b"", &[], &[], MemoryDisk::new(Vec::new(alloc)))?;
-    Ok(disk)
-}
-
-// What a script answers and writes over a fresh store; the listed calls of the source and of the sink fail.
-fn played(
-    alloc: Global,
-    input: &[u8],
-    source_fails: &[u64],
-    sink_fails: &[u64],
-) -> Result<(Status, Vec<u8>), Fail> {
-    let (status, text, _) = ran(alloc, "script", input, source_fails, sink_fails, fresh(alloc)?)?;
-    Ok((status, text))
+// What a script does over a fresh store.
+fn played(rt: &impl Abort, alloc: Global, input: &[u8]) -> Result<Outcome, Fail> {
+    ran::<Sha256Address>(alloc, "script", input, fresh(rt, alloc)?)
 }
 
 // Each script ends Done, with these replies.
 fn all_done(rt: &impl Abort, alloc: Global, rows: &[(&[u8], &[u8])]) -> Result<(), Fail> {
     for (input, output) in rows.iter() {
-        let (status, text) = played(alloc, input, &[], &[])?;
-        assert_eq!(rt; status, Status::Done);
-        assert_eq!(rt; text.as_slice(), *output);
+        let disk = fresh(rt, alloc)?;
+        says::<Sha256Address>(rt, alloc, "script", input, disk, (Status::Done, *output))?;
     }
     Ok(())
 }
@@ -229,9 +196,9 @@ fn every_kind_merges_criss_cross(rt: HostRuntime) -> Result<(), Fail> {
         ),
     ];
     for (ops, query, ends) in rows.iter() {
-        let (status, text) = played(rt.alloc(), &criss_cross(rt.alloc(), ops, query)?, &[], &[])?;
-        assert_eq!(rt; status, Status::Done);
-        assert!(rt; text.ends_with(ends));
+        let ran = played(&rt, rt.alloc(), &criss_cross(rt.alloc(), ops, query)?)?;
+        assert_eq!(rt; ran.status, Status::Done);
+        assert!(rt; ran.text.ends_with(ends));
     }
     Ok(())
 }
@@ -251,9 +218,12 @@ fn many_rounds(alloc: Global, count: u32) -> Result<Vec<u8>, Fail> {
 
 #[test]
 fn five_hundred_rounds(rt: HostRuntime) -> Result<(), Fail> {
-    let (status, text) = played(rt.alloc(), &many_rounds(rt.alloc(), 500)?, &[], &[])?;
-    assert_eq!(rt; status, Status::Done);
-    assert!(rt; text.ends_with(b"merged #1999\nmerged #2000\nmerged #2001\n1000\n"));
+    let ran = played(&rt, rt.alloc(), &many_rounds(rt.alloc(), 500)?)?;
+    assert_eq!(rt; ran.status, Status::Done);
+    assert!(rt;
+        ran.text
+            .ends_with(b"merged #1999\nmerged #2000\nmerged #2001\n1000\n")
+    );
     Ok(())
 }
 
@@ -280,76 +250,6 @@ fn hostile_lines(rt: HostRuntime) -> Result<(), Fail> {
         ),
     ];
     all_done(&rt, rt.alloc(), &rows)
-}
-
-#[test]
-fn lines_and_their_length(rt: HostRuntime) -> Result<(), Fail> {
-    let alloc = rt.alloc();
-    let mut line = Vec::new(alloc);
-    for _ in 0..4095 {
-        line.push(b'x')?;
-    }
-    let (status, text) = played(alloc, &line, &[], &[])?;
-    assert_eq!(rt; status, Status::Done);
-    assert_eq!(rt; text.as_slice(), b"error syntax\n".as_slice());
-    line.push(b'x')?;
-    let (status, text) = played(alloc, &line, &[], &[])?;
-    assert_eq!(rt; status, Status::LineTooLong);
-    assert_eq!(rt; text.len(), 0);
-    Ok(())
-}
-
-#[test]
-fn faults_in_mid_stream(rt: HostRuntime) -> Result<(), Fail> {
-    let one: &[u8] = b"a sees main at #0\n";
-    let rows: [(&[u8], &[u64], &[u64], Status, &[u8]); 5] = [
-        (b"look a main\nlo", &[2], &[], Status::ReadFault, one),
-        (b"look a main\nlo", &[2], &[2], Status::WriteFault, one),
-        (
-            b"look a main\nlook b main\n",
-            &[],
-            &[2],
-            Status::WriteFault,
-            one,
-        ),
-        (b"look a main\n", &[], &[2], Status::WriteFault, one),
-        (b"", &[], &[1], Status::WriteFault, b""),
-    ];
-    for (input, source_fails, sink_fails, ends, output) in rows.iter() {
-        let (status, text) = played(rt.alloc(), input, source_fails, sink_fails)?;
-        assert_eq!(rt; status, *ends);
-        assert_eq!(rt; text.as_slice(), *output);
-    }
-    Ok(())
-}
-
-#[test]
-fn commands_over_one_disk(rt: HostRuntime) -> Result<(), Fail> {
-    let rows: [(&str, &[u8], Status, &[u8]); 10] = [
-        ("check", b"", Status::StoreRefused, b"refused not a store\n"),
-        ("script", b"", Status::StoreRefused, b"refused not a store\n"),
-        ("init --max-clock 0", b"", Status::Usage, b""),
-        ("turn", b"", Status::Usage, b""),
-        ("init", b"", Status::Done, b"ready\n"),
-        ("init", b"", Status::StoreRefused, b"refused not empty\n"),
-        ("check", b"", Status::Done, b"branch main #0\nmoves 0 commits 1 branches 1\n"),
-        (
-            "script",
-            b"look a main\ndo a counter c add 1\n",
-            Status::Done,
-            b"a sees main at #0\nlanded #1 at 1.0\n",
-        ),
-        ("check", b"", Status::Done, b"branch main #1\nmoves 1 commits 2 branches 1\n"),
-        ("script", b"ask main counter c value\n", Status::Done, b"1\n"),
-    ];
-    let mut disk = MemoryDisk::new(Vec::new(rt.alloc()));
-    for (command, input, ends, output) in rows.iter() {
-        let (status, text, after) = ran(rt.alloc(), command, input, &[], &[], disk)?;
-        assert_eq!(rt; status, *ends);
-        assert_eq!(rt; text.as_slice(), *output);
-        disk = after;
-    }
-    Ok(())
 }
 
 #[test]
