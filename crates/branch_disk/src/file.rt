@@ -8,12 +8,14 @@ use crate::{Disk, DiskFailed, Part};
 use std::fs::{OpenFile, OpenOptions};
 use std::io;
 use std::io::{Read, Seek, SeekFrom, Write};
+use std::path::Path;
 use std::rt::Files;
 
 /// A disk over the files PATH`.objects` and PATH`.heads`. Both are opened, or made empty, at its first call. It
 /// counts each error, a write that takes nothing and a file that ends early among them.
 ///
-/// That a new file's name is there after a crash is up to the folder that it is made in.
+/// A sync is the system's `fsync` of that file. Where a file is empty at the first call, it may just have been made:
+/// then the folder of both is synced first, so that their names are there after a crash.
 #[derive(Drop)]
 pub struct FileDisk<R: Files + Drop> {
     rt: R,
@@ -90,10 +92,15 @@ impl<F: Read + Write + Seek + OpenFile> Opened<F> {
     }
 }
 
-// Opens one of the files, or makes it.
-fn open<R: Files>(rt: &R, path: &String, ending: &str) -> io::Result<R::File> {
+// The name of one of the files.
+fn name_of(path: &String, ending: &str) -> io::Result<String> {
     let mut name = path.clone()?;
     name.push_str(ending)?;
+    Ok(name)
+}
+
+// Opens one of the files, or makes it.
+fn open<R: Files>(rt: &R, name: &str) -> io::Result<R::File> {
     let mut how = OpenOptions::new();
     how.read(true);
     how.write(true);
@@ -101,12 +108,28 @@ fn open<R: Files>(rt: &R, path: &String, ending: &str) -> io::Result<R::File> {
     how.open(rt, name)
 }
 
-// Opens both files.
+// Syncs the folder in which a file of this name lies.
+fn sync_folder<R: Files>(rt: &R, name: &str) -> io::Result<()> {
+    let folder = match Path::new(name).parent() {
+        Some(folder) if !folder.as_str().is_empty() => folder.as_str(),
+        _ => ".",
+    };
+    let mut how = OpenOptions::new();
+    how.read(true);
+    how.open(rt, folder)?.sync_all()
+}
+
+// Opens both files, and syncs their folder where one of them is empty, as a new one is.
 fn open_both<R: Files>(rt: &R, path: &String) -> io::Result<Opened<R::File>> {
-    Ok(Opened {
-        objects: open(rt, path, ".objects")?,
-        heads: open(rt, path, ".heads")?,
-    })
+    let name = name_of(path, ".objects")?;
+    let mut files = Opened {
+        objects: open(rt, name.as_str())?,
+        heads: open(rt, name_of(path, ".heads")?.as_str())?,
+    };
+    if length_of(&mut files.objects)? == 0 || length_of(&mut files.heads)? == 0 {
+        sync_folder(rt, name.as_str())?;
+    }
+    Ok(files)
 }
 
 // Opens both files where they are not open yet.

@@ -1,4 +1,4 @@
-// Files whose first sync fails, and which count their syncs, for tests.
+// Files whose first sync fails, that of their folder among them, and which count their syncs, for tests.
 use std::alloc::Allocator;
 use std::cell::Cell;
 use std::fs::{Metadata, OpenFile, OpenOptions};
@@ -6,16 +6,18 @@ use std::io;
 use std::io::{ErrorKind, Read, Seek, SeekFrom, Write};
 use std::rt::Files;
 
-// The files, and how many syncs they were asked for.
+// The files, how many syncs they were asked for, and how long each of them is.
 #[derive(Drop)]
 pub struct Shaky<'a> {
     pub syncs: &'a Cell<u64>,
+    pub length: u64,
 }
 
 // One of them. It takes each byte and gives none.
 #[derive(Drop)]
 pub struct ShakyFile<'a> {
     syncs: &'a Cell<u64>,
+    length: u64,
 }
 
 fn refused<T>() -> io::Result<T> {
@@ -40,7 +42,7 @@ impl<'a> Write for ShakyFile<'a> {
 
 impl<'a> Seek for ShakyFile<'a> {
     fn seek(&mut self, _to: SeekFrom) -> io::Result<u64> {
-        Ok(0)
+        Ok(self.length)
     }
 }
 
@@ -70,7 +72,10 @@ impl<'a> Files for Shaky<'a> {
     type Dir = ShakyFile<'a>;
 
     fn open_file(&self, _how: &OpenOptions, _path: &str) -> io::Result<ShakyFile<'a>> {
-        Ok(ShakyFile { syncs: self.syncs })
+        Ok(ShakyFile {
+            syncs: self.syncs,
+            length: self.length,
+        })
     }
 
     fn open_dir(&self, _path: &str) -> io::Result<ShakyFile<'a>> {

@@ -139,10 +139,30 @@ fn files_hold_what_was_written(rt: HostRuntime) -> Result<(), Fail> {
 #[test]
 fn a_sync_is_asked_for_once(rt: HostRuntime) -> Result<(), Fail> {
     let syncs = Cell::new(0);
-    let mut disk = FileDisk::new(Shaky { syncs: &syncs }, "store".to_string(rt.alloc())?);
+    let files = Shaky {
+        syncs: &syncs,
+        length: 1,
+    };
+    let mut disk = FileDisk::new(files, "store".to_string(rt.alloc())?);
     assert_eq!(rt; disk.sync(Part::Heads), Err(DiskFailed));
     assert_eq!(rt; syncs.get(), 1);
     assert_eq!(rt; disk.sync(Part::Heads), Ok(()));
+    assert_eq!(rt; syncs.get(), 2);
+    Ok(())
+}
+
+#[test]
+fn the_folder_of_empty_files_is_synced(rt: HostRuntime) -> Result<(), Fail> {
+    let syncs = Cell::new(0);
+    let files = Shaky {
+        syncs: &syncs,
+        length: 0,
+    };
+    let mut disk = FileDisk::new(files, "store".to_string(rt.alloc())?);
+    assert_eq!(rt; disk.length(Part::Heads), Err(DiskFailed));
+    assert_eq!(rt; syncs.get(), 1);
+    assert_eq!(rt; disk.length(Part::Heads), Ok(0));
+    assert_eq!(rt; disk.length(Part::Objects), Ok(0));
     assert_eq!(rt; syncs.get(), 2);
     Ok(())
 }
