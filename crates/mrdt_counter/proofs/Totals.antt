@@ -3,7 +3,8 @@ use Rattle.std.proofs.Common.{ℕ, ◌*◌, ◌^◌, ◌<◌, ℤ, pos, ◌+ℤ�
 use Rattle.std.proofs.lemmas.Int.{ints}
 use Rattle.std.specs.Int.{w128}
 use Rattle.mrdt_counter.specs.declared.counter.CounterOp.{CounterOp}
-use Rattle.mrdt_counter.specs.Counter.{total, amount, IsAmount, IsAnyReply, no_reply}
+use Rattle.mrdt_counter.specs.Counter.{total, amount, IsAmount}
+use Rattle.live_set.specs.UnitReply.{IsAnyReply, no_reply}
 use Rattle.mrdt_model.specs.declared.time.Time.{Time}
 use Rattle.mrdt_model.specs.Executions.{Event, restrict, IsWellFormed, IsLawful}
 

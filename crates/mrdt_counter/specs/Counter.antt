@@ -5,6 +5,7 @@ use Rattle.mrdt_model.specs.Executions.{Event}
 use Rattle.mrdt_model.specs.Laws.{Meaning}
 use Rattle.branch_wire.specs.Fields.{signed_number, wide_signed_number}
 use Rattle.branch_wire.specs.Reading.{HasLength}
+use Rattle.live_set.specs.UnitReply.{IsAnyReply, no_reply, unit_spelling, IsUnitSpelling}
 use Rattle.mrdt_counter.specs.declared.counter.CounterOp.{CounterOp}
 use Rattle.mrdt_counter.specs.declared.counter.CounterOp.TheVariants.{Add}
 use Rattle.mrdt_counter.specs.declared.counter.CounterQuery.{CounterQuery}
@@ -20,13 +21,6 @@ total (e ∷ x) = amount e.operation +ℤ total x
 abbrev pub IsAmount : CounterOp → Type 0
 IsAmount op = FitsSigned w64 (amount op)
 
--- an operation replies nothing
-abbrev pub no_reply : List (Event CounterOp (Unit {0})) → CounterOp → Unit {0}
-no_reply x op = tt
-
-abbrev pub IsAnyReply : Unit {0} → Type 0
-IsAnyReply reply = Unit {0}
-
 abbrev pub StandsFor : ℤ → List (Event CounterOp (Unit {0})) → Type 0
 StandsFor c x = c ≡ total x
 
@@ -41,8 +35,8 @@ counter_meaning = record {
   is_same = λ c d. c ≡ d;
   state_spelling = wide_signed_number;
   op_spelling = λ op. signed_number (amount op);
-  reply_spelling = λ reply. [];
+  reply_spelling = unit_spelling;
   is_state_spelling = HasLength 16;
   is_op_spelling = HasLength 8;
-  is_reply_spelling = HasLength 0;
+  is_reply_spelling = IsUnitSpelling;
 }

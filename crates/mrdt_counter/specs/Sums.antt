@@ -8,7 +8,8 @@ use Rattle.mrdt_model.specs.Executions.{Event, times_of, restrict, IsWellFormed,
 use Rattle.mrdt_model.proofs.SameEvents.{HaveOwnTimes, own-times, among-event, event-first}
 use Rattle.mrdt_model.proofs.TimeSets.{same_time-eq, same_time-refl, among-restrict}
 use Rattle.mrdt_counter.specs.declared.counter.CounterOp.{CounterOp}
-use Rattle.mrdt_counter.specs.Counter.{total, amount, IsAmount, IsAnyReply}
+use Rattle.mrdt_counter.specs.Counter.{total, amount, IsAmount}
+use Rattle.live_set.specs.UnitReply.{IsAnyReply}
 
 at_event : {R : Type 0} (p q : Bool) (e : Event CounterOp R) (l r m u : List (Event CounterOp R)) → (total l +ℤ total r) -ℤ total m ≡ total u
     → (total (cond p (e ∷ l) l) +ℤ total (cond q (e ∷ r) r)) -ℤ total (cond (p && q) (e ∷ m) m) ≡ total (cond (p || q) (e ∷ u) u)

@@ -4,6 +4,7 @@ ghost use Rattle.std.specs.Int.{int_wrap, w128};
 ghost use Rattle.mrdt_counter.specs.Counter.{amount as amount_of, IsAmount};
 
 use branch_wire::{Cursor, put_i64, put_i128};
+use live_set::unit_reply;
 use mrdt_model::{Memory, Mrdt, Time, Unread};
 use std::alloc::Global;
 use std::marker::Model;
@@ -147,16 +148,12 @@ impl Mrdt for Counter {
         }
     }
 
-    fn put_reply(_reply: &(), _out: &mut Vec<u8>) -> Result<(), Memory> {
-        Ok(())
+    fn put_reply(reply: &(), out: &mut Vec<u8>) -> Result<(), Memory> {
+        unit_reply::put(reply, out)
     }
 
     fn get_reply(_alloc: Global, bytes: &[u8]) -> Result<(), Unread> {
-        if bytes.is_empty() {
-            Ok(())
-        } else {
-            Err(Unread::NotCanonical)
-        }
+        unit_reply::get(bytes)
     }
 
     ghost laws = { counter_laws };
