@@ -1,3 +1,4 @@
+pub mod Crosses
 pub mod Bridge
 pub mod FillLaws
 pub mod ImageLaws

@@ -1,3 +1,4 @@
+pub mod Crosses
 pub mod Maximal
 pub mod Members
 pub mod Painted

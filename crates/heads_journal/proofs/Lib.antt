@@ -1,3 +1,4 @@
+pub mod Crosses
 pub mod Blocks
 pub mod Bytes
 pub mod Create

@@ -1,2 +1,3 @@
+pub mod Crosses
 pub mod Joined
 pub mod Keyed

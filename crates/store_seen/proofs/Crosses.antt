@@ -1,0 +1,26 @@
+-- A history in memory may go to another thread, and a look at it may be shared, where the type's values, operations and replies may. It goes by steps, as a store has the history beside a disk.
+use denote.RattleType.{RattleType}
+use denote.Param.Send.{IsSend, IsSync, sendable}
+use Rattle.std.proofs.Crossing.{crosses}
+use Rattle.mrdt_model.specs.declared.mrdt.Mrdt as mrdt
+use Rattle.branch_names.proofs.Crosses.{Heads-send}
+use Rattle.branch_history.specs.contracts.moves.Move as Move
+use Rattle.virtual_base.proofs.Crosses.{Nodes-send, Nodes-sync, Memo-send}
+use Rattle.store_seen.specs.contracts.shared.SharedNodes as SharedNodes
+use Rattle.store_seen.specs.contracts.versions.Versions as Versions
+
+module _ (T O Q W R : RattleType) (m : mrdt.Ghosts T.Denot O.Denot Q.Denot W.Denot R.Denot) where
+  shared_send : IsSend T → IsSync T → IsSend (SharedNodes.the_row T O Q W R m)
+  shared_send s y =
+      let a = Nodes-send T s y in
+      let b = Nodes-sync T s y in
+      let c = Memo-send T s y in search (sendable, crosses) depth 20
+
+  move_send : IsSend O → IsSend R → IsSend (Move.the_row O R)
+  move_send so sr = search sendable depth 20
+
+  pub Versions-send : IsSend T → IsSync T → IsSend O → IsSend R → IsSend (Versions.the_row T O Q W R m)
+  Versions-send s y so sr =
+      let a = shared_send s y in
+      let b = move_send so sr in
+      let c = Heads-send in search (sendable, crosses) depth 20
