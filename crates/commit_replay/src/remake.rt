@@ -41,13 +41,14 @@ pub fn remake<T: Mrdt, A: Address>(
 
 // What a plan lands on the newest head of its branch; nothing where the machine makes no move of it.
 fn prepared<T: Mrdt, A: Address>(
-    recorded: &Recorded<T, A>,
+    recorded: &mut Recorded<T, A>,
     plan: Plan<T::Op>,
 ) -> Result<Option<Prepared<T>>, Memory>
-    requires settled { recorded.now.pending ≡ [] }
-    requires there { HasPlan (store_of recorded.now.written) plan }
-    ensures some { IfOk result (λ found. IfSome found (λ p. (p.seen.history ≡ recorded.now.written) × (p.seen.limits ≡ recorded.now.limits) × (step_of {Q = T.Query} p.seen p.work ≡ step_for recorded.now.written plan))) }
-    ensures none { IfOk result (λ found. IsNone found → (full_turn (fix T.meaning recorded.now.limits A.address) recorded.now.written (step_for recorded.now.written plan)).made ≡ []) }
+    requires settled { recorded.old.pending ≡ [] }
+    requires there { HasPlan (store_of recorded.old.written) plan }
+    ensures some { IfOk result (λ found. IfSome found (λ p. (p.seen.history ≡ recorded.old.written) × (p.seen.limits ≡ recorded.old.limits) × (step_of {Q = T.Query} p.seen p.work ≡ step_for recorded.old.written plan))) }
+    ensures none { IfOk result (λ found. IsNone found → (full_turn (fix T.meaning recorded.old.limits A.address) recorded.old.written (step_for recorded.old.written plan)).made ≡ []) }
+    ensures same { recorded.new ≡ recorded.old }
 {
     match plan {
         Plan::Operation { branch, op } => prepared_operation(recorded, branch, op),
@@ -77,19 +78,19 @@ fn prepared_operation<T: Mrdt, A: Address>(
 
 // A commit merged into the newest head of a branch.
 fn prepared_merge<T: Mrdt, A: Address>(
-    recorded: &Recorded<T, A>,
+    recorded: &mut Recorded<T, A>,
     branch: u32,
     commit: u32,
 ) -> Result<Option<Prepared<T>>, Memory>
-    requires settled { recorded.now.pending ≡ [] }
-    requires branch { HasBranch (store_of recorded.now.written) branch }
-    requires commit { HasCommit (store_of recorded.now.written) commit }
-    ensures some { IfOk result (λ found. IfSome found (λ p. (p.seen.history ≡ recorded.now.written) × (p.seen.limits ≡ recorded.now.limits) × (step_of {Q = T.Query} p.seen p.work ≡ machine.Merge branch (head_of (store_of recorded.now.written).branches branch) commit))) }
-    ensures none { IfOk result (λ found. IsNone found → (full_turn (fix T.meaning recorded.now.limits A.address) recorded.now.written (machine.Merge branch (head_of (store_of recorded.now.written).branches branch) commit)).made ≡ []) }
+    requires settled { recorded.old.pending ≡ [] }
+    requires branch { HasBranch (store_of recorded.old.written) branch }
+    requires commit { HasCommit (store_of recorded.old.written) commit }
+    ensures some { IfOk result (λ found. IfSome found (λ p. (p.seen.history ≡ recorded.old.written) × (p.seen.limits ≡ recorded.old.limits) × (step_of {Q = T.Query} p.seen p.work ≡ machine.Merge branch (head_of (store_of recorded.old.written).branches branch) commit))) }
+    ensures none { IfOk result (λ found. IsNone found → (full_turn (fix T.meaning recorded.old.limits A.address) recorded.old.written (machine.Merge branch (head_of (store_of recorded.old.written).branches branch) commit)).made ≡ []) }
+    ensures same { recorded.new ≡ recorded.old }
 {
     let seen = look_at(recorded, branch)?;
-    let pair = recorded.pair_at(&seen, commit)?;
-    match pair.prepare() {
+    match recorded.prepare_at(&seen, commit) {
         Ok(PairStep::Same) => Ok(None),
         Ok(PairStep::Land(prepared)) => Ok(Some(prepared)),
         Err(PairPrepareRefused::ValueTooLarge { .. }) => Ok(None),

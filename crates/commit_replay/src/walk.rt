@@ -24,6 +24,9 @@ use mrdt_model::{Memory, Mrdt};
 use recorded_history::Recorded;
 use std::alloc::Global;
 
+// How many folds of bases are kept while a history is read back.
+const FOLDS: u32 = 4096;
+
 /// The history that the records and the bytes of objects stand for, under these limits. It is refused exactly where
 /// there is none: `NotAStore` where the objects do not begin with those of a new store, and else for the first record
 /// that goes no further.
@@ -51,11 +54,15 @@ pub fn replay<T: Mrdt, A: Address>(
     let Ok(mut recorded) = Recorded::fresh(alloc, limits) else {
         return Err(ReplayRefused::Memory);
     };
+    let Ok(()) = recorded.keep_folds(FOLDS) else {
+        return Err(ReplayRefused::Memory);
+    };
     for next in records {
         if let Err(refused) = replay_record(alloc, &mut recorded, next, objects) {
             return Err(refused);
         }
     }
+    recorded.drop_folds();
     Ok(recorded)
 }
 

@@ -1,3 +1,4 @@
+pub mod Crosses
 pub mod Steps
 pub mod Heads
 pub mod Commits

@@ -14,7 +14,7 @@ ghost use Rattle.branch_machine.specs.Fixed.{fix};
 ghost use Rattle.branch_machine.specs.Objects.{end_of, objects_of, objects_text, region};
 ghost use Rattle.branch_machine.specs.Validity.{IsFullyValid};
 ghost use Rattle.object_store.specs.Images.{AllBegin, AllCome, Grows};
-ghost use Rattle.store_seen.specs.Pairs.{IsPaired, PairRefusedAs};
+ghost use Rattle.store_seen.specs.Pairs.{IsPaired, PairRefusedAs, paired_at, IsStepOf, MergeRefusedAs};
 ghost use Rattle.store_seen.specs.Turns.{LookRefusedAs};
 ghost use Rattle.recorded_history.specs.Machine.{Forks, LandsAs};
 ghost use Rattle.recorded_history.specs.Refusals.{ForkRefusedAs, LandRefusedAs};
@@ -32,7 +32,10 @@ use object_store::Objects;
 use std::alloc::Global;
 use std::marker::Model;
 use std::snapshot::Snapshot;
-use store_seen::{ForkRefused, LookRefused, Pair, PairRefused, Prepared, Seen, Versions};
+use store_seen::{
+    ForkRefused, LookRefused, Pair, PairPrepareRefused, PairRefused, PairStep, Prepared, Seen,
+    Versions,
+};
 
 /// A history with the bytes of its files. Contracts see a `RecordedView`: the moves that are written, the one that was
 /// made and is not written yet, and the limits.
@@ -137,15 +140,38 @@ impl<T: Mrdt, A: Address> Recorded<T, A> {
         self.versions.pair(seen, from)
     }
 
-    /// Pairs a look at this history, taken now or earlier, with a commit.
-    pub fn pair_at(&self, seen: &Seen<T>, other: u32) -> Result<Pair<T>, Memory>
-        requires settled { self.now.pending ≡ [] }
-        requires history { IsPrefix seen.now.history self.now.written }
-        requires limits { seen.now.limits ≡ self.now.limits }
-        requires there { other < length (store_of self.now.written).commits }
-        ensures { IfOk result (λ pair. pair ≡ record { history = self.now.written; limits = self.now.limits; branch = seen.now.branch; head = seen.now.head; other = other }) }
+    /// Makes the merge of a commit ready to land on a look at this history, taken now or earlier: what a pair of the two
+    /// prepares, with the folds that are kept.
+    pub fn prepare_at(
+        &mut self,
+        seen: &Seen<T>,
+        other: u32,
+    ) -> Result<PairStep<T>, PairPrepareRefused>
+        requires settled { self.old.pending ≡ [] }
+        requires history { IsPrefix seen.now.history self.old.written }
+        requires limits { seen.now.limits ≡ self.old.limits }
+        requires there { other < length (store_of self.old.written).commits }
+        ensures step { IfOk result (IsStepOf T.meaning (paired_at (core_of self.old) seen.now other)) }
+        ensures refused { IfErr result (MergeRefusedAs T.meaning (paired_at (core_of self.old) seen.now other)) }
+        ensures same { self.new ≡ self.old }
     {
-        self.versions.pair_at(seen, other)
+        self.versions.prepare_at(seen, other)
+    }
+
+    /// Keeps at most so many folds of bases from now on, for `prepare_at`. They are kept until `drop_folds`, or
+    /// until a commit is undone.
+    pub fn keep_folds(&mut self, limit: u32) -> Result<(), Memory>
+        requires { 0 < limit }
+        ensures { self.new ≡ self.old }
+    {
+        self.versions.keep_folds(limit)
+    }
+
+    /// Keeps no folds any more. It takes no memory.
+    pub fn drop_folds(&mut self)
+        ensures { self.new ≡ self.old }
+    {
+        self.versions.drop_folds();
     }
 
     /// Whether a commit is another one or lies above it.

@@ -1,3 +1,4 @@
+pub mod Crosses
 pub mod Named
 pub mod Looks
 pub mod Readies
@@ -6,6 +7,7 @@ pub mod Landable
 pub mod Pairs
 pub mod Cores
 pub mod Firsts
+pub mod Folds
 pub mod Undone
 pub mod Backs
 pub mod Writes

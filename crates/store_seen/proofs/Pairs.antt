@@ -4,20 +4,29 @@ use mathlib.Core.List.{IsPrefix}
 use Rattle.mrdt_model.specs.Executions.{Event}
 use Rattle.mrdt_model.specs.Laws.{Meaning, KeepsLaws, Merges}
 use Rattle.branch_graph.specs.Graph.{reaches, maximal_common}
+use Rattle.branch_names.specs.declared.limits.Limits.{Limits}
 use Rattle.branch_history.specs.declared.moves.Move.{Move}
 use Rattle.branch_history.specs.Commits.{Commit, graph_of, clock_of, visible, visible_at_all, all_events}
 use Rattle.branch_history.specs.History.{store_of}
 use Rattle.branch_history.specs.Laws.{IsSameAtAll, AreCommits, MergesLists, SeesAlone}
 use Rattle.branch_history.specs.Machine.{turn, answers, merge_refusal}
 use Rattle.branch_history.specs.Steps as machine
+use Rattle.branch_history.specs.Validity.{IsValid}
 use Rattle.branch_history.proofs.Kept.{IsKept, visible_at_all-closed, closed-lawful}
 use Rattle.branch_history.proofs.Later.{commits-longer, longer-same_at_all, merge_refusal-same}
 use Rattle.branch_history.proofs.Turns.{merge-too_large, merge-none, merge-same, merge-unprepared}
 use Rattle.virtual_base.specs.Nodes.{NodesView, AreNodesOf, IsFold}
 use Rattle.store_seen.specs.Keeps.{IsSeen, IsReadyMerge}
+use Rattle.store_seen.specs.Pairs.{IsBaseAt}
 use Rattle.store_seen.specs.Turns.{FromOn}
 use Rattle.store_seen.specs.Views.{SeenView}
 use Rattle.store_seen.proofs.Looks.{seen-kept, same-later}
+
+-- the fold of the maximal common ancestors, at a history that the nodes are of
+pub base-at : {S O R Q A : Type 0} (meaning : Meaning S O R Q A) (limits : Limits) (history : List (Move O R)) → IsValid meaning limits history → (nodes : NodesView S) → AreNodesOf meaning (store_of history).commits nodes
+    → (left right : ℕ) (base : S) → IsFold meaning nodes (maximal_common nodes.graph.commits (left ∷ []) (right ∷ [])) base → IsBaseAt meaning (store_of history).commits left right base
+base-at meaning limits history valid nodes are left right base folded =
+    subst (λ (g : List (List ℕ)). meaning.stands base (visible_at_all (store_of history).commits (maximal_common g (left ∷ []) (right ∷ [])))) are.parents (folded.stands limits history valid are)
 
 module _ {S O R Q A : Type 0} (meaning : Meaning S O R Q A) (laws : KeepsLaws meaning) (seen : SeenView (Move O R)) (is : IsSeen meaning seen) (other : ℕ) (there : other < length (store_of seen.history).commits) where
   abbrev commits : List (Commit O R)
@@ -51,10 +60,9 @@ module _ {S O R Q A : Type 0} (meaning : Meaning S O R Q A) (laws : KeepsLaws me
 
   -- the merge of the values of the two commits over that of their base
   pub merged-stands : MergesLists meaning → SeesAlone meaning → (nodes : NodesView S) → AreNodesOf meaning commits nodes
-      → (base left right merged : S) → IsFold meaning nodes (maximal_common nodes.graph.commits (seen.head ∷ []) (other ∷ [])) base → meaning.stands left (visible commits seen.head) → IsFold meaning nodes (other ∷ []) right → Merges meaning base left right merged
+      → (base left right merged : S) → IsBaseAt meaning commits seen.head other base → meaning.stands left (visible commits seen.head) → IsFold meaning nodes (other ∷ []) right → Merges meaning base left right merged
       → meaning.stands merged union
-  merged-stands lists alone nodes are base left right merged folded head_stands right_folded merges =
-      let base_stands = subst (λ (g : List (List ℕ)). meaning.stands base (visible_at_all commits (maximal_common g (seen.head ∷ []) (other ∷ [])))) are.parents (folded.stands seen.limits seen.history is.valid are) in
+  merged-stands lists alone nodes are base left right merged base_stands head_stands right_folded merges =
       let left_stands = subst (λ (x : List (Event O R)). meaning.stands left x) (sym (alone commits seen.head)) head_stands in
       lists seen.limits seen.history is.valid (seen.head ∷ []) (other ∷ []) base left right merged merges base_stands left_stands (right_folded.stands seen.limits seen.history is.valid are)
 

@@ -1,5 +1,5 @@
 -- What a core keeps of its history, and the commit that a move adds to it.
-use Rattle.std.specs.Prelude.{◌≡◌, ℕ, ◌<◌, List, [], ◌∷◌, ◌++◌, All, length, take, slice_get, Some}
+use Rattle.std.specs.Prelude.{◌≡◌, ℕ, ◌<◌, List, [], ◌∷◌, ◌++◌, All, length, take, slice_get, Some, None}
 use Rattle.std.specs.declared.option.Option.{Option}
 use Rattle.mrdt_model.specs.Executions.{Event}
 use Rattle.mrdt_model.specs.Laws.{Meaning}
@@ -10,12 +10,18 @@ use Rattle.branch_history.specs.declared.moves.Move.{Move}
 use Rattle.branch_history.specs.Commits.{graph_of, visible}
 use Rattle.branch_history.specs.History.{store_of, with_commit}
 use Rattle.branch_history.specs.Validity.{IsMove, IsValid}
+use Rattle.virtual_base.specs.Memos.{MemoView, IsMemoOf}
 use Rattle.virtual_base.specs.Nodes.{NodesView}
 use Rattle.store_seen.specs.Keeps.{IsNode}
 
 -- so many of the first nodes
 abbrev pub first_nodes : {S : Type 0} → ℕ → NodesView S → NodesView S
 first_nodes count nodes = record { graph = record nodes.graph { commits = take count nodes.graph.commits }; values = take count nodes.values; addresses = take count nodes.addresses }
+
+-- no folds are kept, or those of a memo of the nodes, of which there are some
+abbrev pub AreFoldsOf : {S O R Q A : Type 0} → Meaning S O R Q A → NodesView S → Option (MemoView S) → Type 0
+AreFoldsOf meaning nodes None = Unit {0}
+AreFoldsOf meaning nodes (Some memo) = (0 < length nodes.graph.commits) × IsMemoOf meaning nodes memo
 
 -- a valid history, the table of its branches, the graph of its commits, and a clock and a value for each of these
 pub record IsCore {S O R Q A : Type 0} (meaning : Meaning S O R Q A) (limits : Limits) (history : List (Move O R)) (table : Table) (graph : Ancestry) (clocks : List ℕ) (values : List S) : Type 0 where

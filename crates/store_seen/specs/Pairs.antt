@@ -1,9 +1,9 @@
 -- What is said of a pair, and what its preparation gives.
-use Rattle.std.specs.Prelude.{◌≡◌, ℕ, false, List, length, IsTrue, None}
+use Rattle.std.specs.Prelude.{◌≡◌, ℕ, false, List, [], ◌∷◌, length, IsTrue, None}
 use Rattle.mrdt_model.specs.Laws.{Meaning}
-use Rattle.branch_graph.specs.Graph.{reaches}
+use Rattle.branch_graph.specs.Graph.{reaches, maximal_common}
 use Rattle.branch_history.specs.declared.moves.Move.{Move}
-use Rattle.branch_history.specs.Commits.{graph_of}
+use Rattle.branch_history.specs.Commits.{Commit, graph_of, visible_at_all}
 use Rattle.branch_history.specs.History.{store_of}
 use Rattle.branch_history.specs.Machine.{turn, answers, merge_refusal}
 use Rattle.branch_history.specs.Steps as machine
@@ -19,6 +19,19 @@ use Rattle.store_seen.specs.Views.{CoreView, SeenView, PairView, Work, Operation
 -- the look of a pair, at the history on which it was paired
 abbrev pub seen_of : {M : Type 0} → PairView M → SeenView M
 seen_of pair = record { history = pair.history; limits = pair.limits; branch = pair.branch; head = pair.head }
+
+-- the pair of a look at a core, now or earlier, with a commit
+abbrev pub paired_at : {M : Type 0} → CoreView M → SeenView M → ℕ → PairView M
+paired_at core seen other = record { history = core.history; limits = core.limits; branch = seen.branch; head = seen.head; other = other }
+
+-- neither commit reaches the other
+pub record IsApart {O R : Type 0} (pair : PairView (Move O R)) : Type 0 where
+  pub above : reaches (graph_of (store_of pair.history).commits) pair.head pair.other ≡ false
+  pub below : reaches (graph_of (store_of pair.history).commits) pair.other pair.head ≡ false
+
+-- the value stands for what is visible at some maximal common ancestor of two commits
+abbrev pub IsBaseAt : {S O R Q A : Type 0} → Meaning S O R Q A → List (Commit O R) → ℕ → ℕ → S → Type 0
+IsBaseAt meaning commits left right value = meaning.stands value (visible_at_all commits (maximal_common (graph_of commits) (left ∷ []) (right ∷ [])))
 
 -- a look at a core, now or earlier, with the head that a branch has now
 pub record IsPaired {S O R Q A : Type 0} (meaning : Meaning S O R Q A) (core : CoreView (Move O R)) (seen : SeenView (Move O R)) (from : List ℕ) (pair : PairView (Move O R)) : Type 0 where

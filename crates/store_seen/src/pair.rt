@@ -1,11 +1,11 @@
 // A look paired with another commit, for a merge.
-ghost use Rattle.std.specs.Prelude.{◌≡◌, ◌∷◌, [], false, IfOk, IfErr};
+ghost use Rattle.std.specs.Prelude.{◌≡◌, ◌∷◌, [], false, IfOk, IfErr, IfSome, IsNone};
 ghost use Rattle.std.specs.Arc.{arc_value};
 ghost use Rattle.branch_graph.specs.Graph.{reaches};
 ghost use Rattle.branch_history.specs.Commits.{graph_of, visible_at_all};
 ghost use Rattle.branch_history.specs.History.{store_of};
 ghost use Rattle.store_seen.specs.Keeps.{IsMergeReady};
-ghost use Rattle.store_seen.specs.Pairs.{seen_of, IsStepOf, MergeRefusedAs};
+ghost use Rattle.store_seen.specs.Pairs.{seen_of, IsApart, IsBaseAt, IsStepOf, MergeRefusedAs};
 
 use crate::answers::PairPrepareRefused;
 use crate::prepared::{Prepared, Ready};
@@ -57,33 +57,71 @@ impl<T: Mrdt> Pair<T> {
         ensures step { IfOk result (IsStepOf T.meaning self.now) }
         ensures refused { IfErr result (MergeRefusedAs T.meaning self.now) }
     {
+        if let Some(step) = self.unmerged()? {
+            return Ok(step);
+        }
+        let base = self.base()?;
+        self.prepare_over(&base)
+    }
+
+    // What the pair is for where it needs no merge: nothing, or a move up.
+    pub(crate) fn unmerged(&self) -> Result<Option<PairStep<T>>, Memory>
+        ensures step { IfOk result (λ found. IfSome found (IsStepOf T.meaning self.now)) }
+        ensures apart { IfOk result (λ found. IsNone found → IsApart self.now) }
+    {
         let seen = &self.seen;
         let (branch, head) = (seen.branch, seen.head);
         if self.nodes.reaches(head, self.other)? {
-            return Ok(PairStep::Same);
+            return Ok(Some(PairStep::Same));
         }
-        let ready = if self.nodes.reaches(self.other, head)? {
-            Ready::Forward { commit: self.other }
-        } else {
-            self.merged()?
-        };
+        if self.nodes.reaches(self.other, head)? {
+            return Ok(Some(PairStep::Land(Prepared {
+                seen: Snapshot::of(seen),
+                branch,
+                head,
+                ready: Ready::Forward { commit: self.other },
+            })));
+        }
+        Ok(None)
+    }
+
+    // The base of the two commits.
+    fn base(&self) -> Result<T, Memory>
+        ensures { IfOk result (IsBaseAt T.meaning (store_of self.now.history).commits self.now.head self.now.other) }
+    {
+        let seen = &self.seen;
+        let base = base(&self.nodes, &[seen.head], &[self.other])?;
+        Ok(base)
+    }
+
+    // Makes the merge over this base ready, where neither commit reaches the other.
+    pub(crate) fn prepare_over(&self, base: &T) -> Result<PairStep<T>, PairPrepareRefused>
+        requires apart { IsApart self.now }
+        requires base { IsBaseAt T.meaning (store_of self.now.history).commits self.now.head self.now.other base.now }
+        ensures step { IfOk result (IsStepOf T.meaning self.now) }
+        ensures refused { IfErr result (MergeRefusedAs T.meaning self.now) }
+    {
+        let seen = &self.seen;
+        let ready = self.merged(base)?;
         Ok(PairStep::Land(Prepared {
             seen: Snapshot::of(seen),
-            branch,
-            head,
+            branch: seen.branch,
+            head: seen.head,
             ready,
         }))
     }
 
-    // The merge of the two commits, of which neither reaches the other, unless its value's spelling is too long.
-    fn merged(&self) -> Result<Ready<T, T::Op, T::Reply>, PairPrepareRefused>
+    // The merge of the two commits over this base, of which neither reaches the other, unless its value's spelling is
+    // too long.
+    fn merged(&self, base: &T) -> Result<Ready<T, T::Op, T::Reply>, PairPrepareRefused>
         requires above { reaches (graph_of (store_of self.now.history).commits) self.now.head self.now.other ≡ false }
         requires below { reaches (graph_of (store_of self.now.history).commits) self.now.other self.now.head ≡ false }
+        requires base { IsBaseAt T.meaning (store_of self.now.history).commits self.now.head self.now.other base.now }
         ensures ready { IfOk result (IsMergeReady T.meaning (seen_of self.now) self.now.other) }
         ensures refused { IfErr result (MergeRefusedAs T.meaning self.now) }
     {
         let seen = &self.seen;
-        let value = self.merged_value()?;
+        let value = self.merged_value(base)?;
         let mut bytes = Vec::new(seen.alloc);
         value.put(&mut bytes)?;
         let length = bytes.len() as u64;
@@ -99,15 +137,15 @@ impl<T: Mrdt> Pair<T> {
     }
 
     // The merge of the values of the two commits, over their base.
-    fn merged_value(&self) -> Result<T, Memory>
+    fn merged_value(&self, base: &T) -> Result<T, Memory>
+        requires { IsBaseAt T.meaning (store_of self.now.history).commits self.now.head self.now.other base.now }
         ensures { IfOk result (λ value. T.meaning.stands value (visible_at_all (store_of self.now.history).commits (self.now.head ∷ self.now.other ∷ []))) }
     {
         merges_lists::<T>();
         sees_alone::<T>();
         let seen = &self.seen;
-        let base = base(&self.nodes, &[seen.head], &[self.other])?;
         let right = self.nodes.value(self.other);
-        let value = T::merge(&base, &seen.value, right)?;
+        let value = T::merge(base, &seen.value, right)?;
         Ok(value)
     }
 }

@@ -1,8 +1,10 @@
 // Nodes that pairs may share.
-ghost use Rattle.std.specs.Prelude.{◌≡◌, ℕ, ◌-◌, ◌<◌, ◌≤◌, All, Some, length, slice_get, IfOk, OnOk, OnErr, IsErrOf};
+ghost use Rattle.std.specs.Prelude.{◌≡◌, ℕ, ◌-◌, ◌<◌, ◌≤◌, ◌∷◌, [], All, Some, length, slice_get, IfOk, OnOk, OnErr, IsErrOf};
 ghost use Rattle.std.specs.Arc.{arc_value};
-ghost use Rattle.store_seen.specs.Nodes.{first_nodes};
-ghost use Rattle.virtual_base.specs.Nodes.{no_nodes, with_node, without_last};
+ghost use Rattle.branch_graph.specs.Graph.{maximal_common};
+ghost use Rattle.store_seen.specs.Nodes.{first_nodes, AreFoldsOf};
+ghost use Rattle.virtual_base.specs.Memos.{IsMemoOf};
+ghost use Rattle.virtual_base.specs.Nodes.{IsFold, no_nodes, with_node, without_last};
 
 use branch_graph::PushRefused;
 use counted_steps::Steps;
@@ -11,7 +13,8 @@ use std::alloc::Global;
 use std::marker::{Brand, Model};
 use std::sync::Arc;
 use std::sync::ledger::{Blank, Ledger};
-use virtual_base::Nodes;
+use virtual_base::laws::keeps_memos;
+use virtual_base::{Memo, Nodes, base, base_kept};
 
 // The nodes of a history. Contracts see a `NodesView`. Behind the reference there may be more, which were taken off
 // again while a pair shared them.
@@ -20,19 +23,21 @@ pub(crate) struct SharedNodes<T: Mrdt> {
     nodes: Arc<Nodes<T>>,
     // how many of the first nodes are of these
     count: u32,
+    // the folds that are kept of their lists, if any are to be kept
+    folds: Option<Memo<T>>,
 }
 
 impl<T: Mrdt> Model for SharedNodes<T> {
     ghost use Rattle.std.specs.Prelude.{◌≤◌, length};
     ghost use Rattle.std.specs.Arc.{arc_value};
     ghost use Rattle.virtual_base.specs.Nodes.{NodesView};
-    ghost use Rattle.store_seen.specs.Nodes.{first_nodes};
+    ghost use Rattle.store_seen.specs.Nodes.{first_nodes, AreFoldsOf};
 
     ghost Value = { NodesView T };
 
     ghost view = { λ s. first_nodes s.count (arc_value s.nodes) };
 
-    ghost invariant = { λ s. s.count ≤ length (arc_value s.nodes).graph.commits };
+    ghost invariant = { λ s. (s.count ≤ length (arc_value s.nodes).graph.commits) × AreFoldsOf T.meaning (first_nodes s.count (arc_value s.nodes)) s.folds };
 }
 
 impl<T: Mrdt> SharedNodes<T> {
@@ -43,6 +48,7 @@ impl<T: Mrdt> SharedNodes<T> {
         Ok(SharedNodes {
             nodes: Arc::new(alloc, Nodes::new(alloc, limit))?,
             count: 0,
+            folds: None,
         })
     }
 
@@ -79,6 +85,35 @@ impl<T: Mrdt> SharedNodes<T> {
         share_first(&self.nodes, self.count)
     }
 
+    // Keeps at most so many folds from now on, where there are commits.
+    pub(crate) fn keep_folds(&mut self, limit: u32) -> Result<(), Memory>
+        requires { 0 < limit }
+        ensures { self.new ≡ self.old }
+    {
+        if self.count > 0 {
+            self.folds = Some(Memo::new(self.nodes.alloc(), limit)?);
+        }
+        Ok(())
+    }
+
+    // Keeps no folds any more.
+    pub(crate) fn drop_folds(&mut self)
+        ensures { self.new ≡ self.old }
+    {
+        let _dropped = self.folds.take();
+    }
+
+    // The base of two commits: the fold of their maximal common ancestors, by the folds that are kept.
+    pub(crate) fn base(&mut self, left: u32, right: u32) -> Result<T, Memory>
+        requires left { left < length self.old.graph.commits }
+        requires right { right < length self.old.graph.commits }
+        ensures folded { IfOk result (IsFold T.meaning self.old (maximal_common self.old.graph.commits (left ∷ []) (right ∷ []))) }
+        ensures same { self.new ≡ self.old }
+    {
+        let nodes = self.share()?;
+        base_by_folds(&nodes, left, right, &mut self.folds)
+    }
+
     // Puts a commit behind the others, for which there is room. It is put in place where nobody shares the nodes.
     // Else longer nodes come in their place, and who shares them keeps the old ones.
     pub(crate) fn push(
@@ -93,6 +128,8 @@ impl<T: Mrdt> SharedNodes<T> {
         ensures pushed { OnOk result (self.new ≡ with_node self.old parents.now value address) }
         ensures kept { OnErr result (self.new ≡ self.old) }
     {
+        keeps_memos::<T>();
+        let _count = self.count();
         match push_behind(&mut self.nodes, self.count, value, parents, address) {
             Ok(number) => {
                 self.count = self.nodes.count();
@@ -103,16 +140,57 @@ impl<T: Mrdt> SharedNodes<T> {
         }
     }
 
-    // Takes the last commit off again, and no memory. A pair that shares the nodes keeps them.
+    // Takes the last commit off again, and no memory. A pair that shares the nodes keeps them. Folds may be of that
+    // commit, so none are kept any more.
     pub(crate) fn pop(&mut self)
         requires { 0 < length self.old.graph.commits }
         ensures { self.new ≡ without_last self.old }
     {
+        self.folds = None;
         self.count -= 1;
         if let Some(own) = Arc::get_mut(&mut self.nodes) {
             cut(own, self.count);
         }
     }
+}
+
+// The base of two commits, by the folds that are kept, if any are.
+fn base_by_folds<T: Mrdt>(
+    nodes: &Nodes<T>,
+    left: u32,
+    right: u32,
+    folds: &mut Option<Memo<T>>,
+) -> Result<T, Memory>
+    requires left { left < length nodes.now.graph.commits }
+    requires right { right < length nodes.now.graph.commits }
+    requires folds { AreFoldsOf T.meaning nodes.now folds.old }
+    ensures folded { IfOk result (IsFold T.meaning nodes.now (maximal_common nodes.now.graph.commits (left ∷ []) (right ∷ []))) }
+    ensures folds { AreFoldsOf T.meaning nodes.now folds.new }
+{
+    match folds {
+        Some(memo) => base_by::<T, Brand>(nodes, left, right, memo, Blank::new(1)),
+        None => base(nodes, &[left], &[right]),
+    }
+}
+
+// The base of two commits, with a memo, and with steps that nobody counts.
+fn base_by<T: Mrdt, L: Ledger>(
+    nodes: &Nodes<T>,
+    left: u32,
+    right: u32,
+    memo: &mut Memo<T>,
+    blank: Blank,
+) -> Result<T, Memory>
+    requires name { blank.name ≡ L.name }
+    requires parts { blank.parts ≡ L.parts }
+    requires some { 0 < blank.parts }
+    requires left { left < length nodes.now.graph.commits }
+    requires right { right < length nodes.now.graph.commits }
+    requires memo { IsMemoOf T.meaning nodes.now memo.old }
+    ensures folded { IfOk result (IsFold T.meaning nodes.now (maximal_common nodes.now.graph.commits (left ∷ []) (right ∷ []))) }
+    ensures memo { IsMemoOf T.meaning nodes.now memo.new }
+{
+    base_kept(nodes, &[left], &[right], memo, &mut Steps::<L>::none(blank))
 }
 
 // So many of the first nodes, shared where they are all.

@@ -11,11 +11,13 @@ ghost use Rattle.branch_history.specs.Steps as machine;
 ghost use Rattle.branch_history.specs.Validity.{IsMove, IsValid};
 ghost use Rattle.store_seen.specs.Keeps.{IsReadyOperation, IsReadyMerge, IsReadyForward, AreSpelled};
 ghost use Rattle.store_seen.specs.Nodes.{AddsCommit};
-ghost use Rattle.store_seen.specs.Pairs.{IsPaired, PairRefusedAs};
+ghost use Rattle.store_seen.specs.Pairs.{IsPaired, PairRefusedAs, paired_at, IsBaseAt, IsStepOf, MergeRefusedAs};
 ghost use Rattle.store_seen.specs.Turns.{at_head, outcome_of, addresses_after, Moves, LookRefusedAs, MayLand, LandsAs, LandRefusedAs, RefusedBy, BranchAdded, Forks, ForkRefusedAs, StoodBefore, Undone, GoesBack};
 
-use crate::answers::{ForkRefused, Forked, Kind, LandRefused, Landed, LookRefused, PairRefused};
-use crate::pair::Pair;
+use crate::answers::{
+    ForkRefused, Forked, Kind, LandRefused, Landed, LookRefused, PairPrepareRefused, PairRefused,
+};
+use crate::pair::{Pair, PairStep};
 use crate::prepared::{Prepared, Ready, same_reply};
 use crate::seen::Seen;
 use crate::shared::SharedNodes;
@@ -201,6 +203,56 @@ impl<T: Mrdt> Versions<T> {
             clock: self.clocks[other as usize],
             nodes: self.nodes.share()?,
         })
+    }
+
+    /// Makes the merge of a commit ready to land on a look at this core, taken now or earlier: what `pair_at` and then
+    /// `prepare` make, with the folds that are kept.
+    pub fn prepare_at(
+        &mut self,
+        seen: &Seen<T>,
+        other: u32,
+    ) -> Result<PairStep<T>, PairPrepareRefused>
+        requires history { IsPrefix seen.now.history self.old.core.history }
+        requires limits { seen.now.limits ≡ self.old.core.limits }
+        requires there { other < length (store_of self.old.core.history).commits }
+        ensures step { IfOk result (IsStepOf T.meaning (paired_at self.old.core seen.now other)) }
+        ensures refused { IfErr result (MergeRefusedAs T.meaning (paired_at self.old.core seen.now other)) }
+        ensures same { self.new ≡ self.old }
+    {
+        let pair = self.pair_at(seen, other)?;
+        if let Some(step) = pair.unmerged()? {
+            return Ok(step);
+        }
+        let base = self.base_at(pair.seen.head, other)?;
+        pair.prepare_over(&base)
+    }
+
+    // The base of two commits.
+    fn base_at(&mut self, left: u32, right: u32) -> Result<T, Memory>
+        requires left { left < length (store_of self.old.core.history).commits }
+        requires right { right < length (store_of self.old.core.history).commits }
+        ensures base { IfOk result (IsBaseAt T.meaning (store_of self.old.core.history).commits left right) }
+        ensures same { self.new ≡ self.old }
+    {
+        let _count = self.nodes.count();
+        let base = self.nodes.base(left, right)?;
+        Ok(base)
+    }
+
+    /// Keeps at most so many folds of bases from now on, for `prepare_at`. They are kept until `drop_folds`, or
+    /// until a commit is undone.
+    pub fn keep_folds(&mut self, limit: u32) -> Result<(), Memory>
+        requires { 0 < limit }
+        ensures { self.new ≡ self.old }
+    {
+        self.nodes.keep_folds(limit)
+    }
+
+    /// Keeps no folds any more. It takes no memory.
+    pub fn drop_folds(&mut self)
+        ensures { self.new ≡ self.old }
+    {
+        self.nodes.drop_folds();
     }
 
     // The branch and the commit of a look, at the history of now.

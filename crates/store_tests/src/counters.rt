@@ -122,7 +122,6 @@ fn moved_up<R>(landed: &Landed<R>) -> Option<(u64, u32)> {
 #[test]
 fn two_forks_add(rt: HostRuntime) -> Result<(), Fail> {
     let mut core = Versions::fresh(rt.alloc(), Limits::default(), ADDRESS)?;
-    crosses_threads(&core);
     let (main, left, right) = (Name::main(), name(&rt, b"left"), name(&rt, b"right"));
     let forked = core.fork(left, &main)?;
     assert_eq!(rt; (forked.moves, forked.number, forked.head), (1, 1, 0));

@@ -1,5 +1,5 @@
 -- So many of the records are those of the history.
-use Rattle.std.proofs.Common.{◌≡◌, refl, length, take, Some, rules, subst}
+use Rattle.std.proofs.Common.{◌≡◌, ◌∙◌, refl, sym, length, take, Some, rules, subst}
 use Rattle.std.specs.Prelude.{slice_get}
 use Rattle.std.proofs.lemmas.Option.{slice_get_read}
 use Rattle.branch_wire.specs.StoredObjects.{Begins}
@@ -13,7 +13,7 @@ loop-next-init g c =
     let m = g.T.Mrdt.meaning in
     let objects = c.args.objects.now in
     let starts : take (length c.in-Ok.first.items) objects ≡ c.in-Ok.first.items = search rules in
-    walked-none m g.A.Address.address c.args.limits c.args.records.now objects c.in-Ok-fresh.recorded c.in-Ok-fresh.ensures (subst (λ text. Begins text objects) (c.in-Ok.ensures c.args.limits) starts)
+    walked-none m g.A.Address.address c.args.limits c.args.records.now objects c.keep_folds.new.self (c.keep_folds.ensures ∙ c.in-Ok-fresh.ensures) (subst (λ text. Begins text objects) (c.in-Ok.ensures c.args.limits) starts)
 
 pub returns-in-Err-clause-refused : goal.returns-in-Err-clause-refused
 returns-in-Err-clause-refused g c =
@@ -29,17 +29,17 @@ loop-next-preserved g c =
 
 pub returns-clause-settled : goal.returns-clause-settled
 returns-clause-settled g c =
-    let r = c.loop-next.recorded in
+    let r = c.drop_folds.new.self in
     let end : c.loop-next.next-index ≡ length c.args.records.now = search rules in
     walked-settled g.T.Mrdt.meaning g.A.Address.address c.args.limits c.args.records.now c.args.objects.now r
-    (subst (λ n. IsWalked (fix g.T.Mrdt.meaning c.args.limits g.A.Address.address) r n c.args.records.now c.args.objects.now) end c.loop-next.invariant)
+    (subst (λ n. IsWalked (fix g.T.Mrdt.meaning c.args.limits g.A.Address.address) r n c.args.records.now c.args.objects.now) end (subst (λ recorded. IsWalked (fix g.T.Mrdt.meaning c.args.limits g.A.Address.address) recorded c.loop-next.next-index c.args.records.now c.args.objects.now) (sym c.drop_folds.ensures) c.loop-next.invariant))
 
 pub returns-clause-replayed : goal.returns-clause-replayed
-returns-clause-replayed g c = c.loop-next.invariant.follows
+returns-clause-replayed g c = (subst (λ recorded. IsWalked (fix g.T.Mrdt.meaning c.args.limits g.A.Address.address) recorded c.loop-next.next-index c.args.records.now c.args.objects.now) (sym c.drop_folds.ensures) c.loop-next.invariant).follows
 
 pub returns-clause-all : goal.returns-clause-all
 returns-clause-all g c =
-    let r = c.loop-next.recorded in
+    let r = c.drop_folds.new.self in
     let end : c.loop-next.next-index ≡ length c.args.records.now = search rules in
     walked-all g.T.Mrdt.meaning g.A.Address.address c.args.limits c.args.records.now c.args.objects.now r
-    (subst (λ n. IsWalked (fix g.T.Mrdt.meaning c.args.limits g.A.Address.address) r n c.args.records.now c.args.objects.now) end c.loop-next.invariant)
+    (subst (λ n. IsWalked (fix g.T.Mrdt.meaning c.args.limits g.A.Address.address) r n c.args.records.now c.args.objects.now) end (subst (λ recorded. IsWalked (fix g.T.Mrdt.meaning c.args.limits g.A.Address.address) recorded c.loop-next.next-index c.args.records.now c.args.objects.now) (sym c.drop_folds.ensures) c.loop-next.invariant))
