@@ -1,3 +1,4 @@
+pub mod Crosses
 pub mod Puts
 pub mod Waiting
 pub mod Starts

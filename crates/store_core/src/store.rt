@@ -15,7 +15,7 @@ ghost use Rattle.branch_files.specs.Reading.{Opens, ReadsAs};
 ghost use Rattle.store_seen.specs.Pairs.{IsPaired, PairRefusedAs};
 ghost use Rattle.store_seen.specs.Turns.{LookRefusedAs};
 ghost use Rattle.store_core.specs.Views.{held};
-ghost use Rattle.store_core.specs.Images.{AllStand, WithOrWithout, NoneOrEmpty};
+ghost use Rattle.store_core.specs.Images.{AllStand, WithOrWithout, MayBeLeft, NoneOrEmpty};
 ghost use Rattle.store_core.specs.Turns.{step_made, LandsAs, LandRefusedAs, LandLeaves, Forks, ForkRefusedAs, ForkLeaves};
 ghost use Rattle.store_core.specs.Inits.{IsEmpty, InitRefusedAs};
 ghost use Rattle.store_core.specs.Opens.{OpenRefusedAs, ReadsOnlyAs, ReadsAsNone};
@@ -158,15 +158,25 @@ impl<T: Mrdt, D: Disk + Drop, A: Address> Core<T, D, A> {
         }
     }
 
-    /// How many moves the history has, which is a valid one. Until the disk failed, each image stands for it.
+    /// How many moves the history has, which is a valid one. Until the disk failed, each image stands for it; then each
+    /// stands for it, or for a valid one with one move more.
     pub fn moves(&self) -> u64
         ensures moves { result ≡ length self.now.history }
         ensures valid { IsFullyValid (fix T.meaning self.now.limits A.address) self.now.history }
         ensures stands { self.now.failed ≡ false → AllStand (fix T.meaning self.now.limits A.address) self.now.history (D.may_leave self.now.disk) }
+        ensures left { (c : Files) → D.may_leave self.now.disk c → MayBeLeft (fix T.meaning self.now.limits A.address) self.now.history c }
         ensures later { D.faults self.now.opened ≤ D.faults self.now.disk }
         ensures caused { self.now.failed ≡ true → Rose (D.faults self.now.opened) (D.faults self.now.disk) }
+        ensures quiet { self.now.failed ≡ false → D.faults self.now.disk ≡ D.faults self.now.opened }
     {
         self.recorded.moves()
+    }
+
+    /// Whether the disk has failed since the core was given: then nothing lands any more.
+    pub fn has_failed(&self) -> bool
+        ensures { result ≡ self.now.failed }
+    {
+        self.failed
     }
 
     /// How many commits the store holds, commit 0 counted.
