@@ -2,6 +2,7 @@
 //! queries, replies and answers.
 #![tactic(auto)]
 
+mod copies;
 pub mod doc;
 pub mod forms;
 pub mod laws;
