@@ -9,6 +9,7 @@ use Rattle.clap.specs.Faults.{fault_of}
 use Rattle.clap.specs.declared.error.kind.ErrorKind.{ErrorKind}
 use Rattle.clap.specs.declared.error.kind.ErrorKind.TheVariants.{DisplayHelp, DisplayVersion}
 use Rattle.branch_command.specs.Numbers.{Numbers, numbers_of, AreLimits}
+use Rattle.branch_command.specs.Work.{Work, work_of}
 use Rattle.branch_command.specs.Program.{program}
 use Rattle.branch_command.specs.declared.command.Command.{Command}
 use Rattle.branch_command.specs.declared.command.Command.TheVariants as read
@@ -20,6 +21,8 @@ pub data Said : Type 0 where
   Init : Numbers → Said
   Script : Said
   Check : Said
+  -- run the script that is drawn from a number
+  Generate : Work → Said
   -- tell the text of help or of the version
   Help : Said
 
@@ -45,6 +48,7 @@ said_by name given =
     if bytes_eq name (codes "init") then option_map Init (numbers_of given)
     else if bytes_eq name (codes "script") then Some Script
     else if bytes_eq name (codes "check") then Some Check
+    else if bytes_eq name (codes "generate") then option_map Generate (work_of given)
     else if bytes_eq name (codes "help") then asked_by (fault_of program (help_words (first_of (codes "command") given)))
     else None
 
@@ -70,6 +74,7 @@ abbrev pub Means : Said → Command → Type 0
 Means (Init n) (read.Init limits) = AreLimits n limits
 Means Script read.Script = Unit {0}
 Means Check read.Check = Unit {0}
+Means (Generate work) (read.Generate steps number) = work ≡ record { steps = steps; number = number }
 Means Help (read.Tell text) = Unit {0}
 Means said command = ⊥
 

@@ -16,14 +16,22 @@ version_rule = record (new_rule (codes "version")) { long = Some (codes "version
 abbrev pub topic_rule : Rule
 topic_rule = record (new_rule (codes "command")) { value_names = 1 }
 
+-- a word that a command wants
+abbrev pub wanted_rule : Text → Rule
+wanted_rule name = record (new_rule name) { required = true; value_names = 1 }
+
 -- a command of this name, which takes these and `--version`
 abbrev pub leaf : Text → List Rule → Shape
 leaf name rules = record (new_shape name) { rules = rules ++ version_rule ∷ [] }
 
+abbrev pub work_names : List Text
+work_names = codes "steps" ∷ codes "number" ∷ []
+
 abbrev pub limit_names : List Text
 limit_names = codes "max-clock" ∷ codes "max-commits" ∷ codes "max-branches" ∷ codes "max-value" ∷ codes "max-moves" ∷ []
 
--- `init [--max-clock N] ..`, `script`, `check` and `help [COMMAND]`, one of which is wanted; no program's name in front
+-- `init [--max-clock N] ..`, `script`, `check`, `generate STEPS NUMBER` and `help [COMMAND]`, one of which is wanted; no program's name in
+-- front
 unfoldable pub program : App
 program = record {
   top = record (new_shape (codes "bucketplum")) {
@@ -37,5 +45,6 @@ program = record {
     subcommand_required = true;
   };
   subs = leaf (codes "init") (map limit_rule limit_names)
-      ∷ leaf (codes "script") [] ∷ leaf (codes "check") [] ∷ leaf (codes "help") (topic_rule ∷ []) ∷ [];
+      ∷ leaf (codes "script") [] ∷ leaf (codes "check") []
+      ∷ leaf (codes "generate") (map wanted_rule work_names) ∷ leaf (codes "help") (topic_rule ∷ []) ∷ [];
 }

@@ -12,6 +12,7 @@ ghost use Rattle.clap.specs.declared.error.kind.ErrorKind.TheVariants.{OutOfMemo
 
 use crate::limits::read_limits;
 use crate::table::program;
+use crate::work::read_work;
 use branch_names::Limits;
 use clap::error::ErrorKind;
 use clap::{ArgMatches, Error as Answer};
@@ -28,6 +29,13 @@ pub enum Command {
     Script,
     /// Open the store and report.
     Check,
+    /// Run the script that is drawn from a number.
+    Generate {
+        /// How many lines are drawn, at most 1,000,000.
+        steps: u64,
+        /// The number from which they are.
+        number: u64,
+    },
     /// Tell this text, of help or of the version.
     Tell(String),
 }
@@ -101,6 +109,10 @@ fn command_named(
         },
         "script" => Ok(Command::Script),
         "check" => Ok(Command::Check),
+        "generate" => match read_work(given) {
+            Some((steps, number)) => Ok(Command::Generate { steps, number }),
+            None => Err(CommandRefused::Usage),
+        },
         "help" => tell_help(alloc, given.get_str("command")),
         _ => Err(CommandRefused::Usage),
     }

@@ -1,7 +1,7 @@
 //! What the definition of the words' command says of some words, and of options in general.
 ghost use Rattle.std.specs.Prelude.{◌≡◌, Some, None, [], ◌∷◌, codes, option_map};
 ghost use Rattle.clap.specs.Walk.{Text};
-ghost use Rattle.branch_command.specs.Commands.{Init, Script, Check, Help, command_of, init_with};
+ghost use Rattle.branch_command.specs.Commands.{Init, Script, Check, Generate, Help, command_of, init_with};
 ghost use Rattle.branch_command.specs.Numbers.{usual, number_of, all_five};
 
 /// The commands of some words, and words that say none.
@@ -22,8 +22,17 @@ pub fn words()
     ensures zero { command_of (codes "init" ∷ codes "--max-clock" ∷ codes "0" ∷ []) ≡ None }
     ensures too_large { command_of (codes "init" ∷ codes "--max-commits" ∷ codes "4294967296" ∷ []) ≡ None }
     ensures no_number { command_of (codes "init" ∷ codes "--max-clock" ∷ []) ≡ None }
+    ensures generate { command_of (codes "generate" ∷ codes "1000000" ∷ codes "0" ∷ []) ≡ Some (Generate (record { steps = 1000000; number = 0 })) }
+    ensures generate_greatest { command_of (codes "generate" ∷ codes "0" ∷ codes "18446744073709551615" ∷ [])
+        ≡ Some (Generate (record { steps = 0; number = 18446744073709551615 })) }
+    ensures generate_help { command_of (codes "generate" ∷ codes "--help" ∷ []) ≡ Some Help }
+    ensures many_steps { command_of (codes "generate" ∷ codes "1000001" ∷ codes "0" ∷ []) ≡ None }
+    ensures great_number { command_of (codes "generate" ∷ codes "0" ∷ codes "18446744073709551616" ∷ []) ≡ None }
+    ensures zeros { command_of (codes "generate" ∷ codes "00" ∷ codes "0" ∷ []) ≡ None }
+    ensures steps_alone { command_of (codes "generate" ∷ codes "1" ∷ []) ≡ None }
+    ensures one_more { command_of (codes "generate" ∷ codes "1" ∷ codes "2" ∷ codes "3" ∷ []) ≡ None }
     ensures nothing { command_of [] ≡ None }
-    ensures unknown { command_of (codes "generate" ∷ []) ≡ None }
+    ensures unknown { command_of (codes "clients" ∷ []) ≡ None }
     ensures more { command_of (codes "script" ∷ codes "x" ∷ []) ≡ None }
     ensures topic { command_of (codes "help" ∷ codes "x" ∷ []) ≡ None }
 {}

@@ -7,5 +7,6 @@ mod limits;
 mod table;
 #[cfg(test)]
 mod tests;
+mod work;
 
 pub use command::{Command, CommandRefused, read_command};

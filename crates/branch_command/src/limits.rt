@@ -7,8 +7,8 @@ ghost use Rattle.branch_command.specs.Numbers.{Numbers, number_of, number_or, nu
 use branch_names::Limits;
 use clap::ArgMatches;
 
-// The number up to `most` that a word says in decimal digits, without a sign or a leading zero.
-fn read_number(word: &str, most: u64) -> Option<u64>
+/// The number up to `most` that a word says in decimal digits, without a sign or a leading zero.
+pub(crate) fn read_number(word: &str, most: u64) -> Option<u64>
     ensures { result ≡ number_of most word.now }
 {
     let first = word.as_bytes().first()?;

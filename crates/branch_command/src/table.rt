@@ -3,7 +3,7 @@ ghost use Rattle.std.specs.Prelude.{◌≡◌, IfOk, false, codes, ◌∷◌, []
 ghost use Rattle.clap.specs.declared.builder.command.Command.TheViews.{out-Command as fields_of};
 ghost use Rattle.clap.specs.Walk.{rule_of};
 ghost use Rattle.clap.specs.Simple.{app_of, shape_of};
-ghost use Rattle.branch_command.specs.Program.{limit_rule, version_rule, topic_rule, leaf, limit_names, program};
+ghost use Rattle.branch_command.specs.Program.{limit_rule, version_rule, topic_rule, wanted_rule, leaf, limit_names, work_names, program};
 
 use clap::{Arg, ArgAction, Command};
 use std::alloc::{AllocError, Global};
@@ -32,6 +32,16 @@ fn topic<'a>(alloc: Global) -> Arg<'a>
     Arg::new(alloc, "command")
         .value_name("COMMAND")
         .help("The command to tell of")
+}
+
+// A word that a command wants.
+fn wanted<'a>(alloc: Global, name: &'a str, shown: &'a str, help: &'a str) -> Arg<'a>
+    ensures { (rule_of result ≡ wanted_rule name.entry.now) × (result.global ≡ false) }
+{
+    Arg::new(alloc, name)
+        .required(true)
+        .value_name(shown)
+        .help(help)
 }
 
 // A command without options of its own.
@@ -73,7 +83,7 @@ fn init<'a>(alloc: Global) -> Result<Command<'a>, AllocError>
     let value = limit(
         alloc,
         "max-value",
-        "Most bytes of a value, 1 to 1073741824 [default: 16777216]",
+        "Most bytes of a new value, its operation and its reply together, 1 to 1073741824 [default: 16777216]",
     );
     let moves = limit(
         alloc,
@@ -90,6 +100,29 @@ fn init<'a>(alloc: Global) -> Result<Command<'a>, AllocError>
         .arg(version(alloc))
 }
 
+// `generate STEPS NUMBER`.
+fn generate<'a>(alloc: Global) -> Result<Command<'a>, AllocError>
+    ensures { IfOk result (λ c. (shape_of c ≡ leaf (codes "generate") (map wanted_rule work_names)) × ((fields_of c).has_globals ≡ false)) }
+{
+    let steps = wanted(
+        alloc,
+        "steps",
+        "STEPS",
+        "How many lines are drawn, 0 to 1000000",
+    );
+    let number = wanted(
+        alloc,
+        "number",
+        "NUMBER",
+        "The number from which they are drawn, 0 to 18446744073709551615",
+    );
+    Command::new(alloc, "generate")
+        .about("Run a script that is drawn from a number, and print what came of it and the report")
+        .arg(steps)?
+        .arg(number)?
+        .arg(version(alloc))
+}
+
 /// The program, whose words have no program's name in front.
 pub(crate) fn program<'a>(alloc: Global) -> Result<Command<'a>, AllocError>
     ensures { IfOk result (λ c. app_of c ≡ program) }
@@ -97,10 +130,11 @@ pub(crate) fn program<'a>(alloc: Global) -> Result<Command<'a>, AllocError>
     let init = init(alloc)?;
     let script = plain(alloc, "script", "Run the lines of standard input as steps")?;
     let check = plain(alloc, "check", "Open the store and print its report")?;
+    let generate = generate(alloc)?;
     let help = help(alloc)?;
     Command::new(alloc, "bucketplum")
         .bin_name("bucketplum PATH")?
-        .about("A branch store of mergeable data types, in the file at PATH")
+        .about("A branch store of mergeable data types, in the files PATH.objects and PATH.heads")
         .version("0.1.0")
         .propagate_version(true)
         .disable_version_flag(true)
@@ -111,5 +145,6 @@ pub(crate) fn program<'a>(alloc: Global) -> Result<Command<'a>, AllocError>
         .subcommand(init)?
         .subcommand(script)?
         .subcommand(check)?
+        .subcommand(generate)?
         .subcommand(help)
 }

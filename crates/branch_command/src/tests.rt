@@ -29,6 +29,15 @@ fn read_as(alloc: Global, text: &str) -> Result<&'static str, AllocError> {
         }
         Ok(Command::Script) => "script",
         Ok(Command::Check) => "check",
+        Ok(Command::Generate { steps, number }) => {
+            if steps == 0 && number == 0 {
+                "generate at least"
+            } else if steps == 1_000_000 && number == u64::MAX {
+                "generate at most"
+            } else {
+                "generate"
+            }
+        }
         Ok(Command::Tell(_)) => "tell",
         Err(CommandRefused::Usage) => "usage",
         Err(CommandRefused::Memory) => "memory",
@@ -73,7 +82,19 @@ fn words_and_commands(rt: HostRuntime) -> Result<(), AllocError> {
         ("init --max-moves 281474976710657", "usage"),
         ("init --max-clock 5 --max-clock 5", "usage"),
         ("--max-clock 5 init", "usage"),
-        ("generate 1 1", "usage"),
+        ("generate 0 0", "generate at least"),
+        ("generate 1000000 18446744073709551615", "generate at most"),
+        ("generate 2000 7", "generate"),
+        ("generate 1000001 7", "usage"),
+        ("generate 1 18446744073709551616", "usage"),
+        ("generate 01 7", "usage"),
+        ("generate 1 00", "usage"),
+        ("generate 1 +7", "usage"),
+        ("generate -1 7", "usage"),
+        ("generate 1", "usage"),
+        ("generate", "usage"),
+        ("generate 1 7 7", "usage"),
+        ("generate --steps 1 --number 7", "usage"),
         ("clients 1 1 1", "usage"),
         ("-V", "usage"),
         ("--help", "tell"),
@@ -84,7 +105,10 @@ fn words_and_commands(rt: HostRuntime) -> Result<(), AllocError> {
         ("script -h", "tell"),
         ("check --version", "tell"),
         ("help init", "tell"),
-        ("help generate", "usage"),
+        ("generate --help", "tell"),
+        ("generate 1 7 -h", "tell"),
+        ("help generate", "tell"),
+        ("help clients", "usage"),
     ];
     for (text, wanted) in rows {
         let found = read_as(rt.alloc(), text)?;
@@ -101,7 +125,13 @@ fn texts(rt: HostRuntime) -> Result<(), AllocError> {
         ("--help", "init "),
         ("--help", "script "),
         ("--help", "check "),
+        ("--help", "generate "),
+        ("--help", "in the files PATH.objects and PATH.heads"),
         ("help init", "Usage: bucketplum PATH init [OPTIONS]\n"),
+        (
+            "generate -h",
+            "Usage: bucketplum PATH generate <STEPS> <NUMBER>\n",
+        ),
         ("init -h", "--max-clock <N>"),
         ("init -h", "--max-commits <N>"),
         ("init -h", "--max-branches <N>"),

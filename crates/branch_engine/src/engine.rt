@@ -310,6 +310,13 @@ impl<D: Disk + Drop, A: Address> Engine<D, A> {
         replied(put_line_refusal(out, refusal))
     }
 
+    /// The core to which the lines are told.
+    pub fn core(&self) -> &Core<Doc, D, A>
+        ensures { result.now ≡ self.now.core }
+    {
+        &self.core
+    }
+
     /// Hands the disk back. It makes no device call, and takes no memory.
     pub fn close(self) -> D
         ensures { result ≡ self.core.disk }

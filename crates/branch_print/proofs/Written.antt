@@ -1,5 +1,5 @@
 -- Texts that are written piece by piece.
-use Rattle.std.proofs.Common.{◌≡◌, ℕ, ◌++◌, List, [], ◌∷◌, ◌<◌, suc, length, get_or, take, drop, drop-cons, ap, sym, ◌∙◌, subst, Result, OnErr, Option, None, Some, MatchOption}
+use Rattle.std.proofs.Common.{◌≡◌, ℕ, ◌++◌, List, [], ◌∷◌, ◌<◌, suc, length, get_or, take, drop, drop-cons, ap, sym, ◌∙◌, subst, Result, Ok, Err, OnOk, OnErr, Option, None, Some, MatchOption}
 use Rattle.std.specs.List.{flat_map}
 use Rattle.std.proofs.lemmas.Grind.{flat_map-append}
 use Rattle.std.proofs.lemmas.List.{take-append-drop}
@@ -21,6 +21,11 @@ each-part text items i item other old mid new inside is written part =
 -- a part of a text, in other words
 pub part-is : {T E : Type 0} (r : Result T E) (old new text whole : List ℕ) → OnErr r (AppendsPart old new text) → text ≡ whole → OnErr r (AppendsPart old new whole)
 part-is r old new text whole part is = on_err_weaker r (subst (AppendsPart old new) is) part
+
+-- a whole text, in other words
+pub whole-is : {T E : Type 0} (r : Result T E) (old new text whole : List ℕ) → OnOk r (new ≡ old ++ text) → text ≡ whole → OnOk r (new ≡ old ++ whole)
+whole-is (Ok x) old new text whole is same = is ∙ ap (λ t. old ++ t) same
+whole-is (Err e) old new text whole is same = tt
 
 -- a part of the first of two texts, after a refusal
 pub first-refused : {T E : Type 0} (r : Result T E) (old new first second : List ℕ) → AppendsPart old new first → OnErr r (AppendsPart old new (first ++ second))

@@ -1,9 +1,11 @@
-//! The texts of replies and reports, each a line, written at the end of a list of bytes.
+//! The texts of replies, reports and summaries, each a line, written at the end of a list of bytes.
 //!
 //! After want of memory a first part of the text may have been written.
 #![tactic(auto)]
 
+pub mod laws;
 mod pieces;
 pub mod refusals;
 pub mod replies;
 pub mod reports;
+pub mod summaries;

@@ -1,29 +1,30 @@
 -- How a script ends, by what was told so far.
 use Rattle.std.proofs.Common.{◌≡◌, ℕ, ◌+◌, ◌^◌, ◌<◌, ◌≤◌, List, [], ◌∷◌, ◌++◌, length, refl, ap, sym, subst, ◌∙◌, append_assoc, append-nil, length-append, inl, inr, arith}
-use Rattle.std.specs.Prelude.{Option, Result, Ok, Err, OnOk, OnErr, IfErr}
-use Rattle.std.specs.Io.KnownBytes.{Appends, Consumes, Keeps, IsAtEnd}
-use Rattle.std.proofs.KnownBytes.{Appends-kept, Consumes-kept, Consumes-trans, Consumes-nil, Appends-trans, Appends-nil}
-use Rattle.branch_disk.specs.Disk.{Files, LeavesOnly}
+use Rattle.std.specs.Prelude.{Option, Result, Ok, Err, OnOk, IfErr}
+use Rattle.std.specs.Io.KnownBytes.{Consumes, Keeps}
+use Rattle.std.proofs.KnownBytes.{Consumes-kept, Consumes-trans}
+use Rattle.branch_disk.specs.Disk.{Files}
 use Rattle.branch_disk.specs.Moments.{weakened}
 use Rattle.branch_script.specs.Lines.{lines_of}
-use Rattle.branch_engine.specs.Play.{DocFixed, Play, begins, line_told, text_from, after_from, text_of, after_lines}
+use Rattle.branch_engine.specs.Play.{Play, begins, line_told, text_from, after_from, text_of, after_lines}
 use Rattle.branch_engine.specs.Readings.{ReadAs}
 use Rattle.branch_engine.specs.Engines.{EngineView, IsAt}
 use Rattle.branch_shell.specs.declared.status.Status.{Status}
 use Rattle.branch_shell.specs.declared.status.Status.TheVariants.{Done, Usage, StoreRefused, DiskFault, ReadFault, WriteFault, LineTooLong, InputTooLong, Memory}
-use Rattle.branch_shell.specs.Reading.{HasNoLineEnd, IsWholeLines, AreShort, AreFirstLines, WereRead, IsFirstPart, Exchanges}
+use Rattle.branch_shell.specs.Reading.{HasNoLineEnd, IsWholeLines, AreShort, WereRead, IsFirstPart, Exchanges}
 use Rattle.branch_shell.specs.Counts.{StopsTelling}
-use Rattle.branch_shell.specs.Statuses.{DocStore, fixed_of, WroteOver, Survives, Runs, HoldsSome, HoldsAnswered, but_last, TellsWholeLines, TellsPart, TellsBefore, script_text, status_of}
-use Rattle.branch_shell.specs.Telling.{ReadsAfterSome, Tells, TellsLines, Stops, StopsLines, IsPartGiven, TellsWhole, StopsWhole, Takes, IsReading}
+use Rattle.branch_shell.specs.Documents.{DocStore, fixed_of, script_text}
+use Rattle.branch_shell.specs.Statuses.{WroteOver, Survives, Runs, HoldsSome, but_last, TellsWholeLines, TellsPart, TellsBefore, status_of}
+use Rattle.branch_shell.specs.Telling.{ReadsAfterSome, Tells, TellsLines, Stops, StopsLines, TellsWhole, StopsWhole, Takes, IsReading}
 use Rattle.branch_shell.proofs.Cuts.{lines_of-whole, unended-short, whole-append, short-append}
-use Rattle.branch_shell.proofs.Told.{after_from-append, text_from-append, tells-append, stops-append, after_all, whole_part, part_behind, nothing_part}
+use Rattle.branch_shell.proofs.Told.{text_from-append, tells-append, stops-append, after_all, part_behind, nothing_part}
 
 module _ (address : List ℕ → List ℕ) where
   pub script_text-is : (store : DocStore) (lines : List (List ℕ)) → text_from (fixed_of address store) (begins store.history) lines ≡ script_text address store lines
   unfolding text_of
   script_text-is store lines = refl
 
-  after_lines-is : (store : DocStore) (lines : List (List ℕ)) → (after_from (fixed_of address store) (begins store.history) lines).moves ≡ after_lines (fixed_of address store) store.history lines
+  pub after_lines-is : (store : DocStore) (lines : List (List ℕ)) → (after_from (fixed_of address store) (begins store.history) lines).moves ≡ after_lines (fixed_of address store) store.history lines
   unfolding after_lines
   after_lines-is store lines = refl
 

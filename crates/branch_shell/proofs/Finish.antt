@@ -1,13 +1,10 @@
 -- The counts of faults by how a script ends, and what was given where the sink failed to finish.
-use Rattle.std.proofs.Common.{◌≡◌, ℕ, ◌≤◌, List, refl, sym, subst, ◌∙◌, ◌⊎◌, inl, inr, arith}
-use Rattle.std.specs.Prelude.{Option, Result, Ok, Err, OnOk, IfErr}
-use Rattle.std.specs.Io.KnownBytes.{Keeps}
+use Rattle.std.proofs.Common.{◌≡◌, ℕ, ◌≤◌, sym, subst, ◌∙◌, ◌⊎◌, inl, inr, arith}
+use Rattle.std.specs.Prelude.{Result, Ok, Err, OnOk, IfErr}
 use Rattle.branch_io.specs.Causes.{Rose}
-use Rattle.branch_disk.specs.Disk.{Files}
 use Rattle.branch_shell.specs.declared.status.Status.{Status}
 use Rattle.branch_shell.specs.declared.status.Status.TheVariants.{Done, Usage, StoreRefused, DiskFault, ReadFault, WriteFault, LineTooLong, InputTooLong, Memory}
 use Rattle.branch_shell.specs.Counts.{Counts, HasReason, StopsAtFault, StopsTelling}
-use Rattle.branch_shell.specs.Reading.{Exchanges}
 use Rattle.branch_shell.specs.Statuses.{status_of}
 
 rose_from : (a b c : ℕ) → b ≡ a → Rose b c → Rose a c

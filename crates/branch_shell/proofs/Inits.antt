@@ -1,8 +1,8 @@
 -- What is left of a disk of which a store is made.
-use Rattle.std.proofs.Common.{◌≡◌, ◌⊎◌, ℕ, ◌+◌, ◌-◌, ◌^◌, min, List, [], length, refl, ap, inl, inr, arith}
+use Rattle.std.proofs.Common.{◌≡◌, ℕ, List, [], length, ap, inl, inr, arith}
 use Rattle.mrdt_model.specs.Laws.{Meaning}
 use Rattle.branch_disk.specs.Disk.{Files, LeavesOnly}
-use Rattle.branch_disk.specs.Moments.{weakened, started}
+use Rattle.branch_disk.specs.Moments.{weakened}
 use Rattle.branch_names.specs.declared.limits.Limits.{Limits}
 use Rattle.heads_journal.specs.Heads.{IsNoStore}
 use Rattle.branch_machine.specs.Fixed.{fix}

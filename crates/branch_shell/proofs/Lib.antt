@@ -11,3 +11,6 @@ pub mod Scripts
 pub mod Finish
 pub mod Said
 pub mod Runs
+pub mod Drawn
+pub mod Worked
+pub mod Works

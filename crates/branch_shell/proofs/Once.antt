@@ -1,9 +1,8 @@
 -- What was written that no line is answered with, and the counts of faults then.
-use Rattle.std.proofs.Common.{◌≡◌, ◌≢◌, ◌⊎◌, ℕ, List, [], refl, sym, subst, ◌∙◌, inl, inr}
-use Rattle.std.specs.Prelude.{Option, Some, None, IsSome, Result, Err, ◌↔◌}
+use Rattle.std.proofs.Common.{◌≡◌, ◌≢◌, ℕ, List, refl, sym, subst, inl, inr}
+use Rattle.std.specs.Prelude.{Option, Some, IsSome, Err, ◌↔◌}
 use Rattle.std.specs.Option.{ForSome}
-use Rattle.std.specs.Io.KnownBytes.{Appends}
-use Rattle.branch_io.specs.Causes.{Rose, HasCauseOf}
+use Rattle.branch_io.specs.Causes.{HasCauseOf}
 use Rattle.mrdt_model.specs.Laws.{Meaning}
 use Rattle.branch_disk.specs.Disk.{Files}
 use Rattle.branch_files.specs.Reading.{NotAStore, BadRecord, BadObject, BadCommit, Truncated}
@@ -12,7 +11,7 @@ use Rattle.store_core.specs.declared.answers.OpenRefused.{OpenRefused}
 use Rattle.store_core.specs.declared.answers.OpenRefused.TheVariants as refusal
 use Rattle.branch_shell.specs.declared.status.Status.{Status}
 use Rattle.branch_shell.specs.declared.status.Status.TheVariants.{Done, Usage, StoreRefused, DiskFault, ReadFault, WriteFault, LineTooLong, InputTooLong, Memory}
-use Rattle.branch_shell.specs.Counts.{Counts, HasReason, SaysReason}
+use Rattle.branch_shell.specs.Counts.{HasReason, SaysReason}
 use Rattle.branch_shell.specs.Refusals.{open_refusal_text}
 use Rattle.branch_shell.specs.Stores.{SaysRefused}
 use Rattle.branch_shell.specs.Once.{WroteOnce, Answers, Says}

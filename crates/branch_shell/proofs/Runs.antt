@@ -1,17 +1,19 @@
 -- What each command wrote, of the words that say it.
-use Rattle.std.proofs.Common.{◌≡◌, ◌⊎◌, ℕ, List, [], refl, sym, subst, ◌∙◌, inl, inr}
+use Rattle.std.proofs.Common.{◌≡◌, ◌⊎◌, ℕ, List, [], refl, sym, subst, inl, inr}
 use Rattle.std.specs.Prelude.{Option, Some}
-use Rattle.std.specs.Io.KnownBytes.{Appends, Consumes}
+use Rattle.std.specs.Io.KnownBytes.{Appends}
 use Rattle.std.proofs.KnownBytes.{Consumes-nil, Appends-nil}
 use Rattle.branch_disk.specs.Disk.{Files}
 use Rattle.branch_doc.specs.Document.{document}
 use Rattle.branch_command.specs.Numbers.{Numbers}
-use Rattle.branch_command.specs.Commands.{Said, Init, Script, Check, Help}
+use Rattle.branch_command.specs.Work.{Work}
+use Rattle.branch_command.specs.Commands.{Said, Init, Script, Check, Generate, Help}
 use Rattle.branch_shell.specs.declared.status.Status.{Status}
-use Rattle.branch_shell.specs.declared.status.Status.TheVariants.{Done, StoreRefused, Memory, WriteFault}
+use Rattle.branch_shell.specs.declared.status.Status.TheVariants.{Done, Memory}
 use Rattle.branch_shell.specs.Reading.{Exchanges}
 use Rattle.branch_shell.specs.Once.{Answers, Says}
 use Rattle.branch_shell.specs.Stores.{SaysReady, SaysNotEmpty, SaysReport, SaysRefused}
+use Rattle.branch_shell.specs.Generated.{SaysWork}
 use Rattle.branch_shell.specs.Statuses.{ScriptWrote, Wrote}
 use Rattle.branch_shell.proofs.Said.{one_command}
 
@@ -25,6 +27,11 @@ module _ (address : List ℕ → List ℕ) (told : Option Files) (words : Option
       → (command : Said) → words ≡ Some command → Exchanges l l g0 g1 (Wrote address command told l status)
   check_wrote is status l g0 g1 w command said =
       ([], w.0, Consumes-nil l, w.1, subst (λ (k : Said). Wrote address k told l status [] w.0) (sym (one_command words command Check said is)) (refl, w.2))
+
+  pub work_wrote : (work : Work) → words ≡ Some (Generate work) → (status : Status) (l g0 g1 : Option (List ℕ)) → Answers (SaysWork address told work) (SaysRefused document address told) status g0 g1
+      → (command : Said) → words ≡ Some command → Exchanges l l g0 g1 (Wrote address command told l status)
+  work_wrote work is status l g0 g1 w command said =
+      ([], w.0, Consumes-nil l, w.1, subst (λ (k : Said). Wrote address k told l status [] w.0) (sym (one_command words command (Generate work) said is)) (refl, w.2))
 
   pub script_wrote : words ≡ Some Script → (status : Status) (l0 l1 g0 g1 : Option (List ℕ)) → Exchanges l0 l1 g0 g1 (ScriptWrote address told l1 status)
       → (command : Said) → words ≡ Some command → Exchanges l0 l1 g0 g1 (Wrote address command told l1 status)
@@ -53,4 +60,5 @@ pub memory_wrote : (address : List ℕ → List ℕ) (told : Option Files) (l g 
 memory_wrote address told l g (Init n) = ([], [], Consumes-nil l, Appends-nil g, (refl, refl))
 memory_wrote address told l g Script = ([], [], Consumes-nil l, Appends-nil g, inl (refl, refl))
 memory_wrote address told l g Check = ([], [], Consumes-nil l, Appends-nil g, (refl, refl))
+memory_wrote address told l g (Generate work) = ([], [], Consumes-nil l, Appends-nil g, (refl, refl))
 memory_wrote address told l g Help = ([], [], Consumes-nil l, Appends-nil g, refl)

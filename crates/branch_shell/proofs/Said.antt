@@ -1,35 +1,47 @@
 -- A command that was read is the one that the words say.
-use Rattle.std.proofs.Common.{◌≡◌, ◌⊎◌, ℕ, List, [], refl, sym, subst, ◌∙◌, ap}
-use Rattle.std.specs.Prelude.{Option, Some, None, String}
+use Rattle.std.proofs.Common.{◌≡◌, ℕ, refl, sym, subst, ◌∙◌, ap}
+use Rattle.std.specs.Prelude.{Option, Some, String}
 use Rattle.std.specs.declared.alloc.Global.{Global}
 use Rattle.branch_names.specs.declared.limits.Limits.{Limits}
 use Rattle.branch_command.specs.declared.command.Command.{Command}
 use Rattle.branch_command.specs.declared.command.Command.TheVariants as read
 use Rattle.branch_command.specs.Numbers.{Numbers, AreLimits}
-use Rattle.branch_command.specs.Commands.{Said, Init, Script, Check, Help, Means}
+use Rattle.branch_command.specs.Work.{Work}
+use Rattle.branch_command.specs.Commands.{Said, Init, Script, Check, Generate, Help, Means}
 
 is_init : (said : Said) (limits : Limits) → Means said (read.Init limits) → (n : Numbers) × (said ≡ Init n) × AreLimits n limits
 is_init (Init n) limits means = (n, refl, means)
 is_init Script limits means = absurd means
 is_init Check limits means = absurd means
+is_init (Generate work) limits means = absurd means
 is_init Help limits means = absurd means
 
 is_script : (said : Said) → Means said read.Script → said ≡ Script
 is_script (Init n) means = absurd means
 is_script Script means = refl
 is_script Check means = absurd means
+is_script (Generate work) means = absurd means
 is_script Help means = absurd means
 
 is_check : (said : Said) → Means said read.Check → said ≡ Check
 is_check (Init n) means = absurd means
 is_check Script means = absurd means
 is_check Check means = refl
+is_check (Generate work) means = absurd means
 is_check Help means = absurd means
+
+is_generate : (said : Said) (steps number : ℕ) → Means said (read.Generate steps number) → said ≡ Generate (record { steps = steps; number = number })
+is_generate (Init n) steps number means = absurd means
+is_generate Script steps number means = absurd means
+is_generate Check steps number means = absurd means
+is_generate (Generate work) steps number means = ap Generate means
+is_generate Help steps number means = absurd means
 
 is_help : (said : Said) (text : String Global) → Means said (read.Tell text) → said ≡ Help
 is_help (Init n) text means = absurd means
 is_help Script text means = absurd means
 is_help Check text means = absurd means
+is_help (Generate work) text means = absurd means
 is_help Help text means = refl
 
 -- what was said, of the command that was read
@@ -45,6 +57,13 @@ module _ (words : Option Said) where
 
   pub said_check : (command : Command) → command ≡ read.Check → Reads words command → words ≡ Some Check
   said_check command is r = r.1 ∙ ap Some (is_check r.0 (subst (Means r.0) is r.2))
+
+  pub said_generate : (command : Command) (steps number : ℕ) → command ≡ read.Generate steps number → Reads words command → words ≡ Some (Generate (record { steps = steps; number = number }))
+  said_generate command steps number is r = r.1 ∙ ap Some (is_generate r.0 steps number (subst (Means r.0) is r.2))
+
+  -- the work that was read is the one that was said
+  pub same_work : (m n : Work) → words ≡ Some (Generate m) → words ≡ Some (Generate n) → m ≡ n
+  same_work m n x y = cc (x, y)
 
   pub said_help : (command : Command) (text : String Global) → command ≡ read.Tell text → Reads words command → words ≡ Some Help
   said_help command text is r = r.1 ∙ ap Some (is_help r.0 text (subst (Means r.0) is r.2))

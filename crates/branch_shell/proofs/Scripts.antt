@@ -1,21 +1,22 @@
 -- A script from the opening of its store on.
-use Rattle.std.proofs.Common.{◌⊎◌, ◌≡◌, ◌≢◌, ℕ, ◌^◌, ◌≤◌, List, [], ◌∷◌, ◌++◌, length, refl, ap, sym, subst, ◌∙◌, append-nil, inl, inr, arith}
-use Rattle.std.specs.Prelude.{Option, Some, Ok, Err}
-use Rattle.std.specs.Io.KnownBytes.{Appends, Consumes, Keeps}
+use Rattle.std.proofs.Common.{◌⊎◌, ◌≡◌, ◌≢◌, ℕ, ◌≤◌, List, [], ◌∷◌, ◌++◌, refl, ap, sym, subst, ◌∙◌, inl, inr}
+use Rattle.std.specs.Prelude.{Option}
+use Rattle.std.specs.Io.KnownBytes.{Keeps}
 use Rattle.std.proofs.KnownBytes.{Appends-kept, Appends-nil, Consumes-nil}
 use Rattle.branch_disk.specs.Disk.{Files, LeavesOnly}
 use Rattle.branch_disk.specs.Moments.{weakened, goes_on, now_too}
 use Rattle.branch_doc.specs.Document.{document}
-use Rattle.branch_files.specs.Reading.{Opens, Answer}
+use Rattle.branch_files.specs.Reading.{Opens}
 use Rattle.branch_script.specs.Lines.{lines_of}
 use Rattle.branch_names.specs.declared.limits.Limits.{Limits}
 use Rattle.branch_engine.specs.Play.{History, begins, text_from, after_from}
 use Rattle.branch_shell.specs.declared.status.Status.{Status}
 use Rattle.branch_shell.specs.declared.status.Status.TheVariants.{Done, Usage, StoreRefused, DiskFault, ReadFault, WriteFault, LineTooLong, InputTooLong, Memory}
-use Rattle.branch_shell.specs.Reading.{WereRead, IsFirstPart, Exchanges}
+use Rattle.branch_shell.specs.Reading.{IsFirstPart, Exchanges}
 use Rattle.branch_shell.specs.Stores.{ReadsAsStore, IsOpenedAs, SaysRefused}
 use Rattle.branch_shell.specs.Once.{WroteOnce, Answers}
-use Rattle.branch_shell.specs.Statuses.{DocStore, fixed_of, WroteOver, ScriptWrote, Holds, HoldsSome, HoldsAnswered, Survives, Runs, TellsWholeLines, TellsPart, script_text}
+use Rattle.branch_shell.specs.Documents.{DocStore, fixed_of, script_text}
+use Rattle.branch_shell.specs.Statuses.{WroteOver, ScriptWrote, Holds, HoldsSome, HoldsAnswered, Survives, Runs, TellsWholeLines, TellsPart}
 use Rattle.branch_shell.proofs.Told.{whole_part, text_from-append, after_none}
 use Rattle.branch_shell.proofs.Ends.{script_text-is}
 
@@ -86,7 +87,7 @@ module _ (address : List ℕ → List ℕ) where
     abbrev stored : Limits → History → DocStore
     stored limits history = record { limits = limits; history = history }
 
-    same_store : (disk : D) (store found : DocStore) → Holds contents may_leave address disk store → IsOpenedAs document address (contents disk) found → found ≡ store
+    pub same_store : (disk : D) (store found : DocStore) → Holds contents may_leave address disk store → IsOpenedAs document address (contents disk) found → found ≡ store
     same_store disk store found holds opened =
         let same : Opens store.limits store.history ≡ Opens found.limits found.history = opened.only holds.files holds.told (Opens store.limits store.history) holds.reads in
         let limits : found.limits ≡ store.limits = cc same in
@@ -111,7 +112,7 @@ module _ (address : List ℕ → List ℕ) where
     no_refusal : (disk : D) (store : DocStore) (text : List ℕ) → Holds contents may_leave address disk store → SaysRefused document address (contents disk) text → ⊥
     no_refusal disk store text holds says = says.1.no_store holds.files holds.told store.limits store.history holds.reads
 
-    no_text : (disk : D) (store : DocStore) (status : Status) (text : List ℕ) → Holds contents may_leave address disk store → WroteOnce (λ whole. ⊥) (SaysRefused document address (contents disk)) status text → (text ≡ []) × (status ≢ Done)
+    pub no_text : (disk : D) (store : DocStore) (status : Status) (text : List ℕ) → Holds contents may_leave address disk store → WroteOnce (λ whole. ⊥) (SaysRefused document address (contents disk)) status text → (text ≡ []) × (status ≢ Done)
     no_text disk store Done text holds w = absurd w
     no_text disk store Usage text holds w = absurd w
     no_text disk store StoreRefused text holds w = absurd (no_refusal disk store text holds w)

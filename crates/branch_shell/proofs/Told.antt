@@ -1,7 +1,7 @@
 -- Lines that were told behind others, and what a crash leaves meanwhile.
-use Rattle.std.proofs.Common.{◌≡◌, ◌⊎◌, ℕ, ◌≤◌, List, [], ◌∷◌, ◌++◌, refl, ap, sym, subst, ◌∙◌, append_assoc, append-nil, inl, inr, ⊎_elim}
+use Rattle.std.proofs.Common.{◌≡◌, ℕ, ◌≤◌, List, [], ◌∷◌, ◌++◌, refl, ap, sym, subst, ◌∙◌, append_assoc, append-nil, inl, inr}
 use Rattle.std.specs.Prelude.{Option}
-use Rattle.std.specs.Io.KnownBytes.{Appends, Keeps}
+use Rattle.std.specs.Io.KnownBytes.{Appends}
 use Rattle.std.proofs.KnownBytes.{Appends-nil, Appends-trans}
 use Rattle.branch_disk.specs.Disk.{Files, LeavesOnly}
 use Rattle.branch_disk.specs.Moments.{started, goes_on, weakened, now_too}
@@ -9,7 +9,7 @@ use Rattle.branch_engine.specs.Play.{DocFixed, Play, line_told, text_from, after
 use Rattle.branch_engine.specs.Readings.{doc_fixed, ReadAs, ReadAsEither}
 use Rattle.branch_engine.specs.Engines.{EngineView, IsAt}
 use Rattle.branch_shell.specs.declared.status.Status.{Status}
-use Rattle.branch_shell.specs.declared.status.Status.TheVariants.{WriteFault, DiskFault, Memory}
+use Rattle.branch_shell.specs.declared.status.Status.TheVariants.{WriteFault}
 use Rattle.branch_shell.specs.Reading.{IsFirstPart, GivesPart}
 use Rattle.branch_shell.specs.Telling.{ReadsAfterSome, Tells, TellsLines, Stops, StopsLines, IsPartGiven}
 
@@ -97,7 +97,7 @@ module _ {D : Type 0} (may_leave : D → Files → Type 0) (moment : D → ℕ) 
       }
 
   module _ (fixed : DocFixed) (p : Play) (ls ms : List (List ℕ)) (a b c : EngineView D) (f g : Option (List ℕ)) (first : Tells may_leave moment left_since ls a b f g fixed p) where
-    moments_behind : LeavesOnly moment left_since b.core.disk c.core.disk (ReadsAfterSome fixed (after_from fixed p ls) ms []) → LeavesOnly moment left_since a.core.disk c.core.disk (ReadsAfterSome fixed p (ls ++ ms) [])
+    pub moments_behind : LeavesOnly moment left_since b.core.disk c.core.disk (ReadsAfterSome fixed (after_from fixed p ls) ms []) → LeavesOnly moment left_since a.core.disk c.core.disk (ReadsAfterSome fixed p (ls ++ ms) [])
     moments_behind next =
         goes_on moment left_since a.core.disk b.core.disk c.core.disk (ReadsAfterSome fixed p (ls ++ ms) []) (ReadsAfterSome fixed (after_from fixed p ls) ms [])
         (weakened moment left_since a.core.disk b.core.disk (ReadsAfterSome fixed p ls []) (ReadsAfterSome fixed p (ls ++ ms) []) first.moments (more_lines fixed p ls ms []))

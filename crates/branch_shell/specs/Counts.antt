@@ -46,6 +46,12 @@ StopsTelling sink_before sink_now disk_before disk_now DiskFault = Rose disk_bef
 StopsTelling sink_before sink_now disk_before disk_now Memory = (sink_now ≡ sink_before) × (disk_now ≡ disk_before)
 StopsTelling sink_before sink_now disk_before disk_now status = ⊥
 
+-- telling lines that give nothing was stopped by a fault of the disk, or by want of memory
+abbrev pub StopsCounting : ℕ → ℕ → Status → Type 0
+StopsCounting before now DiskFault = Rose before now
+StopsCounting before now Memory = now ≡ before
+StopsCounting before now status = ⊥
+
 -- a text was to be given: the sink's count rose where that failed, and stays else
 abbrev pub SaysReason : ℕ → ℕ → Status → Type 0
 SaysReason before now WriteFault = Rose before now

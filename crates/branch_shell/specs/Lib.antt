@@ -1,8 +1,10 @@
 pub mod Reading
 pub mod Stores
 pub mod Once
-pub mod Telling
 pub mod Counts
+pub mod Documents
+pub mod Telling
+pub mod Generated
 pub mod Statuses
 pub mod Refusals
 pub mod StatusNumbers

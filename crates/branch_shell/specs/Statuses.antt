@@ -4,32 +4,17 @@ use Rattle.std.specs.declared.option.Option.{Option}
 use Rattle.std.specs.Io.KnownBytes.{IsAtEnd}
 use Rattle.branch_disk.specs.Disk.{Files, LeavesOnly}
 use Rattle.branch_doc.specs.Document.{document}
-use Rattle.branch_doc.specs.Forms.{DocOp, DocReply}
 use Rattle.branch_script.specs.Lines.{lines_of}
-use Rattle.branch_engine.specs.Play.{DocFixed, begins, text_of, after_lines}
-use Rattle.branch_engine.specs.Readings.{doc_fixed}
-use Rattle.branch_command.specs.Commands.{Said, Init, Script, Check, Help}
+use Rattle.branch_engine.specs.Play.{begins}
+use Rattle.branch_command.specs.Commands.{Said, Init, Script, Check, Generate, Help}
 use Rattle.branch_shell.specs.declared.status.Status.{Status}
 use Rattle.branch_shell.specs.declared.status.Status.TheVariants.{Done, Usage, StoreRefused, DiskFault, ReadFault, WriteFault, LineTooLong, InputTooLong, Memory}
 use Rattle.branch_shell.specs.Reading.{IsCut, AreShort, WereRead, IsFirstPart}
-use Rattle.branch_shell.specs.Stores.{Stored, ReadsAsStore, IsOpenedAs, SaysRefused, SaysReport, SaysReady, SaysNotEmpty}
+use Rattle.branch_shell.specs.Stores.{ReadsAsStore, IsOpenedAs, SaysRefused, SaysReport, SaysReady, SaysNotEmpty}
 use Rattle.branch_shell.specs.Once.{WroteOnce}
 use Rattle.branch_shell.specs.Telling.{ReadsAfterSome}
-
--- a store of documents, and what is fixed for it
-abbrev pub DocStore : Type 0
-DocStore = Stored DocOp DocReply
-
-abbrev pub fixed_of : (List ℕ → List ℕ) → DocStore → DocFixed
-fixed_of address store = doc_fixed address store.limits
-
--- the text of lines over a store
-abbrev pub script_text : (List ℕ → List ℕ) → DocStore → List (List ℕ) → List ℕ
-script_text address store lines = text_of (fixed_of address store) store.history lines
-
--- the store after lines
-abbrev pub store_after : (List ℕ → List ℕ) → DocStore → List (List ℕ) → DocStore
-store_after address store lines = record { limits = store.limits; history = after_lines (fixed_of address store) store.history lines }
+use Rattle.branch_shell.specs.Documents.{DocStore, fixed_of, script_text, store_after}
+use Rattle.branch_shell.specs.Generated.{SaysWork}
 
 -- the text is that of the input's whole lines, behind which this is left
 pub record TellsWholeLines (address : List ℕ → List ℕ) (store : DocStore) (input text rest : List ℕ) : Type 0 where
@@ -73,6 +58,7 @@ abbrev pub Wrote : (List ℕ → List ℕ) → Said → Option Files → Option 
 Wrote address (Init numbers) told left status input text = (input ≡ []) × WroteOnce (SaysReady told) (SaysNotEmpty told) status text
 Wrote address Script told left status input text = ScriptWrote address told left status input text
 Wrote address Check told left status input text = (input ≡ []) × WroteOnce (SaysReport document address told) (SaysRefused document address told) status text
+Wrote address (Generate work) told left status input text = (input ≡ []) × WroteOnce (SaysWork address told work) (SaysRefused document address told) status text
 Wrote address Help told left status input text = input ≡ []
 
 -- at the start the disk tells files that read as the store, and so does each image

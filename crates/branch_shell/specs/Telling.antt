@@ -5,11 +5,14 @@ use Rattle.std.specs.Io.KnownBytes.{Appends, Consumes, IsAtEnd}
 use Rattle.branch_disk.specs.Disk.{Files, LeavesOnly}
 use Rattle.branch_names.specs.declared.limits.Limits.{Limits}
 use Rattle.branch_script.specs.Lines.{lines_of}
+use Rattle.branch_print.specs.declared.summaries.Summary.{Summary}
+use Rattle.branch_print.specs.Summaries.{summary_of}
 use Rattle.branch_engine.specs.Play.{DocFixed, Play, line_told, text_from, after_from}
 use Rattle.branch_engine.specs.Readings.{doc_fixed, ReadAs}
 use Rattle.branch_engine.specs.Engines.{EngineView, IsAt}
 use Rattle.branch_shell.specs.declared.status.Status.{Status}
 use Rattle.branch_shell.specs.declared.status.Status.TheVariants.{WriteFault}
+use Rattle.branch_shell.specs.Documents.{replies_from}
 use Rattle.branch_shell.specs.Reading.{IsWholeLines, HasNoLineEnd, IsCut, AreShort, IsFirstPart}
 
 -- the files read as the history after some of the lines, in order, and the text is a first part of what those are answered with
@@ -89,3 +92,16 @@ pub record IsReading {D : Type 0} (may_leave : D → Files → Type 0) (moment :
   pub took : Consumes left_first left_now (done ++ pending)
   pub counted : read ≡ length (done ++ pending)
   pub told : TellsLines may_leave moment left_since address (lines_of done) first now given_first given_now
+
+-- the summary goes on by the replies to the lines, from a play on
+abbrev pub CountsLines : {D : Type 0} → (D → Files → Type 0) → (List ℕ → List ℕ) → List (List ℕ) → EngineView D → Summary → Summary → Type 0
+CountsLines may_leave address lines old before after =
+    (limits : Limits) (p : Play) → IsAt may_leave (doc_fixed address limits) old p
+    → (replies : List (List ℕ)) → before ≡ summary_of replies → after ≡ summary_of (replies ++ replies_from (doc_fixed address limits) p lines)
+
+-- at each moment a crash left the history after some of the lines, from a play on
+abbrev pub LeavesSome : {D : Type 0} → (D → Files → Type 0) → (D → ℕ) → (D → ℕ → Files → Type 0) → (List ℕ → List ℕ)
+    → List (List ℕ) → EngineView D → EngineView D → Type 0
+LeavesSome may_leave moment left_since address lines old new =
+    (limits : Limits) (p : Play) → IsAt may_leave (doc_fixed address limits) old p
+    → LeavesOnly moment left_since old.core.disk new.core.disk (ReadsAfterSome (doc_fixed address limits) p lines [])

@@ -81,8 +81,8 @@ pub(crate) fn refuse<K: Sink>(alloc: Global, sink: &mut K, refusal: OpenRefused)
     }
 }
 
-// Writes the report of a store.
-fn put_report<T: Mrdt, D: Disk + Drop, A: Address>(
+/// Writes the report of a store.
+pub(crate) fn put_report<T: Mrdt, D: Disk + Drop, A: Address>(
     out: &mut Vec<u8>,
     core: &Core<T, D, A>,
 ) -> Result<(), Memory>

@@ -2,6 +2,7 @@
 #![tactic(auto)]
 
 mod answer;
+mod generate;
 mod script;
 pub mod status;
 pub mod top;

@@ -12,7 +12,8 @@ ghost use Rattle.store_core.specs.Opens.{ReadsAsNone};
 ghost use Rattle.branch_shell.specs.Reading.{HasNoLineEnd, GivesPart, Exchanges};
 ghost use Rattle.branch_shell.specs.Counts.{HasReason, StopsAtFault, StopsTelling};
 ghost use Rattle.branch_shell.specs.Telling.{TellsLines, StopsLines, TellsWhole, StopsWhole, Takes};
-ghost use Rattle.branch_shell.specs.Statuses.{DocStore, fixed_of, ScriptWrote, Holds, Survives, Runs, status_of};
+ghost use Rattle.branch_shell.specs.Documents.{DocStore, fixed_of};
+ghost use Rattle.branch_shell.specs.Statuses.{ScriptWrote, Holds, Survives, Runs, status_of};
 
 use crate::answer::refuse;
 use crate::status::Status;
@@ -79,8 +80,8 @@ fn line_end(bytes: &[u8]) -> Option<usize>
     bytes.iter().position(|byte| *byte == b'\n')
 }
 
-// The line before the first line end, and what is behind it. The first `known` bytes hold no line end.
-fn first_line(bytes: &[u8], known: usize) -> Option<(&[u8], &[u8])>
+/// The line before the first line end, and what is behind it. The first `known` bytes hold no line end.
+pub(crate) fn first_line(bytes: &[u8], known: usize) -> Option<(&[u8], &[u8])>
     requires within { known ≤ length bytes.now }
     requires unended { HasNoLineEnd (take known bytes.now) }
     ensures some { IfSome result (λ cut. (bytes.now ≡ cut.0.now ++ 10 ∷ cut.1.now) × HasNoLineEnd cut.0.now) }

@@ -7,6 +7,8 @@ mod damaged;
 #[cfg(test)]
 mod forged;
 #[cfg(test)]
+mod generated;
+#[cfg(test)]
 mod rows;
 #[cfg(test)]
 mod scripts;

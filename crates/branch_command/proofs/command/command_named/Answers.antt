@@ -1,10 +1,11 @@
-use Rattle.std.proofs.Common.{◌≡◌, ◌∙◌, ap, sym, codes, Option, Some}
+use Rattle.std.proofs.Common.{◌≡◌, ◌∙◌, ap, sym, codes, refl, Option, Some}
 use Rattle.std.specs.Option.{option_map}
 use Rattle.clap.specs.Matches.{found_of}
 use Rattle.clap.specs.Walk.{Text, rows_of}
 use Rattle.clap.specs.Faults.{fault_of}
 use Rattle.clap.proofs.WalkLemmas.{first_value-rows}
-use Rattle.branch_command.specs.Commands.{Init, asked_by, help_words, said_by}
+use Rattle.branch_command.specs.Work.{Work}
+use Rattle.branch_command.specs.Commands.{Init, Generate, asked_by, help_words, said_by}
 use Rattle.branch_command.specs.Program.{program}
 use Rattle.branch_command.proofs.Heard.{as_said}
 use Rattle.branch_command.proofs.command.command_named.Goals as goal
@@ -15,6 +16,13 @@ returns-in-Some c =
     let found = c.in-Some.ensures.some in
     let is : said_by c.args.name.now rows ≡ Some (Init found.0) = ap (λ (n : Text). said_by n rows) c.in-init.is ∙ ap (option_map Init) found.1 in
     ((Init found.0, is, found.2), λ u. cc)
+
+pub returns-in-Some-read_work : goal.returns-in-Some-read_work
+returns-in-Some-read_work c =
+    let rows = rows_of (found_of c.args.given.now) in
+    let work : Work = record { steps = c.in-Some-read_work.steps; number = c.in-Some-read_work.number } in
+    let is : said_by c.args.name.now rows ≡ Some (Generate work) = ap (λ (n : Text). said_by n rows) c.in-generate.is ∙ ap (option_map Generate) c.in-Some-read_work.ensures.some in
+    ((Generate work, is, refl), λ u. cc)
 
 pub returns-in-help : goal.returns-in-help
 returns-in-help c =

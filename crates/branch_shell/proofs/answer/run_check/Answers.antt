@@ -1,7 +1,7 @@
 use Rattle.std.proofs.Common.{sym, subst, ap, ◌∙◌}
 use Rattle.branch_files.specs.Reading.{Opens, Answer}
 use Rattle.branch_shell.specs.Refusals.{open_refusal_text}
-use Rattle.branch_shell.specs.Stores.{SaysReport, SaysRefused, ReadsAsStore}
+use Rattle.branch_shell.specs.Stores.{SaysReport, SaysRefused}
 use Rattle.std.specs.Prelude.{Some, ◌≡◌}
 use Rattle.branch_print.specs.Reports.{report_text}
 use Rattle.branch_shell.proofs.Once.{answers_map, says_refused, none_refused, not_behind, reason_said}

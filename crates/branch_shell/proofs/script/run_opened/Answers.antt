@@ -1,10 +1,10 @@
-use Rattle.std.proofs.Common.{◌≡◌, ◌⊎◌, subst}
+use Rattle.std.proofs.Common.{subst}
 use Rattle.branch_engine.specs.Engines.{Store}
 use Rattle.branch_shell.specs.Reading.{Exchanges}
 use Rattle.branch_shell.specs.Counts.{StopsAtFault}
 use Rattle.branch_shell.specs.declared.status.Status.{Status}
-use Rattle.branch_shell.specs.declared.status.Status.TheVariants.{ReadFault, DiskFault}
-use Rattle.branch_shell.specs.Statuses.{DocStore, Runs, status_of}
+use Rattle.branch_shell.specs.Documents.{DocStore}
+use Rattle.branch_shell.specs.Statuses.{Runs, status_of}
 use Rattle.branch_shell.proofs.Scripts.{finished, unfinished}
 use Rattle.branch_shell.proofs.Finish.{reason_finished, reason_unfinished, behind_source, behind_disk}
 use Rattle.branch_shell.proofs.script.run_opened.Goals as goal

@@ -1,4 +1,4 @@
-use Rattle.std.proofs.Common.{◌≡◌, ◌⊎◌, [], refl, inl, inr, subst, sym, ◌∙◌}
+use Rattle.std.proofs.Common.{◌≡◌, ◌⊎◌, [], refl, inl, inr, subst}
 use Rattle.std.specs.Prelude.{Some}
 use Rattle.std.proofs.KnownBytes.{Consumes-nil}
 use Rattle.branch_disk.specs.Disk.{LeavesOnly}
@@ -8,7 +8,8 @@ use Rattle.branch_shell.specs.declared.status.Status.TheVariants.{ReadFault, Dis
 use Rattle.branch_shell.specs.Refusals.{open_refusal_text}
 use Rattle.branch_shell.specs.Reading.{Exchanges}
 use Rattle.branch_shell.specs.Stores.{IsOpenedAs, SaysRefused}
-use Rattle.branch_shell.specs.Statuses.{DocStore, WroteOver, ScriptWrote, Runs}
+use Rattle.branch_shell.specs.Documents.{DocStore}
+use Rattle.branch_shell.specs.Statuses.{WroteOver, Runs}
 use Rattle.branch_shell.proofs.Once.{answers_map, says_refused, none_refused, reason_opening, not_behind}
 use Rattle.branch_shell.proofs.Scripts.{crashes_opened, crashes_refused, wrote_opened}
 use Rattle.branch_shell.proofs.script.run_script.Goals as goal

@@ -3,7 +3,6 @@ use Rattle.std.specs.Prelude.{OnOk, IfErr}
 use Rattle.std.proofs.KnownBytes.{Consumes-nil}
 use Rattle.std.proofs.lemmas.Result.{err_from_is_err_and}
 use Rattle.branch_script.specs.Lines.{lines_of}
-use Rattle.branch_shell.specs.Counts.{StopsTelling}
 use Rattle.branch_shell.specs.Telling.{TellsLines, StopsLines, TellsWhole, StopsWhole, Takes, IsReading}
 use Rattle.branch_shell.proofs.Buffers.{moved_rest, front_waiting}
 use Rattle.branch_shell.proofs.Told.{tells-none}

@@ -1,17 +1,19 @@
-use Rattle.std.proofs.Common.{◌≡◌, map, inl, refl}
+use Rattle.std.proofs.Common.{◌≡◌, map, inl, subst}
 use Rattle.std.specs.String.{string_bytes}
-use Rattle.branch_disk.specs.Disk.{Files}
 use Rattle.branch_disk.specs.Moments.{started, weakened}
 use Rattle.branch_doc.specs.Document.{document}
 use Rattle.branch_names.specs.declared.limits.Limits.{Limits}
 use Rattle.branch_command.specs.Numbers.{AreLimits}
+use Rattle.branch_command.specs.Work.{Work}
 use Rattle.branch_command.specs.Commands.{command_of}
 use Rattle.branch_shell.specs.declared.status.Status.TheVariants.{ReadFault, DiskFault, Memory}
 use Rattle.branch_shell.specs.Stores.{ReadsAsNoneOrEmpty}
 use Rattle.branch_shell.proofs.Inits.{empty_map, none_or_empty_map}
-use Rattle.branch_shell.proofs.Said.{said_init, said_script, said_check, said_help, limits_said}
-use Rattle.branch_shell.proofs.Runs.{init_wrote, check_wrote, script_behind, help_wrote, memory_wrote}
+use Rattle.branch_shell.proofs.Said.{said_init, said_script, said_check, said_generate, said_help, limits_said, same_work}
+use Rattle.branch_shell.proofs.Runs.{init_wrote, check_wrote, work_wrote, script_behind, help_wrote, memory_wrote}
+use Rattle.branch_shell.specs.Generated.{drawn_lines, SurvivesWork}
 use Rattle.branch_shell.proofs.Scripts.{crashes_nothing}
+use Rattle.branch_shell.proofs.Works.{work_undone}
 use Rattle.branch_shell.proofs.top.run.Goals as goal
 
 pub returns-in-Ok-Init-clause-wrote : goal.returns-in-Ok-Init-clause-wrote
@@ -70,6 +72,28 @@ returns-in-Ok-Check-clause-reason g c = c.run_check.ensures.reason (g.S.Source.f
 pub returns-in-Ok-Check-clause-behind_disk : goal.returns-in-Ok-Check-clause-behind_disk
 returns-in-Ok-Check-clause-behind_disk g c command is fault = inl (c.run_check.ensures.no_fault fault)
 
+pub returns-in-Ok-Generate-clause-wrote : goal.returns-in-Ok-Generate-clause-wrote
+returns-in-Ok-Generate-clause-wrote g c =
+    let words = command_of (map string_bytes c.args.words.now) in
+    let work : Work = record { steps = c.in-Ok-Generate.steps; number = c.in-Ok-Generate.number } in
+    let said = said_generate words c.in-Ok-Generate.field-0 c.in-Ok-Generate.steps c.in-Ok-Generate.number c.in-Ok-Generate.field-0-is c.in-Ok-Generate.ensures.read in
+    work_wrote g.A.Address.address (g.D.Disk.contents c.args.disk) words work said c.run_generate.result.0 (g.S.Source.left c.args.source.now) (g.K.Sink.given c.args.sink.now) (g.K.Sink.given c.run_generate.new.sink) c.run_generate.ensures.wrote
+
+pub returns-in-Ok-Generate-clause-generate_crashes : goal.returns-in-Ok-Generate-clause-generate_crashes
+returns-in-Ok-Generate-clause-generate_crashes g c other is store holds =
+    let d = g.D.Disk in
+    let words = command_of (map string_bytes c.args.words.now) in
+    let work : Work = record { steps = c.in-Ok-Generate.steps; number = c.in-Ok-Generate.number } in
+    let said = said_generate words c.in-Ok-Generate.field-0 c.in-Ok-Generate.steps c.in-Ok-Generate.number c.in-Ok-Generate.field-0-is c.in-Ok-Generate.ensures.read in
+    subst (λ (w : Work). SurvivesWork d.may_leave d.moment d.left_since g.A.Address.address store (drawn_lines w) c.args.disk c.run_generate.result.1 c.run_generate.result.0)
+    (same_work words work other said is) (c.run_generate.ensures.crashes store holds)
+
+pub returns-in-Ok-Generate-clause-reason : goal.returns-in-Ok-Generate-clause-reason
+returns-in-Ok-Generate-clause-reason g c = c.run_generate.ensures.reason (g.S.Source.faults c.args.source.now)
+
+pub returns-in-Ok-Generate-clause-behind_disk : goal.returns-in-Ok-Generate-clause-behind_disk
+returns-in-Ok-Generate-clause-behind_disk g c command is fault = inl (c.run_generate.ensures.no_fault fault)
+
 pub returns-in-Ok-Tell-clause-wrote : goal.returns-in-Ok-Tell-clause-wrote
 returns-in-Ok-Tell-clause-wrote g c =
     let words = command_of (map string_bytes c.args.words.now) in
@@ -86,3 +110,9 @@ returns-in-Err-Memory-clause-script_crashes g c is store holds =
     let laws = g.met.D.Disk in
     crashes_nothing g.A.Address.address d.contents d.may_leave d.moment d.left_since laws.counts_now c.args.disk store (g.S.Source.left c.args.source.now) (g.K.Sink.given c.args.sink.now) Memory holds (λ e. cc)
     (started d.moment d.left_since c.args.disk (d.may_leave c.args.disk) (laws.only_now c.args.disk))
+
+pub returns-in-Err-Memory-clause-generate_crashes : goal.returns-in-Err-Memory-clause-generate_crashes
+returns-in-Err-Memory-clause-generate_crashes g c work is store holds =
+    let d = g.D.Disk in
+    work_undone g.A.Address.address d.contents d.may_leave d.moment d.left_since g.met.D.Disk.counts_now c.args.disk c.args.disk store (drawn_lines work) Memory holds
+    (started d.moment d.left_since c.args.disk (d.may_leave c.args.disk) (g.met.D.Disk.only_now c.args.disk)) (λ e. cc)

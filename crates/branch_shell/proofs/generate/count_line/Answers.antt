@@ -1,0 +1,56 @@
+use Rattle.std.proofs.Common.{◌≡◌, ◌≢◌, ◌==◌, ◌++◌, ℕ, [], length, false, ap, sym, subst, ◌∙◌, arith}
+use Rattle.std.specs.Prelude.{None}
+use Rattle.branch_engine.specs.Play.{line_told}
+use Rattle.branch_engine.specs.Readings.{doc_fixed}
+use Rattle.branch_shell.proofs.Told.{line_tells}
+use Rattle.branch_shell.proofs.Worked.{leaves_line, counts_reply}
+use Rattle.branch_shell.proofs.generate.count_line.Goals as goal
+
+not_empty : (n : ℕ) → (n == 0) ≡ false → n ≡ 0 → ⊥
+not_empty n said none = let no : (0 == 0) ≡ false = subst (λ k. (k == 0) ≡ false) none said in cc no
+
+pub returns-in-Err-DiskFault-clause-moments : goal.returns-in-Err-DiskFault-clause-moments
+returns-in-Err-DiskFault-clause-moments g c =
+    let d = g.D.Disk in
+    let laws = g.met.D.Disk in
+    leaves_line d.may_leave d.moment d.left_since laws.counts_now laws.only_now g.A.Address.address c.args.line.now c.args.engine.now c.tell.new.self c.tell.ensures.moments
+
+pub returns-in-Err-Memory-clause-moments : goal.returns-in-Err-Memory-clause-moments
+returns-in-Err-Memory-clause-moments g c =
+    let d = g.D.Disk in
+    let laws = g.met.D.Disk in
+    leaves_line d.may_leave d.moment d.left_since laws.counts_now laws.only_now g.A.Address.address c.args.line.now c.args.engine.now c.tell.new.self c.tell.ensures.moments
+
+pub returns-then-not-is_empty-clause-told : goal.returns-then-not-is_empty-clause-told
+returns-then-not-is_empty-clause-told g c limits p at =
+    let d = g.D.Disk in
+    let laws = g.met.D.Disk in
+    line_tells d.may_leave d.moment d.left_since laws.counts_now laws.only_now c.args.line.now c.args.engine.now c.tell.new.self (doc_fixed g.A.Address.address limits) p (c.tell.ensures.moments limits p at) None None (c.in-Ok.ensures.ok limits p at).0 tt
+
+pub returns-then-not-is_empty-clause-counted : goal.returns-then-not-is_empty-clause-counted
+returns-then-not-is_empty-clause-counted g c limits p at replies is =
+    let text = (line_told (doc_fixed g.A.Address.address limits) p c.args.line.now).text in
+    let reply = c.deref.result.now in
+    let same : reply ≡ text = c.deref.ensures.value ∙ (c.in-Ok.ensures.ok limits p at).1 ∙ ap (λ xs. xs ++ text) c.clear.ensures.items in
+    let said : (c.tell.new.out.len == 0) ≡ false = sym c.is_empty.ensures ∙ c.if-not-is_empty.true in
+    let long : c.tell.new.out.len ≡ length reply = omega (arith, c.deref.ensures.len) in
+    let full : reply ≢ [] = λ none. not_empty c.tell.new.out.len said (long ∙ ap length none) in
+    counts_reply text reply replies c.count.new.self same full (c.count.ensures.counted replies is)
+
+pub returns-then-not-is_empty-clause-moments : goal.returns-then-not-is_empty-clause-moments
+returns-then-not-is_empty-clause-moments g c =
+    let d = g.D.Disk in
+    let laws = g.met.D.Disk in
+    leaves_line d.may_leave d.moment d.left_since laws.counts_now laws.only_now g.A.Address.address c.args.line.now c.args.engine.now c.tell.new.self c.tell.ensures.moments
+
+pub returns-else-not-is_empty-clause-told : goal.returns-else-not-is_empty-clause-told
+returns-else-not-is_empty-clause-told g c limits p at =
+    let d = g.D.Disk in
+    let laws = g.met.D.Disk in
+    line_tells d.may_leave d.moment d.left_since laws.counts_now laws.only_now c.args.line.now c.args.engine.now c.tell.new.self (doc_fixed g.A.Address.address limits) p (c.tell.ensures.moments limits p at) None None (c.in-Ok.ensures.ok limits p at).0 tt
+
+pub returns-else-not-is_empty-clause-moments : goal.returns-else-not-is_empty-clause-moments
+returns-else-not-is_empty-clause-moments g c =
+    let d = g.D.Disk in
+    let laws = g.met.D.Disk in
+    leaves_line d.may_leave d.moment d.left_since laws.counts_now laws.only_now g.A.Address.address c.args.line.now c.args.engine.now c.tell.new.self c.tell.ensures.moments

@@ -1,0 +1,58 @@
+use Rattle.std.proofs.Common.{◌≡◌, ◌++◌, [], refl, ap, subst, ◌∙◌}
+use Rattle.std.proofs.KnownBytes.{Appends-nil}
+use Rattle.branch_print.specs.Texts.{line_end}
+use Rattle.branch_print.specs.Reports.{report_text}
+use Rattle.branch_print.specs.Summaries.{summary_text}
+use Rattle.branch_command.specs.Work.{Work}
+use Rattle.branch_engine.specs.Engines.{Store}
+use Rattle.branch_engine.specs.Play.{begins}
+use Rattle.branch_shell.specs.Documents.{DocStore}
+use Rattle.branch_shell.specs.Generated.{drawn_lines, work_text, SurvivesWork}
+use Rattle.branch_shell.proofs.Once.{answers_map}
+use Rattle.branch_shell.proofs.Works.{work_said, survives_told, survives_stopped, stopped_undone, nothing_said}
+use Rattle.branch_shell.proofs.generate.work_over.Goals as goal
+
+pub returns-in-Ok-clause-wrote : goal.returns-in-Ok-clause-wrote
+returns-in-Ok-clause-wrote g c =
+    let address = g.A.Address.address in
+    let store : DocStore = record { limits = c.args.core.limits; history = c.args.core.history } in
+    let work : Work = record { steps = c.args.steps; number = c.args.number } in
+    let began = c.new-engine.ensures.begins c.requires in
+    let told = c.in-Ok.ensures.told store.limits (begins store.history) began in
+    let counted = c.in-Ok.ensures.counted store.limits (begins store.history) began [] refl in
+    let shown = c.core.result.now in
+    answers_map (λ whole. whole ≡ (summary_text c.in-Ok.summary ++ line_end) ++ report_text shown.history) (λ whole. ⊥) (λ whole. whole ≡ work_text address store (drawn_lines work)) (λ whole. ⊥)
+    (work_said address store (drawn_lines work) c.in-Ok.summary shown.history counted (ap (λ k. k.history) c.core.ensures ∙ told.at.history)) (λ whole no. no)
+    c.say_work.result (g.K.Sink.given c.args.sink.now) (g.K.Sink.given c.say_work.new.sink) c.say_work.ensures.wrote
+
+pub returns-in-Ok-clause-survives : goal.returns-in-Ok-clause-survives
+returns-in-Ok-clause-survives g c =
+    let d = g.D.Disk in
+    let address = g.A.Address.address in
+    let store : DocStore = record { limits = c.args.core.limits; history = c.args.core.history } in
+    let lines = drawn_lines (record { steps = c.args.steps; number = c.args.number }) in
+    let last = c.count_drawn.new.engine in
+    let all = survives_told address d.contents d.may_leave d.moment d.left_since g.met.D.Disk.counts_now store lines c.new-engine.result last c.say_work.result (c.new-engine.ensures.begins c.requires) c.in-Ok.ensures.told in
+    rw c.close.ensures (subst (λ (k : Store _). SurvivesWork d.may_leave d.moment d.left_since address store lines k.disk last.core.disk c.say_work.result) c.new-engine.ensures.core all)
+
+pub returns-in-Err-clause-wrote : goal.returns-in-Err-clause-wrote
+returns-in-Err-clause-wrote g c =
+    let store : DocStore = record { limits = c.args.core.limits; history = c.args.core.history } in
+    let work : Work = record { steps = c.args.steps; number = c.args.number } in
+    let d = g.D.Disk in (
+      [],
+      Appends-nil (g.K.Sink.given c.args.sink.now),
+      nothing_said (λ whole. whole ≡ work_text g.A.Address.address store (drawn_lines work)) (λ whole. ⊥)
+          (d.faults c.new-engine.result.core.disk) (d.faults c.count_drawn.new.engine.core.disk) c.in-Err.status c.in-Err.ensures.cause,
+    )
+
+pub returns-in-Err-clause-survives : goal.returns-in-Err-clause-survives
+returns-in-Err-clause-survives g c =
+    let d = g.D.Disk in
+    let address = g.A.Address.address in
+    let store : DocStore = record { limits = c.args.core.limits; history = c.args.core.history } in
+    let lines = drawn_lines (record { steps = c.args.steps; number = c.args.number }) in
+    let last = c.count_drawn.new.engine in
+    let undone = stopped_undone (d.faults c.new-engine.result.core.disk) (d.faults last.core.disk) c.in-Err.status c.in-Err.ensures.cause in
+    let all = survives_stopped address d.contents d.may_leave d.moment d.left_since g.met.D.Disk.counts_now store lines c.new-engine.result last c.in-Err.status (c.new-engine.ensures.begins c.requires) c.count_drawn.ensures.moments undone in
+    rw c.close-in-Err.ensures (subst (λ (k : Store _). SurvivesWork d.may_leave d.moment d.left_since address store lines k.disk last.core.disk c.in-Err.status) c.new-engine.ensures.core all)
