@@ -1,0 +1,3 @@
+mod Accepted
+mod Behind
+pub mod Crosses

@@ -1,0 +1,10 @@
+use Rattle.std.proofs.Common.{◌≡◌, ◌+◌, length, ap, sym, ◌∙◌, arith, length-append}
+use Rattle.branch_shared.proofs.shared.Shared.close_with.Goals as goal
+
+pub returns-clause-all : goal.returns-clause-all
+returns-clause-all g c parts =
+    let held : c.last.inside.pass.parts ≡ c.args.last.parts = ap (λ v. v.parts) c.last.view_is in
+    let front : c.self.inside.front.parts ≡ g.N.Named.parts = ap (λ f. f.parts) c.self.invariant.0 in
+    let all : c.close-receipts.result ≡ length c.core.inside.writer.moves = c.close-receipts.ensures.all (held ∙ (parts ∙ sym front)) in
+    let history : length c.core.inside.core.history ≡ length g.N.Named.begun + length c.core.inside.writer.moves = ap (λ w. length w) c.core.invariant.history_is ∙ length-append g.N.Named.begun c.core.inside.writer.moves in
+    omega (arith, all, history, c.moves.ensures.moves, c.self.invariant.1)

@@ -1,0 +1,28 @@
+-- What lies behind a shared store, and what its type keeps.
+use Rattle.std.specs.Prelude.{◌≡◌, ℕ, ◌-◌, List, [], ◌++◌, length}
+use Rattle.atomic_table.specs.Seated.{TableId}
+use Rattle.branch_names.specs.declared.limits.Limits.{Limits}
+use Rattle.branch_front.specs.Views.{Opening, View, IsIdle}
+use Rattle.store_core.specs.Views.{StoreView}
+
+-- the faults that a store's disk has had since the store was made or opened
+abbrev pub faults_since : {M D : Type 0} → (D → ℕ) → StoreView M D → ℕ
+faults_since faults store = faults store.disk - faults store.opened
+
+-- the front of a store that began with a history
+abbrev pub front_of : {M : Type 0} → TableId → List M → ℕ → Opening
+front_of table begun parts = record { table = table; begun = length begun; parts = parts }
+
+-- the first writer of a front, which holds all parts and knows of so many faults
+abbrev pub first_writer : {M : Type 0} → TableId → ℕ → ℕ → View M
+first_writer table parts faults = record { table = table; moves = []; mine = []; faults = faults; parts = parts; receipts = 0 }
+
+-- under the lock lie the core that was named and the front's writer, which is idle and knows the core's history and how
+-- often its disk has failed
+pub record IsKept {M D : Type 0} (faults : D → ℕ) (table : TableId) (begun : List M) (limits : Limits) (opened : ℕ) (core : StoreView M D) (writer : View M) : Type 0 where
+  pub table_is : writer.table ≡ table
+  pub history_is : core.history ≡ begun ++ writer.moves
+  pub limits_are : core.limits ≡ limits
+  pub opened_is : faults core.opened ≡ opened
+  pub faults_are : writer.faults ≡ faults_since faults core
+  pub idle : IsIdle writer

@@ -1,0 +1,46 @@
+-- What names a shared store: which front, and what the store was when it got its name.
+use Rattle.std.specs.Prelude.{◌≡◌, ℕ, List, [], refl}
+use native.Mathlib.Nat.{le_refl, le_intro}
+use Rattle.atomic_table.specs.Seated.{TableId}
+use Rattle.branch_names.specs.declared.limits.Limits.{Limits}
+use Rattle.store_core.specs.Views.{StoreView}
+
+-- a store that has no name yet: its front, its core, the number of parts, and the disk's faults when the core was opened
+pub record BlankView (M D : Type 0) : Type 0 where
+  pub table : TableId
+  pub core : StoreView M D
+  pub parts : ℕ
+  pub opened : ℕ
+
+-- the name says what this store is
+pub record IsNamed {M D : Type 0} (blank : BlankView M D) (table : TableId) (begun : List M) (limits : Limits) (parts opened : ℕ) : Type 0 where
+  pub table_is : blank.table ≡ table
+  pub history_is : blank.core.history ≡ begun
+  pub limits_are : blank.core.limits ≡ limits
+  pub parts_are : blank.parts ≡ parts
+  pub opened_is : blank.opened ≡ opened
+
+-- the front and the limits of a name that was not picked
+abbrev pub no_table : TableId
+no_table = record { words = 0; slots = 0; views_name = 0; atom = 0; block = 0; offset = 0; slot_names = [] }
+
+abbrev pub least_limits : Limits
+least_limits = record {
+  clock = 1;
+  commits = 1;
+  branches = 1;
+  value = 1;
+  moves = 1;
+  in_range = record {
+    clock_low = le_refl 1;
+    clock_high = le_intro 1 18446744073709551614 refl;
+    commits_low = le_refl 1;
+    commits_high = le_intro 1 4294967294 refl;
+    branches_low = le_refl 1;
+    branches_high = le_intro 1 4294967294 refl;
+    value_low = le_refl 1;
+    value_high = le_intro 1 1073741823 refl;
+    moves_low = le_refl 1;
+    moves_high = le_intro 1 281474976710655 refl;
+  };
+}

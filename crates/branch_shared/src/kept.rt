@@ -1,0 +1,247 @@
+// What lies under the lock.
+ghost use Rattle.std.specs.Prelude.{ℕ, ◌≡◌, ◌≢◌, ◌+◌, ◌≤◌, ◌^◌, ◌∷◌, ◌++◌, [], length, true, false, Err, IfOk, IfErr, OnErr};
+ghost use mathlib.Core.List.{IsPrefix};
+ghost use Rattle.branch_io.specs.Causes.{Rose};
+ghost use Rattle.branch_front.specs.Views.{IsIdle};
+ghost use Rattle.branch_history.specs.declared.moves.Move.{Move};
+ghost use Rattle.branch_history.specs.Machine.{turn, answers};
+ghost use Rattle.branch_history.specs.Steps as machine;
+ghost use Rattle.branch_machine.specs.Fixed.{fix};
+ghost use Rattle.branch_machine.specs.Validity.{IsFullyValid};
+ghost use Rattle.store_seen.specs.Pairs.{IsPaired, PairRefusedAs};
+ghost use Rattle.store_seen.specs.Turns.{LookRefusedAs};
+ghost use Rattle.branch_shared.specs.Keeps.{faults_since, front_of};
+ghost use Rattle.branch_shared.specs.Passes.{seen_by, IsSeenOn, LandedAt, LandRefusedAt, ForkedAt, ForkRefusedAt};
+
+use crate::name::{MoveOf, Named};
+use crate::pass::Pass;
+use branch_address::Address;
+use branch_disk::Disk;
+use branch_front::{Front, Told, Writer};
+use branch_names::Name;
+use mrdt_model::Mrdt;
+use std::marker::{Brand, Model, PhantomData};
+use store_core::{
+    Core, ForkRefused, Forked, LandRefused, Landed, LookRefused, Pair, PairRefused, Prepared, Seen,
+};
+
+/// What lies under the lock of a shared store: its core, and the writer, which knows the core's history and faults.
+/// Contracts see the core's `StoreView`.
+#[derive(Drop)]
+pub struct Kept<T: Mrdt, D: Disk + Drop, A: Address, N: Named<T::Op, T::Reply>> {
+    pub(crate) core: Core<T, D, A>,
+    pub(crate) writer: Writer<MoveOf<T>>,
+    pub(crate) of: PhantomData<N>,
+}
+
+impl<T: Mrdt, D: Disk + Drop, A: Address, N: Named<T::Op, T::Reply>> Model for Kept<T, D, A, N> {
+    ghost use Rattle.branch_history.specs.declared.moves.Move.{Move};
+    ghost use Rattle.store_core.specs.Views.{StoreView};
+    ghost use Rattle.branch_shared.specs.Keeps.{IsKept};
+
+    ghost Value = { StoreView (Move T.Op T.Reply) D };
+
+    ghost view = { λ k. k.core };
+
+    ghost invariant = { λ k. IsKept D.faults N.table N.begun N.limits N.opened k.core k.writer };
+}
+
+impl<T: Mrdt, D: Disk + Drop, A: Address, N: Named<T::Op, T::Reply>> Kept<T, D, A, N> {
+    /// Looks at the branch with a name, for the pass.
+    pub(crate) fn look(
+        &mut self,
+        front: &Front<MoveOf<T>>,
+        pass: &mut Pass<T, N>,
+        branch: &Name,
+    ) -> Result<Seen<T>, LookRefused>
+        requires front { front.now ≡ front_of N.table N.begun N.parts }
+        ensures prefix { IsPrefix pass.old.moves pass.new.moves }
+        ensures begun { IsPrefix N.begun pass.new.moves }
+        ensures valid { IsFullyValid (fix T.meaning N.limits A.address) pass.new.moves }
+        ensures faults { pass.old.faults ≤ pass.new.faults }
+        ensures rest { IsSeenOn pass.old pass.new }
+        ensures on { IfOk result (λ seen. (seen.history ≡ pass.new.moves) × (seen.limits ≡ N.limits)) }
+        ensures sees { IfOk result (λ seen. turn T.meaning N.limits pass.new.moves (machine.Look branch.now) ≡ answers (machine.Sees seen.branch seen.head)) }
+        ensures refused { IfErr result (LookRefusedAs T.meaning (seen_by pass.new N.limits) branch.now) }
+    {
+        see(front, &mut self.writer, pass, &self.core);
+        self.core.look(branch)
+    }
+
+    /// Pairs a look with the head that a branch has now, for the pass.
+    pub(crate) fn pair(
+        &mut self,
+        front: &Front<MoveOf<T>>,
+        pass: &mut Pass<T, N>,
+        seen: &Seen<T>,
+        from: &Name,
+    ) -> Result<Pair<T>, PairRefused>
+        requires front { front.now ≡ front_of N.table N.begun N.parts }
+        requires history { IsPrefix seen.now.history pass.old.moves }
+        requires limits { seen.now.limits ≡ N.limits }
+        ensures prefix { IsPrefix pass.old.moves pass.new.moves }
+        ensures begun { IsPrefix N.begun pass.new.moves }
+        ensures valid { IsFullyValid (fix T.meaning N.limits A.address) pass.new.moves }
+        ensures faults { pass.old.faults ≤ pass.new.faults }
+        ensures rest { IsSeenOn pass.old pass.new }
+        ensures paired { IfOk result (IsPaired T.meaning (seen_by pass.new N.limits) seen.now from.now) }
+        ensures refused { IfErr result (PairRefusedAs T.meaning (seen_by pass.new N.limits) from.now) }
+    {
+        see(front, &mut self.writer, pass, &self.core);
+        self.core.pair(seen, from)
+    }
+
+    /// Lands what was prepared, for the pass. It sees first: only so is it known that what was prepared was made on a
+    /// beginning of the history.
+    pub(crate) fn land(
+        &mut self,
+        front: &Front<MoveOf<T>>,
+        pass: &mut Pass<T, N>,
+        prepared: Prepared<T>,
+    ) -> Result<Landed<T::Reply>, LandRefused>
+        requires front { front.now ≡ front_of N.table N.begun N.parts }
+        requires history { IsPrefix prepared.seen.history pass.old.moves }
+        requires limits { prepared.seen.limits ≡ N.limits }
+        ensures prefix { IsPrefix pass.old.moves pass.new.moves }
+        ensures begun { IsPrefix N.begun pass.new.moves }
+        ensures valid { IsFullyValid (fix T.meaning N.limits A.address) pass.new.moves }
+        ensures faults { pass.old.faults ≤ pass.new.faults }
+        ensures parts { pass.new.parts ≡ pass.old.parts }
+        ensures landed { IfOk result (λ landed. LandedAt (fix T.meaning N.limits A.address) prepared pass.old pass.new landed.moves landed.kind) }
+        ensures refused { IfErr result (LandRefusedAt (fix T.meaning N.limits A.address) N.opened prepared pass.old pass.new) }
+        ensures rest { OnErr result (IsSeenOn pass.old pass.new) }
+        ensures quiet { result ≢ Err LandRefused.DiskFault → ((moves : ℕ) → result ≢ Err (LandRefused.Failed moves)) → pass.new.faults ≡ 0 }
+    {
+        see(front, &mut self.writer, pass, &self.core);
+        let outcome = self.core.land(prepared);
+        if outcome.is_ok() {
+            add(front, &mut self.writer, pass, &self.core);
+        } else {
+            see(front, &mut self.writer, pass, &self.core);
+        }
+        outcome
+    }
+
+    /// Forks a new branch from the head of another, for the pass.
+    pub(crate) fn fork(
+        &mut self,
+        front: &Front<MoveOf<T>>,
+        pass: &mut Pass<T, N>,
+        new: Name,
+        from: &Name,
+    ) -> Result<Forked, ForkRefused>
+        requires front { front.now ≡ front_of N.table N.begun N.parts }
+        ensures prefix { IsPrefix pass.old.moves pass.new.moves }
+        ensures begun { IsPrefix N.begun pass.new.moves }
+        ensures valid { IsFullyValid (fix T.meaning N.limits A.address) pass.new.moves }
+        ensures faults { pass.old.faults ≤ pass.new.faults }
+        ensures parts { pass.new.parts ≡ pass.old.parts }
+        ensures forked { IfOk result (ForkedAt (fix T.meaning N.limits A.address) new from.now pass.old pass.new) }
+        ensures refused { IfErr result (ForkRefusedAt (fix T.meaning N.limits A.address) N.opened new from.now pass.old pass.new) }
+        ensures rest { OnErr result (IsSeenOn pass.old pass.new) }
+        ensures quiet { result ≢ Err ForkRefused.DiskFault → ((moves : ℕ) → result ≢ Err (ForkRefused.Failed moves)) → pass.new.faults ≡ 0 }
+    {
+        see(front, &mut self.writer, pass, &self.core);
+        let outcome = self.core.fork(new, from);
+        if outcome.is_ok() {
+            add(front, &mut self.writer, pass, &self.core);
+        } else {
+            see(front, &mut self.writer, pass, &self.core);
+        }
+        outcome
+    }
+}
+
+// The pass sees the core's history, and the writer and the pass how often its disk has failed.
+fn see<T: Mrdt, D: Disk + Drop, A: Address, N: Named<T::Op, T::Reply>>(
+    front: &Front<MoveOf<T>>,
+    writer: &mut Writer<MoveOf<T>>,
+    pass: &mut Pass<T, N>,
+    core: &Core<T, D, A>,
+)
+    requires front { front.now ≡ front_of N.table N.begun N.parts }
+    requires table { writer.old.table ≡ N.table }
+    requires idle { IsIdle writer.old }
+    requires history { core.now.history ≡ N.begun ++ writer.old.moves }
+    requires rise { writer.old.faults ≤ faults_since D.faults core.now }
+    ensures writer { writer.new ≡ record writer.old { faults = faults_since D.faults core.now } }
+    ensures pass { pass.new ≡ record pass.old { moves = core.now.history; faults = faults_since D.faults core.now } }
+    ensures prefix { IsPrefix pass.old.moves core.now.history }
+    ensures faults { pass.old.faults ≤ writer.old.faults }
+    ensures valid { IsFullyValid (fix T.meaning core.now.limits A.address) core.now.history }
+    ensures later { D.faults core.now.opened ≤ D.faults core.now.disk }
+    ensures caused { core.now.failed ≡ true → Rose (D.faults core.now.opened) (D.faults core.now.disk) }
+    ensures quiet { core.now.failed ≡ false → D.faults core.now.disk ≡ D.faults core.now.opened }
+{
+    see_as::<T, D, A, N, Brand>(front, writer, pass, core);
+}
+
+fn see_as<T: Mrdt, D: Disk + Drop, A: Address, N: Named<T::Op, T::Reply>, E: Told<MoveOf<T>>>(
+    front: &Front<MoveOf<T>>,
+    writer: &mut Writer<MoveOf<T>>,
+    pass: &mut Pass<T, N>,
+    core: &Core<T, D, A>,
+)
+    requires front { front.now ≡ front_of N.table N.begun N.parts }
+    requires table { writer.old.table ≡ N.table }
+    requires idle { IsIdle writer.old }
+    requires history { core.now.history ≡ N.begun ++ writer.old.moves }
+    requires rise { writer.old.faults ≤ faults_since D.faults core.now }
+    requires told { E.faults ≡ faults_since D.faults core.now }
+    ensures writer { writer.new ≡ record writer.old { faults = faults_since D.faults core.now } }
+    ensures pass { pass.new ≡ record pass.old { moves = core.now.history; faults = faults_since D.faults core.now } }
+    ensures prefix { IsPrefix pass.old.moves core.now.history }
+    ensures faults { pass.old.faults ≤ writer.old.faults }
+    ensures valid { IsFullyValid (fix T.meaning core.now.limits A.address) core.now.history }
+    ensures later { D.faults core.now.opened ≤ D.faults core.now.disk }
+    ensures caused { core.now.failed ≡ true → Rose (D.faults core.now.opened) (D.faults core.now.disk) }
+    ensures quiet { core.now.failed ≡ false → D.faults core.now.disk ≡ D.faults core.now.opened }
+{
+    // Its clauses say what is known of a core.
+    let _ = core.moves();
+    writer.look::<E>(front, &mut pass.pass);
+}
+
+// The writer adds the core's last move, for the pass.
+fn add<T: Mrdt, D: Disk + Drop, A: Address, N: Named<T::Op, T::Reply>>(
+    front: &Front<MoveOf<T>>,
+    writer: &mut Writer<MoveOf<T>>,
+    pass: &mut Pass<T, N>,
+    core: &Core<T, D, A>,
+)
+    requires front { front.now ≡ front_of N.table N.begun N.parts }
+    requires table { writer.old.table ≡ N.table }
+    requires idle { IsIdle writer.old }
+    requires grown { (made : Move T.Op T.Reply) × (core.now.history ≡ (N.begun ++ writer.old.moves) ++ made ∷ []) }
+    requires rise { writer.old.faults ≤ faults_since D.faults core.now }
+    requires room { length core.now.history ≤ 2 ^ 48 }
+    ensures table { writer.new.table ≡ writer.old.table }
+    ensures history { core.now.history ≡ N.begun ++ writer.new.moves }
+    ensures writer { (writer.new.faults ≡ faults_since D.faults core.now) × IsIdle writer.new }
+    ensures pass { pass.new ≡ record pass.old { moves = core.now.history; mine = pass.old.mine ++ length core.now.history ∷ []; faults = faults_since D.faults core.now; receipts = pass.old.receipts + 1 } }
+    ensures valid { IsFullyValid (fix T.meaning core.now.limits A.address) core.now.history }
+{
+    add_as::<T, D, A, N, Brand>(front, writer, pass, core);
+}
+
+fn add_as<T: Mrdt, D: Disk + Drop, A: Address, N: Named<T::Op, T::Reply>, E: Told<MoveOf<T>>>(
+    front: &Front<MoveOf<T>>,
+    writer: &mut Writer<MoveOf<T>>,
+    pass: &mut Pass<T, N>,
+    core: &Core<T, D, A>,
+)
+    requires front { front.now ≡ front_of N.table N.begun N.parts }
+    requires table { writer.old.table ≡ N.table }
+    requires idle { IsIdle writer.old }
+    requires entry { (length E.entry ≡ 1) × (core.now.history ≡ (N.begun ++ writer.old.moves) ++ E.entry) }
+    requires rise { writer.old.faults ≤ faults_since D.faults core.now }
+    requires told { E.faults ≡ faults_since D.faults core.now }
+    requires room { length core.now.history ≤ 2 ^ 48 }
+    ensures writer { writer.new ≡ record writer.old { moves = writer.old.moves ++ E.entry; faults = faults_since D.faults core.now } }
+    ensures pass { pass.new ≡ record pass.old { moves = core.now.history; mine = pass.old.mine ++ length core.now.history ∷ []; faults = faults_since D.faults core.now; receipts = pass.old.receipts + 1 } }
+    ensures valid { IsFullyValid (fix T.meaning core.now.limits A.address) core.now.history }
+{
+    // Its clauses say what is known of a core.
+    let _ = core.moves();
+    writer.add::<E>(front, &mut pass.pass);
+}

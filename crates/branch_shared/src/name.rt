@@ -1,0 +1,48 @@
+// Names of shared stores.
+use branch_history::Move;
+use mrdt_model::Mrdt;
+use std::marker::Brand;
+
+/// A move of a store over a type.
+pub(crate) type MoveOf<T> = Move<<T as Mrdt>::Op, <T as Mrdt>::Reply>;
+
+/// Names one shared store, for proofs alone: a name takes no bytes. O and R are the operations and replies of its type.
+///
+/// A program hands its `Blank` to a function over `N: Named<O, R>`, which it calls with `Brand`; there it picks what the
+/// name says, which is what the blank is.
+pub trait Named<O, R> {
+    ghost use Rattle.std.specs.Prelude.{ℕ, List};
+    ghost use Rattle.atomic_table.specs.Seated.{TableId};
+    ghost use Rattle.branch_names.specs.declared.limits.Limits.{Limits};
+    ghost use Rattle.branch_history.specs.declared.moves.Move.{Move};
+
+    // Which front it is.
+    ghost table: { TableId };
+
+    // The history that the store began with.
+    ghost begun: { List (Move O R) };
+
+    // The limits of the store.
+    ghost limits: { Limits };
+
+    // The number of parts of all passes.
+    ghost parts: { ℕ };
+
+    // How many faults the disk had had when the core was opened.
+    ghost opened: { ℕ };
+}
+
+impl<O, R> Named<O, R> for Brand {
+    ghost use Rattle.std.specs.Prelude.{[]};
+    ghost use Rattle.branch_shared.specs.Names.{no_table, least_limits};
+
+    ghost table = { no_table };
+
+    ghost begun = { [] };
+
+    ghost limits = { least_limits };
+
+    ghost parts = { 0 };
+
+    ghost opened = { 0 };
+}

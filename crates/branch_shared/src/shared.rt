@@ -1,0 +1,264 @@
+// A store that threads share.
+ghost use Rattle.std.specs.Prelude.{ℕ, ◌≡◌, ◌≢◌, ◌+◌, ◌-◌, ◌<◌, ◌≤◌, [], length, max, Err, IfOk, IfErr, OnErr};
+ghost use mathlib.Core.List.{IsPrefix};
+ghost use Rattle.branch_front.specs.Lists.{longer};
+ghost use Rattle.branch_history.specs.Machine.{turn, answers};
+ghost use Rattle.branch_history.specs.Steps as machine;
+ghost use Rattle.branch_machine.specs.Fixed.{fix};
+ghost use Rattle.branch_machine.specs.Validity.{IsFullyValid};
+ghost use Rattle.store_seen.specs.Pairs.{IsPaired, PairRefusedAs};
+ghost use Rattle.store_seen.specs.Turns.{LookRefusedAs};
+ghost use Rattle.branch_shared.specs.Keeps.{faults_since};
+ghost use Rattle.branch_shared.specs.Names.{IsNamed};
+ghost use Rattle.branch_shared.specs.Passes.{seen_by, IsSeenOn, LandedAt, LandRefusedAt, ForkedAt, ForkRefusedAt};
+
+use crate::blank::Blank;
+use crate::kept::Kept;
+use crate::name::{MoveOf, Named};
+use crate::pass::Pass;
+use branch_address::Address;
+use branch_disk::Disk;
+use branch_front::Front;
+use branch_names::Name;
+use mrdt_model::Mrdt;
+use std::marker::{Model, PhantomData};
+use std::sync::{Mutex, Wait};
+use store_core::{
+    Core, ForkRefused, Forked, LandRefused, Landed, LookRefused, Pair, PairRefused, Prepared, Seen,
+};
+
+/// A store that threads share by reference. What it began with, its limits and the number of its parts are those that N
+/// names. Contracts see the front's `Opening`.
+///
+/// `look`, `pair`, `land` and `fork` wait for the one lock, and do under it what one event of the store is. After each
+/// of them, refused or not, the pass has seen the whole history up to the call, of which it had seen a beginning.
+#[derive(Drop)]
+pub struct Shared<T: Mrdt, D: Disk + Drop, A: Address, N: Named<T::Op, T::Reply>> {
+    front: Front<MoveOf<T>>,
+    kept: Mutex<Kept<T, D, A, N>>,
+    begun: u64,
+}
+
+impl<T: Mrdt, D: Disk + Drop, A: Address, N: Named<T::Op, T::Reply>> Model for Shared<T, D, A, N> {
+    ghost use Rattle.std.specs.Prelude.{◌≡◌, length};
+    ghost use Rattle.branch_front.specs.Views.{Opening};
+    ghost use Rattle.branch_shared.specs.Keeps.{front_of};
+
+    ghost Value = { Opening };
+
+    ghost view = { λ s. s.front };
+
+    ghost invariant = { λ s. (s.front ≡ front_of N.table N.begun N.parts) × (s.begun ≡ length N.begun) };
+}
+
+/// What is left of a shared store.
+#[derive(Drop)]
+pub struct Closed<T: Mrdt, D: Disk + Drop, A: Address> {
+    /// The core, with the moves of all callers.
+    pub core: Core<T, D, A>,
+    /// How many moves landed since the store was shared.
+    pub landed: u64,
+    /// How many of them the last pass, and those that left into it, landed.
+    pub receipts: u64,
+}
+
+impl<T: Mrdt, D: Disk + Drop, A: Address, N: Named<T::Op, T::Reply>> Shared<T, D, A, N> {
+    /// The store under its name, and the pass that holds all parts.
+    pub fn new(blank: Blank<T, D, A>) -> (Shared<T, D, A, N>, Pass<T, N>)
+        requires name { IsNamed blank N.table N.begun N.limits N.parts N.opened }
+        ensures { result.1 ≡ record { moves = blank.core.history; mine = []; faults = faults_since D.faults blank.core; parts = blank.parts; receipts = 0 } }
+    {
+        let Blank {
+            core,
+            front,
+            mut writer,
+            begun,
+        } = blank;
+        let pass = writer.first(&front);
+        let kept = Kept {
+            core,
+            writer,
+            of: PhantomData,
+        };
+        let shared = Shared {
+            front,
+            kept: Mutex::new(kept),
+            begun,
+        };
+        let pass = Pass {
+            pass,
+            of: PhantomData,
+        };
+        (shared, pass)
+    }
+
+    /// A new pass with some of the parts of another, which has seen as much and has landed nothing.
+    pub fn enter(&self, from: &mut Pass<T, N>, parts: u64) -> Pass<T, N>
+        requires parts { (0 < parts) × (parts < from.old.parts) }
+        ensures from { from.new ≡ record from.old { parts = from.old.parts - parts } }
+        ensures entered { result ≡ record from.old { mine = []; parts = parts; receipts = 0 } }
+        ensures begun { IsPrefix N.begun result.moves }
+    {
+        Pass {
+            pass: from.pass.split_off(&self.front, parts),
+            of: PhantomData,
+        }
+    }
+
+    /// Looks at the branch with a name, also where the disk has failed. `UnknownBranch` comes exactly where no branch has
+    /// the name.
+    pub fn look<R: Wait>(
+        &self,
+        rt: &R,
+        pass: &mut Pass<T, N>,
+        branch: &Name,
+    ) -> Result<Seen<T>, LookRefused>
+        ensures prefix { IsPrefix pass.old.moves pass.new.moves }
+        ensures begun { IsPrefix N.begun pass.new.moves }
+        ensures valid { IsFullyValid (fix T.meaning N.limits A.address) pass.new.moves }
+        ensures faults { pass.old.faults ≤ pass.new.faults }
+        ensures rest { IsSeenOn pass.old pass.new }
+        ensures on { IfOk result (λ seen. (seen.history ≡ pass.new.moves) × (seen.limits ≡ N.limits)) }
+        ensures sees { IfOk result (λ seen. turn T.meaning N.limits pass.new.moves (machine.Look branch.now) ≡ answers (machine.Sees seen.branch seen.head)) }
+        ensures refused { IfErr result (LookRefusedAs T.meaning (seen_by pass.new N.limits) branch.now) }
+    {
+        self.kept.lock(rt).look(&self.front, pass, branch)
+    }
+
+    /// Pairs a look, taken now or earlier, with the head that a branch has now, also where the disk has failed.
+    /// `UnknownBranch` comes exactly where no branch has the name.
+    pub fn pair<R: Wait>(
+        &self,
+        rt: &R,
+        pass: &mut Pass<T, N>,
+        seen: &Seen<T>,
+        from: &Name,
+    ) -> Result<Pair<T>, PairRefused>
+        requires history { IsPrefix seen.now.history pass.old.moves }
+        requires limits { seen.now.limits ≡ N.limits }
+        ensures prefix { IsPrefix pass.old.moves pass.new.moves }
+        ensures begun { IsPrefix N.begun pass.new.moves }
+        ensures valid { IsFullyValid (fix T.meaning N.limits A.address) pass.new.moves }
+        ensures faults { pass.old.faults ≤ pass.new.faults }
+        ensures rest { IsSeenOn pass.old pass.new }
+        ensures paired { IfOk result (IsPaired T.meaning (seen_by pass.new N.limits) seen.now from.now) }
+        ensures refused { IfErr result (PairRefusedAs T.meaning (seen_by pass.new N.limits) from.now) }
+    {
+        self.kept.lock(rt).pair(&self.front, pass, seen, from)
+    }
+
+    /// Lands what was prepared on a look, now or earlier. After `Ok` the last move that the pass has seen is this one.
+    /// It is refused exactly as the machine refuses it on the history up to the call, or where the disk fails or has
+    /// failed.
+    pub fn land<R: Wait>(
+        &self,
+        rt: &R,
+        pass: &mut Pass<T, N>,
+        prepared: Prepared<T>,
+    ) -> Result<Landed<T::Reply>, LandRefused>
+        requires history { IsPrefix prepared.seen.history pass.old.moves }
+        requires limits { prepared.seen.limits ≡ N.limits }
+        ensures prefix { IsPrefix pass.old.moves pass.new.moves }
+        ensures begun { IsPrefix N.begun pass.new.moves }
+        ensures valid { IsFullyValid (fix T.meaning N.limits A.address) pass.new.moves }
+        ensures faults { pass.old.faults ≤ pass.new.faults }
+        ensures parts { pass.new.parts ≡ pass.old.parts }
+        ensures landed { IfOk result (λ landed. LandedAt (fix T.meaning N.limits A.address) prepared pass.old pass.new landed.moves landed.kind) }
+        ensures refused { IfErr result (LandRefusedAt (fix T.meaning N.limits A.address) N.opened prepared pass.old pass.new) }
+        ensures rest { OnErr result (IsSeenOn pass.old pass.new) }
+        ensures quiet { result ≢ Err LandRefused.DiskFault → ((moves : ℕ) → result ≢ Err (LandRefused.Failed moves)) → pass.new.faults ≡ 0 }
+    {
+        self.kept.lock(rt).land(&self.front, pass, prepared)
+    }
+
+    /// Forks a new branch from the head that another has now. After `Ok` the last move that the pass has seen is this one.
+    /// It is refused exactly as the machine refuses it on the history up to the call, or where the disk fails or has
+    /// failed.
+    pub fn fork<R: Wait>(
+        &self,
+        rt: &R,
+        pass: &mut Pass<T, N>,
+        new: Name,
+        from: &Name,
+    ) -> Result<Forked, ForkRefused>
+        ensures prefix { IsPrefix pass.old.moves pass.new.moves }
+        ensures begun { IsPrefix N.begun pass.new.moves }
+        ensures valid { IsFullyValid (fix T.meaning N.limits A.address) pass.new.moves }
+        ensures faults { pass.old.faults ≤ pass.new.faults }
+        ensures parts { pass.new.parts ≡ pass.old.parts }
+        ensures forked { IfOk result (ForkedAt (fix T.meaning N.limits A.address) new from.now pass.old pass.new) }
+        ensures refused { IfErr result (ForkRefusedAt (fix T.meaning N.limits A.address) N.opened new from.now pass.old pass.new) }
+        ensures rest { OnErr result (IsSeenOn pass.old pass.new) }
+        ensures quiet { result ≢ Err ForkRefused.DiskFault → ((moves : ℕ) → result ≢ Err (ForkRefused.Failed moves)) → pass.new.faults ≡ 0 }
+    {
+        self.kept.lock(rt).fork(&self.front, pass, new, from)
+    }
+
+    /// A pass ends in another, which has then seen what either had. Answers how many moves the pass, and those that left
+    /// into it, landed.
+    pub fn leave(&self, pass: Pass<T, N>, into: &mut Pass<T, N>) -> u64
+        ensures receipts { result ≡ pass.receipts }
+        ensures into { into.new ≡ record into.old {
+          moves = longer into.old.moves pass.moves;
+          faults = max into.old.faults pass.faults;
+          parts = into.old.parts + pass.parts;
+          receipts = into.old.receipts + pass.receipts;
+        } }
+
+        // The longer of the two lists begins with both.
+        ensures this { IsPrefix into.old.moves into.new.moves }
+        ensures that { IsPrefix pass.moves into.new.moves }
+    {
+        let Pass { pass, of: _ } = pass;
+        let receipts = pass.receipts();
+        into.pass.join(&self.front, pass);
+        receipts
+    }
+
+    /// The core, where no pass is at hand.
+    pub fn close(self) -> Core<T, D, A>
+        ensures history { IsPrefix N.begun result.history }
+        ensures limits { result.limits ≡ N.limits }
+        ensures opened { D.faults result.opened ≡ N.opened }
+    {
+        let Shared {
+            front: _,
+            kept,
+            begun: _,
+        } = self;
+        let Kept {
+            core,
+            writer: _,
+            of: _,
+        } = kept.into_inner();
+        core
+    }
+
+    /// The core, how many moves landed since the store was shared, and how many of them the last pass, and those that
+    /// left into it, landed: all, where it holds all parts.
+    pub fn close_with(self, last: Pass<T, N>) -> Closed<T, D, A>
+        ensures history { IsPrefix last.moves result.core.history }
+        ensures begun { IsPrefix N.begun result.core.history }
+        ensures limits { result.core.limits ≡ N.limits }
+        ensures opened { D.faults result.core.opened ≡ N.opened }
+        ensures faults { last.faults ≤ faults_since D.faults result.core }
+        ensures landed { length N.begun + result.landed ≡ length result.core.history }
+        ensures receipts { result.receipts ≡ last.receipts }
+        ensures all { last.parts ≡ N.parts → result.receipts ≡ result.landed }
+    {
+        let Shared { front, kept, begun } = self;
+        let Kept {
+            core,
+            writer,
+            of: _,
+        } = kept.into_inner();
+        let Pass { pass, of: _ } = last;
+        let receipts = writer.close(&front, pass);
+        let landed = core.moves() - begun;
+        Closed {
+            core,
+            landed,
+            receipts,
+        }
+    }
+}
