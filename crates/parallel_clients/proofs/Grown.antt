@@ -1,0 +1,121 @@
+-- What a client has played stays where a history grows.
+use Rattle.std.proofs.Common.{◌≡◌, ℕ, ◌+◌, ◌-◌, ◌<◌, ◌≤◌, ◌⊎◌, inl, inr, ⊎_elim, List, [], ◌∷◌, ◌++◌, length, refl, ap, sym, subst, ◌∙◌, Option, Some, None, arith}
+use Rattle.std.specs.Prelude.{slice_get, take}
+use Rattle.std.proofs.lemmas.Option.{slice_get_within}
+use mathlib.Core.List.{IsPrefix}
+use Rattle.branch_front.proofs.Prefixes.{prefix_trans}
+use Rattle.branch_history.specs.declared.moves.Move.{Move}
+use Rattle.branch_history.specs.declared.moves.Move.TheVariants as move
+use Rattle.branch_history.proofs.Lists.{slice_get-append}
+use Rattle.branch_doc.specs.declared.plain.PlainOp.{PlainOp}
+use Rattle.branch_script.specs.declared.step.Step.{Step}
+use Rattle.branch_script.specs.declared.step.Step.TheVariants.{Look, Fork, Merge, Do, Ask}
+use Rattle.parallel_clients.specs.declared.outcome.ClientRefusal.{ClientRefusal}
+use Rattle.parallel_clients.specs.declared.outcome.ClientRefusal.TheVariants.{UnknownBranch, Exhausted, FullCommits, FullBranches, FullMoves, ValueTooLarge, Collision, DiskFault, Failed, Memory}
+use Rattle.parallel_clients.specs.declared.outcome.Outcome.{Outcome}
+use Rattle.parallel_clients.specs.declared.outcome.Outcome.TheVariants.{Done, Refused, Unseen}
+use Rattle.parallel_clients.specs.Played.{Sights, no_sights, with_sight, sights_after, IsMoveAt, IsDone, IsForked, IsMerged, IsTaken, IsReached, HoldsBetween, TakesOne, IfSees, PlayedFrom, Played}
+use Rattle.parallel_clients.specs.Outcomes.{Setting, HasFailed, StepRefused, ComesTo, IsOutcome, StaysOutcome}
+use Rattle.parallel_clients.proofs.Went.{named-later, head-later}
+
+module _ {O R : Type 0} (op_of : PlainOp → O) (moves later : List (Move O R)) (grows : IsPrefix moves later) where
+  move-later : (place : ℕ) (made : Move O R) → IsMoveAt moves place made → IsMoveAt later place made
+  move-later place made at =
+      let there : place - 1 < length moves = slice_get_within moves (place - 1) made at in
+      subst (λ ms. IsMoveAt ms place made) grows.1 (slice_get-append moves grows.0 (place - 1) there ∙ at)
+
+  done-later : (branch : List ℕ) (op : O) (place : ℕ) → IsDone moves branch op place → IsDone later branch op place
+  done-later branch op place is = record { number = is.number; named = named-later moves later grows branch is.number is.named; reply = is.reply; made = move-later place (move.Operation is.number op is.reply) is.made }
+
+  forked-later : (new from : List ℕ) (place : ℕ) → IsForked moves new from place → IsForked later new from place
+  forked-later new from place is = record { number = is.number; source = is.source; named = named-later moves later grows from is.source is.named; made = move-later place (move.Fork new is.number is.source) is.made }
+
+  merged-later : (branch from : List ℕ) (place : ℕ) → IsMerged moves branch from place → IsMerged later branch from place
+  merged-later branch from place is = record {
+    number = is.number;
+    source = is.source;
+    commit = is.commit;
+    named = named-later moves later grows branch is.number is.named;
+    head = head-later moves later grows from is.source is.commit is.head;
+    made = ⊎_elim (λ m. inl (move-later place (move.Merge is.number is.commit) m)) (λ m. inr (move-later place (move.Forward is.number is.commit) m)) is.made;
+  }
+
+  between-later : (last : ℕ) (places : List ℕ) (Holds : List (Move O R) → Type 0) → HoldsBetween moves last places Holds → HoldsBetween later last places Holds
+  between-later last places Holds is = record { before = is.before; begins = prefix_trans is.before moves later is.begins grows; holds_last = is.holds_last; not_next = is.not_next; here = is.here }
+
+  takes-later : (Is Is' : ℕ → Type 0) (Rest Rest' : ℕ → List ℕ → Type 0) → ((place : ℕ) → Is place → Is' place) → ((place : ℕ) (places : List ℕ) → Rest place places → Rest' place places)
+      → (last : ℕ) (places : List ℕ) → TakesOne Is Rest last places → TakesOne Is' Rest' last places
+  takes-later Is Is' Rest Rest' one rest last [] is = is
+  takes-later Is Is' Rest Rest' one rest last (place ∷ places) is = (is.0, one place is.1, rest place places is.2)
+
+  sees-later : (Does Does' : List ℕ → Type 0) → ((branch : List ℕ) → Does branch → Does' branch) → (sight : Option (List ℕ)) → IfSees sight Does → IfSees sight Does'
+  sees-later Does Does' does None is = is
+  sees-later Does Does' does (Some branch) is = does branch is
+
+  pub played_from-later : (steps : List Step) (sights : Sights) (last : ℕ) (places : List ℕ) → PlayedFrom op_of moves steps sights last places → PlayedFrom op_of later steps sights last places
+  played_from-later [] sights last places is = is
+  played_from-later (Look session branch ∷ steps) sights last places is = played_from-later steps (with_sight sights session branch) last places is
+  played_from-later (Ask branch query ∷ steps) sights last places is = played_from-later steps sights last places is
+  played_from-later (Do session op ∷ steps) sights last places is =
+      sees-later (λ branch. TakesOne (IsDone moves branch (op_of op)) (PlayedFrom op_of moves steps sights) last places)
+      (λ branch. TakesOne (IsDone later branch (op_of op)) (PlayedFrom op_of later steps sights) last places)
+      (λ branch. takes-later (IsDone moves branch (op_of op)) (IsDone later branch (op_of op)) (PlayedFrom op_of moves steps sights) (PlayedFrom op_of later steps sights) (done-later branch (op_of op)) (played_from-later steps sights) last places)
+      (sights session) is
+  played_from-later (Fork new from ∷ steps) sights last places is =
+      ⊎_elim
+      (λ one. inl (takes-later (IsForked moves new from) (IsForked later new from) (PlayedFrom op_of moves steps sights) (PlayedFrom op_of later steps sights) (forked-later new from) (played_from-later steps sights) last places one))
+      (λ none. inr (between-later last places (IsTaken new) none.0, played_from-later steps sights last places none.1))
+      is
+  played_from-later (Merge session from ∷ steps) sights last places is =
+      sees-later
+      (λ branch. TakesOne (IsMerged moves branch from) (PlayedFrom op_of moves steps sights) last places ⊎ (HoldsBetween moves last places (IsReached branch from) × PlayedFrom op_of moves steps sights last places))
+      (λ branch. TakesOne (IsMerged later branch from) (PlayedFrom op_of later steps sights) last places ⊎ (HoldsBetween later last places (IsReached branch from) × PlayedFrom op_of later steps sights last places))
+      (λ branch both. ⊎_elim
+      (λ one. inl (takes-later (IsMerged moves branch from) (IsMerged later branch from) (PlayedFrom op_of moves steps sights) (PlayedFrom op_of later steps sights) (merged-later branch from) (played_from-later steps sights) last places one))
+      (λ none. inr (between-later last places (IsReached branch from) none.0, played_from-later steps sights last places none.1))
+      both)
+      (sights session) is
+
+  pub played-later : (steps : List Step) (places : List ℕ) → Played op_of steps places moves → Played op_of steps places later
+  unfolding Played
+  played-later steps places is = played_from-later steps no_sights 0 places is
+
+-- a disk that has failed has failed when more faults are known
+pub failed-later : {S O R Q A : Type 0} (on : Setting S O R Q A) (few many : ℕ) → few ≤ many → HasFailed on few → HasFailed on many
+failed-later on few many le is = omega (arith, is)
+
+module _ {S O R Q A : Type 0} (on : Setting S O R Q A) (moves : List (Move O R)) (few many : ℕ) (le : few ≤ many) (sights : Sights) (step : Step) where
+  pub refused-later : (refusal : ClientRefusal) → StepRefused on moves few sights step refusal → StepRefused on moves many sights step refusal
+  refused-later (UnknownBranch name) h = h
+  refused-later (Exhausted clock) h = h
+  refused-later (FullCommits count) h = h
+  refused-later (FullBranches count) h = h
+  refused-later (FullMoves count) h = h
+  refused-later (ValueTooLarge length) h = h
+  refused-later (Collision address stored fresh) h = h
+  refused-later DiskFault h = failed-later on few many le h
+  refused-later (Failed count) h = (h.0, failed-later on few many le h.1)
+  refused-later Memory h = h
+
+-- what became of a client
+pub comes-later : {S O R Q A : Type 0} (on : Setting S O R Q A) (old new later : List (Move O R)) (few many : ℕ) (steps : List Step) (outcome : Outcome) → IsPrefix new later → few ≤ many
+    → ComesTo on old new few steps outcome → ComesTo on old later many steps outcome
+comes-later on old new later few many steps (Done places) grows le is = played-later on.op_of new later grows steps places is
+comes-later on old new later few many steps (Refused number refusal places) grows le is = record {
+  step = is.step;
+  is_step = is.is_step;
+  before = is.before;
+  begun = is.begun;
+  begins = prefix_trans is.before new later is.begins grows;
+  played = is.played;
+  refused = refused-later on is.before few many le (sights_after (take number steps) no_sights) is.step refusal is.refused;
+}
+comes-later on old new later few many steps (Unseen number places) grows le is = record {
+  step = is.step;
+  is_step = is.is_step;
+  played = played-later on.op_of new later grows (take number steps) places is.played;
+  unseen = is.unseen;
+}
+
+pub outcome-later : {S O R Q A : Type 0} (on : Setting S O R Q A) → StaysOutcome on
+outcome-later on old new later few many steps outcome grows le is = record { comes = comes-later on old new later few many steps outcome grows le is.comes; past = is.past }

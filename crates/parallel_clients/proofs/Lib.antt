@@ -1,0 +1,12 @@
+pub mod Machines
+pub mod Turned
+pub mod Went
+pub mod Grown
+pub mod Single
+pub mod Sessioned
+pub mod Tried
+pub mod Mergings
+pub mod Runs
+pub mod Ended
+pub mod Started
+pub mod Crossed

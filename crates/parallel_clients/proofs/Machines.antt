@@ -1,0 +1,57 @@
+-- The machine that keeps objects, beside the one that keeps none.
+use Rattle.std.proofs.Common.{◌≡◌, ℕ, List, [], ◌∷◌, refl, ap, sym, ◌∙◌, Option, None, Some}
+use Rattle.std.specs.Option.{option_map}
+use Rattle.branch_wire.specs.StoredObjects.{collision}
+use Rattle.branch_history.specs.declared.moves.Move.{Move}
+use Rattle.branch_history.specs.Steps.{Step, Outcome, Refused, Refusal, Collision, Turn}
+use Rattle.branch_history.specs.Machine.{turn, answers, makes, unless}
+use Rattle.branch_machine.specs.Fixed.{Fixed}
+use Rattle.branch_machine.specs.Objects.{objects_of, new_objects}
+use Rattle.branch_machine.specs.Machine.{collision_refusal, unless_made, full_turn}
+
+-- a turn that makes a move, and was not refused
+made-unless : {O R A : Type 0} (refusal : Move O R → Option Refusal) (t : Turn O R A) (made : Move O R) (outcome : Outcome A R) → unless_made refusal t.made t ≡ makes made outcome → t ≡ makes made outcome
+made-unless {O} {R} {A} refusal t made outcome is = by-made t.made is
+  where
+    by-refusal : (why : Option Refusal) → (m : Move O R) (ms : List (Move O R)) → refusal m ≡ why → unless_made refusal (m ∷ ms) t ≡ makes made outcome → t ≡ makes made outcome
+    by-refusal None m ms none is = rw none at is
+    by-refusal (Some r) m ms some is =
+        let bad : answers {O = O} {R = R} {A = A} (Refused r) ≡ makes made outcome = rw some at is in
+        let no : [] ≡ made ∷ [] = ap (λ (u : Turn O R A). u.made) bad in absurd (let never : ⊥ = cc in never)
+
+    by-made : (ms : List (Move O R)) → unless_made refusal ms t ≡ makes made outcome → t ≡ makes made outcome
+    by-made [] is = is
+    by-made (m ∷ ms) is = by-refusal (refusal m) m ms refl is
+
+-- a turn that was refused, but for another reason than its move
+module _ {O R A C : Type 0} (because : C → Refusal) (t : Turn O R A) (why : Refusal) (other : (c : C) → because c ≡ why → ⊥) where
+  abbrev told : Refusal → Outcome A R
+  told refusal = Refused refusal
+
+  refused-before : (found : Option C) → unless (option_map because found) t ≡ answers (Refused why) → t ≡ answers (Refused why)
+  refused-before None is = is
+  refused-before (Some c) is =
+      let e : told (because c) ≡ told why = ap (λ (u : Turn O R A). u.outcome) is in
+      let same : because c ≡ why = cc e in absurd (other c same)
+
+  refused-unless : (found : Move O R → Option C) (ms : List (Move O R)) → unless_made (λ m. option_map because (found m)) ms t ≡ answers (Refused why) → t ≡ answers (Refused why)
+  refused-unless found [] is = is
+  refused-unless found (m ∷ ms) is = refused-before (found m) is
+
+module _ {S O R Q A : Type 0} (fixed : Fixed S O R Q A) (moves : List (Move O R)) (step : Step O Q) where
+  -- where no move is made, both answer the same
+  pub full-answers : (outcome : Outcome A R) → turn fixed.meaning fixed.limits moves step ≡ answers outcome → full_turn fixed moves step ≡ answers outcome
+  unfolding full_turn
+  full-answers outcome is = ap (λ (t : Turn O R A). unless_made (collision_refusal fixed moves) t.made t) is
+
+  -- a move that the one makes the other makes
+  pub full-turned : (made : Move O R) (outcome : Outcome A R) → full_turn fixed moves step ≡ makes made outcome → turn fixed.meaning fixed.limits moves step ≡ makes made outcome
+  unfolding full_turn
+  full-turned made outcome is = made-unless (collision_refusal fixed moves) (turn fixed.meaning fixed.limits moves step) made outcome is
+
+  -- what the one refuses for another reason than a collision, the other refuses
+  pub full-refused : (why : Refusal) → ((address stored fresh : List ℕ) → Collision address stored fresh ≡ why → ⊥) → full_turn fixed moves step ≡ answers (Refused why) → turn fixed.meaning fixed.limits moves step ≡ answers (Refused why)
+  unfolding full_turn collision_refusal
+  full-refused why other is =
+      let t : Turn O R A = turn fixed.meaning fixed.limits moves step in
+      refused-unless (λ c. Collision (fixed.address c.1) c.0 c.1) t why (λ c e. other (fixed.address c.1) c.0 c.1 e) (λ made. collision fixed.address (objects_of fixed moves) (new_objects fixed moves made)) t.made is

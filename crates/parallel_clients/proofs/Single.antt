@@ -1,0 +1,132 @@
+-- What one step of a client does to what it has played.
+use Rattle.std.proofs.Common.{◌≡◌, ℕ, ◌+◌, ◌<◌, ◌≤◌, ◌⊎◌, inl, inr, List, [], ◌∷◌, ◌++◌, length, refl, ap, sym, subst, ◌∙◌, Option, Some, None, arith, length-append, ⊎_elim}
+use mathlib.Core.List.{IsPrefix}
+use Rattle.branch_front.proofs.Prefixes.{prefix_trans, prefix_more, prefix_length}
+use Rattle.branch_names.specs.Heads.{branch_named}
+use Rattle.branch_history.specs.declared.moves.Move.{Move}
+use Rattle.branch_history.specs.declared.moves.Move.TheVariants as move
+use Rattle.branch_history.specs.History.{store_of}
+use Rattle.branch_doc.specs.declared.plain.PlainOp.{PlainOp}
+use Rattle.branch_doc.specs.declared.plain.PlainQuery.{PlainQuery}
+use Rattle.branch_script.specs.declared.step.Step.{Step}
+use Rattle.branch_script.specs.declared.step.Step.TheVariants.{Look, Fork, Merge, Do, Ask}
+use Rattle.branch_shared.specs.Passes.{PassView}
+use Rattle.parallel_clients.specs.Played.{Sights, with_sight, sights_after, IsMoveAt, WasNamed, WasHead, IsDone, IsForked, IsMerged, IsTaken, IsReached, IsBelowFirst, HoldsBetween, TakesOne, IfSees, PlayedFrom}
+use Rattle.parallel_clients.specs.Sessions.{Stage, PlaysOn, HasMoved, HasStayed, HasDone, HasMerged, HasSame}
+use Rattle.parallel_clients.proofs.Went.{named-later, head-later, move-last, below-less, plays-still, plays-move}
+
+module _ {O R : Type 0} (op_of : PlainOp → O) (old new : Stage (Move O R)) (mid after : PassView (Move O R)) (from_old : IsPrefix old.moves mid.moves) (to_new : IsPrefix after.moves new.moves) (places noted : List ℕ) (had : old.places ≡ places) (has : new.places ≡ noted) where
+  -- a move that landed has its place behind what had been seen, and stands there in any longer history
+  module _ (made : Move O R) (moved : HasMoved made mid after places noted) where
+    abbrev place : ℕ
+    place = length after.moves
+
+    long : place ≡ length moved.before + 1
+    long = ap length moved.last ∙ length-append moved.before (made ∷ [])
+
+    mid-after : IsPrefix mid.moves after.moves
+    mid-after = subst (IsPrefix mid.moves) (sym moved.last) (prefix_trans mid.moves moved.before (moved.before ++ made ∷ []) moved.seen (prefix_more moved.before (made ∷ [])))
+
+    grown : IsPrefix old.moves new.moves
+    grown = prefix_trans old.moves mid.moves new.moves from_old (prefix_trans mid.moves after.moves new.moves mid-after to_new)
+
+    past : length old.moves < place
+    past =
+        let a = prefix_length old.moves mid.moves from_old in
+        let b = prefix_length mid.moves moved.before moved.seen in omega (arith, long)
+
+    noted-is : new.places ≡ old.places ++ place ∷ []
+    noted-is = has ∙ moved.noted ∙ ap (λ ps. ps ++ place ∷ []) (sym had)
+
+    stands : (later : List (Move O R)) → IsPrefix new.moves later → IsMoveAt later place made
+    stands later grows =
+        let all : IsPrefix (moved.before ++ made ∷ []) later = subst (λ ms. IsPrefix ms later) moved.last (prefix_trans after.moves new.moves later to_new grows) in
+        subst (λ n. IsMoveAt later n made) (sym (ap length moved.last)) (move-last moved.before later made all)
+
+    pub plays-made : (step : Step) → new.sights ≡ sights_after (step ∷ []) old.sights
+        → ((last : ℕ) (later : List (Move O R)) (rest : List Step) (more : List ℕ) → last < place → IsPrefix new.moves later → IsMoveAt later place made
+        → PlayedFrom op_of later rest new.sights place more → PlayedFrom op_of later (step ∷ rest) old.sights last (place ∷ more))
+        → PlaysOn op_of (step ∷ []) old new
+    plays-made step sights goes =
+        plays-move op_of old new grown step place past (prefix_length after.moves new.moves to_new) noted-is sights
+        (λ last later rest more lt grows played. goes last later rest more lt grows (stands later grows) played)
+
+  module _ (same : new.sights ≡ old.sights) where
+    kept : (later : List (Move O R)) (rest : List Step) (last : ℕ) (more : List ℕ) → PlayedFrom op_of later rest new.sights last more → PlayedFrom op_of later rest old.sights last more
+    kept later rest last more played = subst (λ sights. PlayedFrom op_of later rest sights last more) same played
+
+    pub plays-done : (session : List ℕ) (op : PlainOp) → HasDone (old.sights session) (op_of op) mid after places noted → PlaysOn op_of (Do session op ∷ []) old new
+    plays-done session op done =
+        let made : Move O R = move.Operation done.number (op_of op) done.reply in
+        plays-made made done.moved (Do session op) same
+        (λ last later rest more lt grows at played.
+        let all : IsPrefix mid.moves later = prefix_trans mid.moves after.moves later (mid-after made done.moved) (prefix_trans after.moves new.moves later to_new grows) in
+        let is : IsDone later done.branch (op_of op) (length after.moves) = record { number = done.number; named = named-later mid.moves later all done.branch done.number done.named; reply = done.reply; made = at } in
+        subst (λ o. IfSees o (λ branch. TakesOne (IsDone later branch (op_of op)) (PlayedFrom op_of later rest old.sights) last (length after.moves ∷ more))) (sym done.sees)
+        (lt, is, kept later rest (length after.moves) more played))
+
+    pub plays-merged : (session from : List ℕ) → HasMerged (old.sights session) from mid after places noted → PlaysOn op_of (Merge session from ∷ []) old new
+    plays-merged session from done = ⊎_elim (λ moved. by (move.Merge done.number done.commit) moved (λ later at. inl at)) (λ moved. by (move.Forward done.number done.commit) moved (λ later at. inr at)) done.moved
+      where
+        by : (made : Move O R) → HasMoved made mid after places noted
+            → ((later : List (Move O R)) → IsMoveAt later (length after.moves) made → IsMoveAt later (length after.moves) (move.Merge done.number done.commit) ⊎ IsMoveAt later (length after.moves) (move.Forward done.number done.commit))
+            → PlaysOn op_of (Merge session from ∷ []) old new
+        by made moved either =
+            plays-made made moved (Merge session from) same
+            (λ last later rest more lt grows at played.
+            let to_later = prefix_trans after.moves new.moves later to_new grows in
+            let all : IsPrefix mid.moves later = prefix_trans mid.moves after.moves later (mid-after made moved) to_later in
+            let is : IsMerged later done.branch from (length after.moves) = record {
+              number = done.number;
+              source = done.source;
+              commit = done.commit;
+              named = named-later mid.moves later all done.branch done.number done.named;
+              head = head-later after.moves later to_later from done.source done.commit done.head;
+              made = either later at;
+            } in
+            subst (λ o. IfSees o (λ branch. TakesOne (IsMerged later branch from) (PlayedFrom op_of later rest old.sights) last (length after.moves ∷ more)
+            ⊎ (HoldsBetween later last (length after.moves ∷ more) (IsReached branch from) × PlayedFrom op_of later rest old.sights last (length after.moves ∷ more)))) (sym done.sees)
+            (inl (lt, is, kept later rest (length after.moves) more played)))
+
+    pub plays-forked : (name from : List ℕ) (number source : ℕ) → WasNamed after.moves from source → HasMoved (move.Fork name number source) mid after places noted → PlaysOn op_of (Fork name from ∷ []) old new
+    plays-forked name from number source named moved =
+        let made : Move O R = move.Fork name number source in
+        plays-made made moved (Fork name from) same
+        (λ last later rest more lt grows at played.
+        let to_later = prefix_trans after.moves new.moves later to_new grows in
+        let is : IsForked later name from (length after.moves) = record { number = number; source = source; named = named-later after.moves later to_later from source named; made = at } in
+        inl (lt, is, kept later rest (length after.moves) more played))
+
+    module _ (seen : IsPrefix mid.moves after.moves) (none : noted ≡ places) where
+      on : IsPrefix old.moves new.moves
+      on = prefix_trans old.moves mid.moves new.moves from_old (prefix_trans mid.moves after.moves new.moves seen to_new)
+
+      between : (last : ℕ) (later : List (Move O R)) (more : List ℕ) (Holds : List (Move O R) → Type 0) → last ≤ length old.moves → IsPrefix new.moves later → IsBelowFirst (length new.moves) more → Holds after.moves → HoldsBetween later last more Holds
+      between last later more Holds le grows below here = record {
+        before = after.moves;
+        begins = prefix_trans after.moves new.moves later to_new grows;
+        holds_last = let a = prefix_length old.moves mid.moves from_old in let b = prefix_length mid.moves after.moves seen in omega arith;
+        not_next = below-less (length after.moves) (length new.moves) more (prefix_length after.moves new.moves to_new) below;
+        here = here;
+      }
+
+      pub plays-same : (session from branch : List ℕ) → old.sights session ≡ Some branch → IsReached branch from after.moves → PlaysOn op_of (Merge session from ∷ []) old new
+      plays-same session from branch sees reached =
+          plays-still op_of old new on (Merge session from) (has ∙ none ∙ sym had) same
+          (λ last later rest more le grows below played.
+          subst (λ o. IfSees o (λ b. TakesOne (IsMerged later b from) (PlayedFrom op_of later rest old.sights) last more
+          ⊎ (HoldsBetween later last more (IsReached b from) × PlayedFrom op_of later rest old.sights last more))) (sym sees)
+          (inr (between last later more (IsReached branch from) le grows below reached, kept later rest last more played)))
+
+      pub plays-taken : (name from : List ℕ) → IsTaken name after.moves → PlaysOn op_of (Fork name from ∷ []) old new
+      plays-taken name from taken =
+          plays-still op_of old new on (Fork name from) (has ∙ none ∙ sym had) same
+          (λ last later rest more le grows below played. inr (between last later more (IsTaken name) le grows below taken, kept later rest last more played))
+
+      pub plays-asked : (branch : List ℕ) (query : PlainQuery) → PlaysOn op_of (Ask branch query ∷ []) old new
+      plays-asked branch query = plays-still op_of old new on (Ask branch query) (has ∙ none ∙ sym had) same (λ last later rest more le grows below played. kept later rest last more played)
+
+  pub plays-looked : (session branch : List ℕ) → IsPrefix mid.moves after.moves → noted ≡ places → new.sights ≡ with_sight old.sights session branch → PlaysOn op_of (Look session branch ∷ []) old new
+  plays-looked session branch seen none sights =
+      plays-still op_of old new (prefix_trans old.moves mid.moves new.moves from_old (prefix_trans mid.moves after.moves new.moves seen to_new)) (Look session branch) (has ∙ none ∙ sym had) sights
+      (λ last later rest more le grows below played. subst (λ s. PlayedFrom op_of later rest s last more) sights played)

@@ -1,0 +1,27 @@
+-- The sessions after a look.
+use Rattle.std.proofs.Common.{◌≡◌}
+use Rattle.parallel_clients.proofs.Sessioned.{sessions_later, sessions-put, sessions-kept, session-looked, sights-put}
+use Rattle.parallel_clients.proofs.client.Client.look_at.Goals as goal
+
+pub returns-in_err-seen-clause-sessions : goal.returns-in_err-seen-clause-sessions
+returns-in_err-seen-clause-sessions g c = sessions_later g.N.Named.limits c.args.pass.now.moves c.look.new.pass.moves c.args.sessions.now.entries c.look.ensures.prefix c.requires
+
+pub returns-in-Ok-clause-sessions : goal.returns-in-Ok-clause-sessions
+returns-in-Ok-clause-sessions g c =
+    let limits = g.N.Named.limits in
+    let moves = c.look.new.pass.moves in
+    let old = c.args.sessions.now.entries in
+    let are = sessions_later limits c.args.pass.now.moves moves old c.look.ensures.prefix c.requires in
+    let is = session-looked limits g.T.Mrdt.meaning moves (record { branch = c.args.branch.now; seen = c.in_ok-seen.seen }) c.in_ok-seen.ensures.on.0 c.in_ok-seen.ensures.on.1 c.in_ok-seen.ensures.sees in
+    sessions-put limits moves old c.set_session.new.sessions.entries c.args.session.now (record { branch = c.args.branch.now; seen = c.in_ok-seen.seen }) c.in-Ok.ensures.put is are
+
+pub returns-in-Ok-clause-sees : goal.returns-in-Ok-clause-sees
+returns-in-Ok-clause-sees g c = sights-put c.args.sessions.now.entries c.set_session.new.sessions.entries c.args.session.now (record { branch = c.args.branch.now; seen = c.in_ok-seen.seen }) c.in-Ok.ensures.put
+
+pub returns-in-Err-clause-sessions : goal.returns-in-Err-clause-sessions
+returns-in-Err-clause-sessions g c =
+    let limits = g.N.Named.limits in
+    let moves = c.look.new.pass.moves in
+    let old = c.args.sessions.now.entries in
+    let are = sessions_later limits c.args.pass.now.moves moves old c.look.ensures.prefix c.requires in
+    sessions-kept limits moves old c.set_session.new.sessions.entries c.in-Err.ensures.kept are

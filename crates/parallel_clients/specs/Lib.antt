@@ -1,0 +1,5 @@
+pub mod Played
+pub mod Outcomes
+pub mod Clients
+pub mod Sessions
+pub mod Entrants

@@ -1,0 +1,106 @@
+-- What becomes of a client.
+use Rattle.std.specs.Prelude.{◌≡◌, ℕ, ◌+◌, ◌<◌, ◌≤◌, ◌⊎◌, List, length, take, slice_get, Some, None}
+use Rattle.std.specs.List.{AllByRecursion}
+use mathlib.Core.List.{IsPrefix}
+use Rattle.branch_io.specs.Causes.{Rose}
+use Rattle.branch_history.specs.declared.moves.Move.{Move}
+use Rattle.branch_history.specs.Steps as machine
+use Rattle.branch_machine.specs.Fixed.{Fixed}
+use Rattle.branch_doc.specs.declared.plain.PlainOp.{PlainOp}
+use Rattle.branch_script.specs.declared.step.Step.{Step}
+use Rattle.branch_script.specs.declared.step.Step.TheVariants.{Look, Fork, Merge, Do, Ask}
+use Rattle.recorded_history.specs.Machine.{FullyRefuses}
+use Rattle.parallel_clients.specs.declared.outcome.ClientRefusal.{ClientRefusal}
+use Rattle.parallel_clients.specs.declared.outcome.ClientRefusal.TheVariants as client_refusal
+use Rattle.parallel_clients.specs.declared.outcome.Outcome.{Outcome}
+use Rattle.parallel_clients.specs.declared.outcome.Outcome.TheVariants.{Done, Refused, Unseen}
+use Rattle.parallel_clients.specs.Played.{Sights, no_sights, sights_after, WasHead, IfSees, Played}
+
+-- what is fixed for the clients of a store: the store's meaning, limits and addresses, the operation that a plain form stands for, and the count of the disk's
+-- faults when the store was opened
+pub record Setting (S O R Q A : Type 0) : Type 1 where
+  pub fixed : Fixed S O R Q A
+  pub op_of : PlainOp → O
+  pub opened : ℕ
+
+abbrev pub setting : {S O R Q A : Type 0} → Fixed S O R Q A → (PlainOp → O) → ℕ → Setting S O R Q A
+setting fixed op_of opened = record { fixed = fixed; op_of = op_of; opened = opened }
+
+-- The machine refuses a client's step after a history: an operation or a merge is made from a head that the session's branch had, and a merge is of a head that the
+-- other branch had.
+abbrev pub RefusesStep : {S O R Q A : Type 0} → Setting S O R Q A → List (Move O R) → Sights → Step → machine.Refusal → Type 0
+RefusesStep on moves sights (Look session branch) refusal = FullyRefuses on.fixed moves (machine.Look branch) refusal
+RefusesStep on moves sights (Ask branch query) refusal = FullyRefuses on.fixed moves (machine.Look branch) refusal
+RefusesStep on moves sights (Fork new from) refusal = FullyRefuses on.fixed moves (machine.Fork new from) refusal
+RefusesStep on moves sights (Do session op) refusal =
+    IfSees (sights session) (λ branch. (number head : ℕ) × WasHead moves branch number head × FullyRefuses on.fixed moves (machine.Land number head (on.op_of op)) refusal)
+RefusesStep on moves sights (Merge session from) refusal =
+    FullyRefuses on.fixed moves (machine.Look from) refusal
+    ⊎ IfSees (sights session) (λ branch. (number head source commit : ℕ) × WasHead moves branch number head × WasHead moves from source commit
+    × FullyRefuses on.fixed moves (machine.Merge number head commit) refusal)
+
+-- the disk has failed since the store was opened
+abbrev pub HasFailed : {S O R Q A : Type 0} → Setting S O R Q A → ℕ → Type 0
+HasFailed on faults = Rose on.opened (on.opened + faults)
+
+-- why a step was refused, after a history: by the machine, or by a disk that has failed, or for want of memory
+abbrev pub StepRefused : {S O R Q A : Type 0} → Setting S O R Q A → List (Move O R) → ℕ → Sights → Step → ClientRefusal → Type 0
+StepRefused on moves faults sights step (client_refusal.UnknownBranch name) = RefusesStep on moves sights step (machine.UnknownBranch name)
+StepRefused on moves faults sights step (client_refusal.Exhausted clock) = RefusesStep on moves sights step (machine.Exhausted clock)
+StepRefused on moves faults sights step (client_refusal.FullCommits count) = RefusesStep on moves sights step (machine.FullCommits count)
+StepRefused on moves faults sights step (client_refusal.FullBranches count) = RefusesStep on moves sights step (machine.FullBranches count)
+StepRefused on moves faults sights step (client_refusal.FullMoves count) = RefusesStep on moves sights step (machine.FullMoves count)
+StepRefused on moves faults sights step (client_refusal.ValueTooLarge length) = RefusesStep on moves sights step (machine.ValueTooLarge length)
+StepRefused on moves faults sights step (client_refusal.Collision address stored fresh) = RefusesStep on moves sights step (machine.Collision address stored fresh)
+StepRefused on moves faults sights step client_refusal.DiskFault = HasFailed on faults
+StepRefused on moves faults sights step (client_refusal.Failed count) = (count ≡ length moves) × HasFailed on faults
+StepRefused on moves faults sights step client_refusal.Memory = Unit {0}
+
+-- The step behind so many was refused, after a history that begins with the old one, begins the new one, and has what the steps before it made at the places. The disk's
+-- faults are those known at the end.
+pub record IsRefused {S O R Q A : Type 0} (on : Setting S O R Q A) (old new : List (Move O R)) (faults : ℕ) (steps : List Step) (number : ℕ) (places : List ℕ) (refusal : ClientRefusal) : Type 0 where
+  pub step : Step
+  pub is_step : slice_get steps number ≡ Some step
+  pub before : List (Move O R)
+  pub begun : IsPrefix old before
+  pub begins : IsPrefix before new
+  pub played : Played on.op_of (take number steps) places before
+  pub refused : StepRefused on before faults (sights_after (take number steps) no_sights) step refusal
+
+-- a step names a session that has to have looked, and sees no branch
+abbrev pub SeesNone : Sights → Step → Type 0
+SeesNone sights (Do session op) = sights session ≡ None
+SeesNone sights (Merge session from) = sights session ≡ None
+SeesNone sights step = ⊥
+
+-- the step behind so many names a session without a look, after what the steps before it made at the places
+pub record IsUnseen {S O R Q A : Type 0} (on : Setting S O R Q A) (new : List (Move O R)) (steps : List Step) (number : ℕ) (places : List ℕ) : Type 0 where
+  pub step : Step
+  pub is_step : slice_get steps number ≡ Some step
+  pub played : Played on.op_of (take number steps) places new
+  pub unseen : SeesNone (sights_after (take number steps) no_sights) step
+
+-- what became of the steps of a client, where a history grew from an old one to a new one, and the disk has had so many faults since it was opened
+abbrev pub ComesTo : {S O R Q A : Type 0} → Setting S O R Q A → List (Move O R) → List (Move O R) → ℕ → List Step → Outcome → Type 0
+ComesTo on old new faults steps (Done places) = Played on.op_of steps places new
+ComesTo on old new faults steps (Refused number refusal places) = IsRefused on old new faults steps number places refusal
+ComesTo on old new faults steps (Unseen number places) = IsUnseen on new steps number places
+
+-- the places of an outcome
+abbrev pub places_of : Outcome → List ℕ
+places_of (Done places) = places
+places_of (Refused number refusal places) = places
+places_of (Unseen number places) = places
+
+-- the places lie behind this one
+abbrev pub ArePast : ℕ → List ℕ → Type 0
+ArePast last places = AllByRecursion (λ place. last < place) places
+
+-- what became of a client, whose moves all came behind the old history
+pub record IsOutcome {S O R Q A : Type 0} (on : Setting S O R Q A) (old new : List (Move O R)) (faults : ℕ) (steps : List Step) (outcome : Outcome) : Type 0 where
+  pub comes : ComesTo on old new faults steps outcome
+  pub past : ArePast (length old) (places_of outcome)
+
+-- what became of a client stays that where the new history grows, and more faults are known
+abbrev pub StaysOutcome : {S O R Q A : Type 0} → Setting S O R Q A → Type 0
+StaysOutcome {S} {O} {R} on = (old new later : List (Move O R)) (few many : ℕ) (steps : List Step) (outcome : Outcome) → IsPrefix new later → few ≤ many → IsOutcome on old new few steps outcome → IsOutcome on old later many steps outcome

@@ -1,0 +1,131 @@
+-- What a history has of a client's steps.
+use Rattle.std.specs.Prelude.{◌≡◌, ℕ, ◌-◌, ◌<◌, ◌≤◌, ◌⊎◌, Bool, List, [], ◌∷◌, length, slice_get, bytes_eq, Some, None, IsTrue, if◌then◌else◌}
+use Rattle.std.specs.declared.option.Option.{Option}
+use mathlib.Core.List.{IsPrefix}
+use Rattle.branch_names.specs.Heads.{head_of, branch_named}
+use Rattle.branch_graph.specs.Graph.{reaches}
+use Rattle.branch_history.specs.declared.moves.Move.{Move}
+use Rattle.branch_history.specs.declared.moves.Move.TheVariants as move
+use Rattle.branch_history.specs.Commits.{graph_of}
+use Rattle.branch_history.specs.History.{store_of}
+use Rattle.branch_doc.specs.declared.plain.PlainOp.{PlainOp}
+use Rattle.branch_script.specs.declared.step.Step.{Step}
+use Rattle.branch_script.specs.declared.step.Step.TheVariants.{Look, Fork, Merge, Do, Ask}
+
+-- the branch of each session's last look, by its name
+abbrev pub Sights : Type 0
+Sights = List ℕ → Option (List ℕ)
+
+abbrev pub no_sights : Sights
+no_sights session = None
+
+abbrev pub with_sight : Sights → List ℕ → List ℕ → Sights
+with_sight sights session branch name = if bytes_eq session name then Some branch else sights name
+
+-- after some steps
+abbrev pub sights_after : List Step → Sights → Sights
+sights_after [] sights = sights
+sights_after (Look session branch ∷ steps) sights = sights_after steps (with_sight sights session branch)
+sights_after (Fork new from ∷ steps) sights = sights_after steps sights
+sights_after (Merge session branch ∷ steps) sights = sights_after steps sights
+sights_after (Do session op ∷ steps) sights = sights_after steps sights
+sights_after (Ask branch query ∷ steps) sights = sights_after steps sights
+
+-- the move of a history at a place, counted from 1
+abbrev pub IsMoveAt : {M : Type 0} → List M → ℕ → M → Type 0
+IsMoveAt moves place made = slice_get moves (place - 1) ≡ Some made
+
+-- the branch of this number has the name, after some first part of a history
+pub record WasNamed {O R : Type 0} (moves : List (Move O R)) (name : List ℕ) (branch : ℕ) : Type 0 where
+  pub before : List (Move O R)
+  pub begins : IsPrefix before moves
+  pub named : branch_named (store_of before).branches name ≡ Some branch
+
+-- its head was this commit then
+pub record WasHead {O R : Type 0} (moves : List (Move O R)) (name : List ℕ) (branch commit : ℕ) : Type 0 where
+  pub before : List (Move O R)
+  pub begins : IsPrefix before moves
+  pub named : branch_named (store_of before).branches name ≡ Some branch
+  pub head : head_of (store_of before).branches branch ≡ commit
+
+-- the operation on a session's branch
+pub record IsDone {O R : Type 0} (moves : List (Move O R)) (branch : List ℕ) (op : O) (place : ℕ) : Type 0 where
+  pub number : ℕ
+  pub named : WasNamed moves branch number
+  pub reply : R
+  pub made : IsMoveAt moves place (move.Operation number op reply)
+
+-- the fork of a new branch from another
+pub record IsForked {O R : Type 0} (moves : List (Move O R)) (new from : List ℕ) (place : ℕ) : Type 0 where
+  pub number : ℕ
+  pub source : ℕ
+  pub named : WasNamed moves from source
+  pub made : IsMoveAt moves place (move.Fork new number source)
+
+-- the merge into a session's branch, or its move up to, of a commit that was the head of another
+pub record IsMerged {O R : Type 0} (moves : List (Move O R)) (branch from : List ℕ) (place : ℕ) : Type 0 where
+  pub number : ℕ
+  pub source : ℕ
+  pub commit : ℕ
+  pub named : WasNamed moves branch number
+  pub head : WasHead moves from source commit
+  pub made : IsMoveAt moves place (move.Merge number commit) ⊎ IsMoveAt moves place (move.Forward number commit)
+
+-- some branch has the name
+abbrev pub IsTaken : {O R : Type 0} → List ℕ → List (Move O R) → Type 0
+IsTaken new moves = (number : ℕ) × (branch_named (store_of moves).branches new ≡ Some number)
+
+-- the head of a session's branch reaches the head of another
+pub record IsReached {O R : Type 0} (branch from : List ℕ) (moves : List (Move O R)) : Type 0 where
+  pub number : ℕ
+  pub source : ℕ
+  pub named : WasNamed moves branch number
+  pub other : branch_named (store_of moves).branches from ≡ Some source
+  pub reached : IsTrue (reaches (graph_of (store_of moves).commits) (head_of (store_of moves).branches number) (head_of (store_of moves).branches source))
+
+-- a number below the first of some places, if there is one
+abbrev pub IsBelowFirst : ℕ → List ℕ → Type 0
+IsBelowFirst n [] = Unit {0}
+IsBelowFirst n (place ∷ places) = n < place
+
+-- this holds after some first part of a history, which has the place before, and not the next one
+pub record HoldsBetween {M : Type 0} (moves : List M) (last : ℕ) (places : List ℕ) (Holds : List M → Type 0) : Type 0 where
+  pub before : List M
+  pub begins : IsPrefix before moves
+  pub holds_last : last ≤ length before
+  pub not_next : IsBelowFirst (length before) places
+  pub here : Holds before
+
+-- the first of the places is such a one, behind the last, and the others go on from it
+abbrev pub TakesOne : (ℕ → Type 0) → (ℕ → List ℕ → Type 0) → ℕ → List ℕ → Type 0
+TakesOne Is Rest last [] = ⊥
+TakesOne Is Rest last (place ∷ places) = (last < place) × Is place × Rest place places
+
+-- what a session that sees a branch does; one that sees none does nothing
+abbrev pub IfSees : Option (List ℕ) → (List ℕ → Type 0) → Type 0
+IfSees None Does = ⊥
+IfSees (Some branch) Does = Does branch
+
+-- the moves of a history at these places, behind the last one, are those of the steps, in order, where sessions see this at first
+abbrev pub PlayedFrom : {O R : Type 0} → (PlainOp → O) → List (Move O R) → List Step → Sights → ℕ → List ℕ → Type 0
+PlayedFrom op_of moves [] sights last places = places ≡ []
+PlayedFrom op_of moves (Look session branch ∷ steps) sights last places = PlayedFrom op_of moves steps (with_sight sights session branch) last places
+PlayedFrom op_of moves (Ask branch query ∷ steps) sights last places = PlayedFrom op_of moves steps sights last places
+PlayedFrom op_of moves (Do session op ∷ steps) sights last places =
+    IfSees (sights session) (λ branch. TakesOne (IsDone moves branch (op_of op)) (PlayedFrom op_of moves steps sights) last places)
+PlayedFrom op_of moves (Fork new from ∷ steps) sights last places =
+    TakesOne (IsForked moves new from) (PlayedFrom op_of moves steps sights) last places
+    ⊎ (HoldsBetween moves last places (IsTaken new) × PlayedFrom op_of moves steps sights last places)
+PlayedFrom op_of moves (Merge session from ∷ steps) sights last places =
+    IfSees (sights session) (λ branch.
+    TakesOne (IsMerged moves branch from) (PlayedFrom op_of moves steps sights) last places
+    ⊎ (HoldsBetween moves last places (IsReached branch from) × PlayedFrom op_of moves steps sights last places))
+
+-- the moves of a history at these places are those of a client's steps, in order: one for each operation; one for each fork, or none where the
+-- name is taken; one for each merge, or none where there is nothing to merge
+unfoldable pub Played : {O R : Type 0} → (PlainOp → O) → List Step → List ℕ → List (Move O R) → Type 0
+Played op_of steps places moves = PlayedFrom op_of moves steps no_sights 0 places
+
+-- what a history has of a client's steps, each longer one has
+abbrev pub StaysPlayed : {O : Type 0} (R : Type 0) → (PlainOp → O) → Type 0
+StaysPlayed {O} R op_of = (moves later : List (Move O R)) (steps : List Step) (places : List ℕ) → IsPrefix moves later → Played op_of steps places moves → Played op_of steps places later

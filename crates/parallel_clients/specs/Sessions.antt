@@ -1,0 +1,192 @@
+-- What a client's sessions see, and how a client goes on.
+use Rattle.std.specs.Prelude.{◌≡◌, ℕ, ◌+◌, ◌<◌, ◌≤◌, ◌⊎◌, List, [], ◌∷◌, ◌++◌, length, Some, None, if◌then◌else◌}
+use Rattle.std.specs.declared.option.Option.{Option}
+use Rattle.std.specs.Option.{option_map}
+use Rattle.std.specs.Map.{lookup}
+use Rattle.std.specs.Ordering.{nat_cmp, is_eq}
+use Rattle.std.specs.Cmp.Lexicographic.{slice_cmp}
+use mathlib.Core.List.{IsPrefix}
+use Rattle.branch_names.specs.declared.limits.Limits.{Limits}
+use Rattle.branch_names.specs.Heads.{head_of, branch_named}
+use Rattle.branch_history.specs.declared.moves.Move.{Move}
+use Rattle.branch_history.specs.declared.moves.Move.TheVariants as move
+use Rattle.branch_history.specs.History.{store_of}
+use Rattle.branch_history.specs.Steps as machine
+use Rattle.branch_doc.specs.declared.plain.PlainOp.{PlainOp}
+use Rattle.branch_script.specs.declared.step.Step.{Step}
+use Rattle.store_seen.specs.Turns.{step_of}
+use Rattle.store_seen.specs.Views.{SeenView, PreparedView}
+use Rattle.recorded_history.specs.Machine.{FullyRefuses}
+use Rattle.branch_shared.specs.Passes.{PassView, IsSeenOn}
+use Rattle.parallel_clients.specs.declared.landing.Landing.{Landing}
+use Rattle.parallel_clients.specs.declared.landing.Landing.TheVariants.{Moved, Stale, Same}
+use Rattle.parallel_clients.specs.declared.landing.Stop.{Stop}
+use Rattle.parallel_clients.specs.declared.landing.Stop.TheVariants.{Refused, Unseen}
+use Rattle.parallel_clients.specs.declared.outcome.ClientRefusal.{ClientRefusal}
+use Rattle.parallel_clients.specs.declared.outcome.ClientRefusal.TheVariants as client_refusal
+use Rattle.parallel_clients.specs.declared.outcome.Outcome.{Outcome}
+use Rattle.parallel_clients.specs.declared.outcome.Outcome.TheVariants as outcome
+use Rattle.parallel_clients.specs.declared.sessions.Session.{Session}
+use Rattle.parallel_clients.specs.Played.{Sights, no_sights, sights_after, WasNamed, WasHead, IsReached, IsBelowFirst, PlayedFrom}
+use Rattle.parallel_clients.specs.Outcomes.{Setting, ArePast, HasFailed, StepRefused, SeesNone}
+
+-- the sessions of a client: of each, the branch of its last look, and what it sees there
+abbrev pub Sessions : Type 0 → Type 0
+Sessions M = List (List ℕ × Session (SeenView M))
+
+-- what the table of sessions has for a name
+abbrev pub session_named : {S : Type 0} → List (List ℕ × S) → List ℕ → Option S
+session_named entries name = lookup (λ other. is_eq (slice_cmp nat_cmp name other)) entries
+
+-- a session came to see this, and the others see what they saw
+abbrev pub Puts : {S : Type 0} → List (List ℕ × S) → List (List ℕ × S) → List ℕ → S → Type 0
+Puts old new session s = (name : List ℕ) → session_named new name ≡ (if is_eq (slice_cmp nat_cmp session name) then Some s else session_named old name)
+
+-- what the sessions see, by name
+abbrev pub sights_of : {M : Type 0} → Sessions M → Sights
+sights_of sessions name = option_map (λ s. s.branch) (session_named sessions name)
+
+-- a look at the branch's head, after some first part of a history
+pub record IsSession {O R : Type 0} (limits : Limits) (moves : List (Move O R)) (s : Session (SeenView (Move O R))) : Type 0 where
+  pub begins : IsPrefix s.seen.history moves
+  pub limits_are : s.seen.limits ≡ limits
+  pub named : branch_named (store_of s.seen.history).branches s.branch ≡ Some s.seen.branch
+  pub head : head_of (store_of s.seen.history).branches s.seen.branch ≡ s.seen.head
+
+-- each session's is one
+pub record AreSessions {O R : Type 0} (limits : Limits) (moves : List (Move O R)) (sessions : Sessions (Move O R)) : Type 0 where
+  pub each : (name : List ℕ) (s : Session (SeenView (Move O R))) → session_named sessions name ≡ Some s → IsSession limits moves s
+
+-- a client on its way: the history that it has seen, what its sessions see, and the places of its moves
+pub record Stage (M : Type 0) : Type 0 where
+  pub moves : List M
+  pub sights : Sights
+  pub places : List ℕ
+
+-- where a client goes on from a last place, it has gone on so, from an earlier one, by some steps and places in front
+abbrev pub GoesOn : {O R : Type 0} → (PlainOp → O) → List Step → List ℕ → Stage (Move O R) → Stage (Move O R) → ℕ → ℕ → Type 0
+GoesOn {O} {R} op_of steps own old new last next =
+    (later : List (Move O R)) (rest : List Step) (more : List ℕ) → IsPrefix new.moves later → IsBelowFirst (length new.moves) more
+    → PlayedFrom op_of later rest new.sights next more → PlayedFrom op_of later (steps ++ rest) old.sights last (own ++ more)
+
+-- a client came by these steps from one stage to another
+pub record PlaysOn {O R : Type 0} (op_of : PlainOp → O) (steps : List Step) (old new : Stage (Move O R)) : Type 0 where
+  pub own : List ℕ
+  pub grown : IsPrefix old.moves new.moves
+  pub added : new.places ≡ old.places ++ own
+  pub past : ArePast (length old.moves) own
+  pub sights : new.sights ≡ sights_after steps old.sights
+  pub goes_on : (last : ℕ) → last ≤ length old.moves → (next : ℕ) × (next ≤ length new.moves) × GoesOn op_of steps own old new last next
+
+abbrev pub stage_of : {M : Type 0} → PassView M → Sessions M → List ℕ → Stage M
+stage_of pass sessions places = record { moves = pass.moves; sights = sights_of sessions; places = places }
+
+-- a client's pass has seen more, and counts the moves whose places were noted
+pub record Advances {M : Type 0} (old new : PassView M) (places after : List ℕ) : Type 0 where
+  pub seen : IsPrefix old.moves new.moves
+  pub faults : old.faults ≤ new.faults
+  pub parts : new.parts ≡ old.parts
+  pub counted : new.receipts + length places ≡ old.receipts + length after
+
+-- a move landed behind all that had been seen, and perhaps more, and its place was noted
+pub record HasMoved {M : Type 0} (made : M) (old new : PassView M) (places after : List ℕ) : Type 0 where
+  pub before : List M
+  pub seen : IsPrefix old.moves before
+  pub last : new.moves ≡ before ++ made ∷ []
+  pub noted : after ≡ places ++ length new.moves ∷ []
+  pub receipts : new.receipts ≡ old.receipts + 1
+  pub parts : new.parts ≡ old.parts
+
+-- the pass has seen more, and no move was made
+pub record HasStayed {M : Type 0} (old new : PassView M) (places after : List ℕ) : Type 0 where
+  pub rest : IsSeenOn old new
+  pub noted : after ≡ places
+
+-- what came of a landing, where a move is this one
+abbrev pub IsLanding : {M : Type 0} → M → PassView M → PassView M → List ℕ → List ℕ → Landing → Type 0
+IsLanding made old new places after Moved = HasMoved made old new places after
+IsLanding made old new places after Stale = HasStayed old new places after
+IsLanding made old new places after Same = ⊥
+
+-- the machine refuses what was prepared, after a history
+abbrev pub RefusesMade : {S O R Q A : Type 0} → Setting S O R Q A → PreparedView O R → List (Move O R) → machine.Refusal → Type 0
+RefusesMade on made moves refusal = FullyRefuses on.fixed moves (step_of made.seen made.work) refusal
+
+-- why what was prepared did not land
+abbrev pub IsLandRefused : {S O R Q A : Type 0} → Setting S O R Q A → PreparedView O R → PassView (Move O R) → ClientRefusal → Type 0
+IsLandRefused on made new (client_refusal.FullCommits count) = RefusesMade on made new.moves (machine.FullCommits count)
+IsLandRefused on made new (client_refusal.FullMoves count) = RefusesMade on made new.moves (machine.FullMoves count)
+IsLandRefused on made new (client_refusal.Collision address stored fresh) = RefusesMade on made new.moves (machine.Collision address stored fresh)
+IsLandRefused on made new client_refusal.DiskFault = HasFailed on new.faults
+IsLandRefused on made new (client_refusal.Failed count) = (count ≡ length new.moves) × HasFailed on new.faults
+IsLandRefused on made new client_refusal.Memory = Unit {0}
+IsLandRefused on made new other = ⊥
+
+-- an operation landed on the branch that a session sees
+pub record HasDone {O R : Type 0} (sight : Option (List ℕ)) (op : O) (old new : PassView (Move O R)) (places after : List ℕ) : Type 0 where
+  pub branch : List ℕ
+  pub sees : sight ≡ Some branch
+  pub number : ℕ
+  pub named : WasNamed old.moves branch number
+  pub reply : R
+  pub moved : HasMoved (move.Operation number op reply) old new places after
+
+-- what came of a try to land it
+abbrev pub IsTried : {O R : Type 0} → Option (List ℕ) → O → PassView (Move O R) → PassView (Move O R) → List ℕ → List ℕ → Landing → Type 0
+IsTried sight op old new places after Moved = HasDone sight op old new places after
+IsTried sight op old new places after Stale = HasStayed old new places after
+IsTried sight op old new places after Same = ⊥
+
+-- a head of another branch was merged into the branch that a session sees
+pub record HasMerged {O R : Type 0} (sight : Option (List ℕ)) (from : List ℕ) (old new : PassView (Move O R)) (places after : List ℕ) : Type 0 where
+  pub branch : List ℕ
+  pub sees : sight ≡ Some branch
+  pub number : ℕ
+  pub source : ℕ
+  pub commit : ℕ
+  pub named : WasNamed old.moves branch number
+  pub head : WasHead new.moves from source commit
+  pub moved : HasMoved (move.Merge number commit) old new places after ⊎ HasMoved (move.Forward number commit) old new places after
+
+-- there was nothing to merge
+pub record HasSame {O R : Type 0} (sight : Option (List ℕ)) (from : List ℕ) (old new : PassView (Move O R)) (places after : List ℕ) : Type 0 where
+  pub branch : List ℕ
+  pub sees : sight ≡ Some branch
+  pub reached : IsReached branch from new.moves
+  pub stayed : HasStayed old new places after
+
+-- what came of a try to merge
+abbrev pub IsTriedMerge : {O R : Type 0} → Option (List ℕ) → List ℕ → PassView (Move O R) → PassView (Move O R) → List ℕ → List ℕ → Landing → Type 0
+IsTriedMerge sight from old new places after Moved = HasMerged sight from old new places after
+IsTriedMerge sight from old new places after Stale = HasStayed old new places after
+IsTriedMerge sight from old new places after Same = HasSame sight from old new places after
+
+-- why a client stops at a step
+abbrev pub IsStopped : {S O R Q A : Type 0} → Setting S O R Q A → Sights → Step → PassView (Move O R) → Stop → Type 0
+IsStopped on sights step new (Refused refusal) = StepRefused on new.moves new.faults sights step refusal
+IsStopped on sights step new Unseen = SeesNone sights step
+
+-- a client stops at a step, which made no move
+pub record Stops {S O R Q A : Type 0} (on : Setting S O R Q A) (sights : Sights) (step : Step) (old new : PassView (Move O R)) (places after : List ℕ) (stop : Stop) : Type 0 where
+  pub why : IsStopped on sights step new stop
+  pub stayed : HasStayed old new places after
+
+-- a client has only looked again: it knows more of the store, and its sessions see the branches that they saw
+pub record IsWaiting {O R : Type 0} (limits : Limits) (old new : PassView (Move O R)) (sessions now : Sessions (Move O R)) (places after : List ℕ) : Type 0 where
+  pub seen : IsPrefix old.moves new.moves
+  pub faults : old.faults ≤ new.faults
+  pub rest : IsSeenOn old new
+  pub sessions_are : AreSessions limits new.moves now
+  pub sights : sights_of now ≡ sights_of sessions
+  pub noted : after ≡ places
+
+-- what a client has done so far, from a first pass on, of which the last look may have found no memory
+pub record IsPlaying {O R : Type 0} (op_of : PlainOp → O) (limits : Limits) (steps : List Step) (old new : PassView (Move O R)) (sessions : Sessions (Move O R)) (places : List ℕ) : Type 0 where
+  pub plays : PlaysOn op_of steps (record { moves = old.moves; sights = no_sights; places = [] }) (stage_of new sessions places)
+  pub sessions_are : AreSessions limits new.moves sessions
+  pub advances : Advances old new [] places
+
+-- the outcome of a client that stopped at the step that has so many before it
+abbrev pub stopped_at : ℕ → Stop → List ℕ → Outcome
+stopped_at number (Refused refusal) places = outcome.Refused number refusal places
+stopped_at number Unseen places = outcome.Unseen number places

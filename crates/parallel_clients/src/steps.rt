@@ -1,0 +1,263 @@
+// The steps of a client.
+ghost use Rattle.std.specs.Prelude.{◌≡◌, ◌<◌, ◌≤◌, ◌+◌, [], ◌∷◌, length, vec_capacity, IfErr, OnOk};
+ghost use mathlib.Core.List.{IsPrefix};
+ghost use Rattle.branch_machine.specs.Fixed.{fix};
+ghost use Rattle.branch_script.specs.declared.step.Step.TheVariants as step;
+ghost use Rattle.branch_shared.specs.Passes.{IsSeenOn};
+ghost use Rattle.parallel_clients.specs.Clients.{KeepsValid};
+ghost use Rattle.parallel_clients.specs.Outcomes.{setting};
+ghost use Rattle.parallel_clients.specs.Sessions.{AreSessions, Advances, IsStopped, PlaysOn, Stops, sights_of, stage_of};
+
+use crate::client::{Client, Sessions};
+use crate::gate::Gate;
+use crate::landing::{Landing, Stop, note};
+use crate::outcome::ClientRefusal;
+use crate::plain::Plain;
+use branch_address::Address;
+use branch_disk::Disk;
+use branch_doc::{PlainOp, PlainQuery};
+use branch_names::Name;
+use branch_script::Step;
+use branch_shared::{Named, Pass};
+use mrdt_model::Memory;
+use std::sync::Wait;
+use store_core::ForkRefused;
+use store_seen::LookRefused;
+
+impl<T: Plain, D: Disk + Drop, A: Address, N: Named<T::Op, T::Reply>, G: Gate, R: Wait> Client<
+    '_,
+    T,
+    D,
+    A,
+    N,
+    G,
+    R,
+> {
+    // A session looks at its branch again.
+    fn look_again(
+        &self,
+        pass: &mut Pass<T, N>,
+        sessions: &mut Sessions<T>,
+        session: &Name,
+    ) -> Result<(), Memory>
+        requires sessions { AreSessions N.limits pass.old.moves sessions.old.entries }
+        ensures prefix { IsPrefix pass.old.moves pass.new.moves }
+        ensures valid { KeepsValid (fix T.meaning N.limits A.address) pass.old pass.new }
+        ensures faults { pass.old.faults ≤ pass.new.faults }
+        ensures rest { IsSeenOn pass.old pass.new }
+        ensures sessions { AreSessions N.limits pass.new.moves sessions.new.entries }
+        ensures sights { sights_of sessions.new.entries ≡ sights_of sessions.old.entries }
+    {
+        let branch = match sessions.get(session) {
+            Some(at) => at.branch,
+            None => return Ok(()),
+        };
+        match self.look_at(pass, sessions, session, &branch) {
+            Ok(()) => Ok(()),
+            Err(LookRefused::UnknownBranch { .. }) => unreachable!(),
+            Err(LookRefused::Memory) => Err(Memory),
+        }
+    }
+
+    // Lands an operation on the branch that a session sees, which looks there again; whether it could.
+    fn operation(
+        &self,
+        pass: &mut Pass<T, N>,
+        sessions: &mut Sessions<T>,
+        places: &mut Vec<u64>,
+        session: &Name,
+        op: &PlainOp,
+    ) -> Result<bool, Stop>
+        requires sessions { AreSessions N.limits pass.old.moves sessions.old.entries }
+        requires room { length places.old.items < vec_capacity places.old }
+        ensures advances { Advances pass.old pass.new places.old.items places.new.items }
+        ensures valid { KeepsValid (fix T.meaning N.limits A.address) pass.old pass.new }
+        ensures capacity { vec_capacity places.old ≤ vec_capacity places.new }
+        ensures sessions { OnOk result (AreSessions N.limits pass.new.moves sessions.new.entries) }
+        ensures plays { OnOk result (PlaysOn T.op_of (step.Do session.now op.now ∷ []) (stage_of pass.old sessions.old.entries places.old.items) (stage_of pass.new sessions.new.entries places.new.items)) }
+        ensures few { length places.new.items ≤ length places.old.items + 1 }
+        ensures stopped { IfErr result (Stops (setting (fix T.meaning N.limits A.address) T.op_of N.opened) (sights_of sessions.old.entries) (step.Do session.now op.now) pass.old pass.new places.old.items places.new.items) }
+    {
+        for _ in self.rt.forever() {
+            match self.try_operation(pass, sessions, places, session, op)? {
+                Landing::Moved => return Ok(self.look_again(pass, sessions, session).is_ok()),
+                Landing::Stale | Landing::Same => {
+                    if self.look_again(pass, sessions, session).is_err() {
+                        return Err(Stop::Refused(ClientRefusal::Memory));
+                    }
+                }
+            }
+        }
+        unreachable!()
+    }
+
+    // Merges the head of a branch into the branch that a session sees, which looks there again after a move; whether
+    // it could.
+    fn merge(
+        &self,
+        pass: &mut Pass<T, N>,
+        sessions: &mut Sessions<T>,
+        places: &mut Vec<u64>,
+        session: &Name,
+        from: &Name,
+    ) -> Result<bool, Stop>
+        requires sessions { AreSessions N.limits pass.old.moves sessions.old.entries }
+        requires room { length places.old.items < vec_capacity places.old }
+        ensures advances { Advances pass.old pass.new places.old.items places.new.items }
+        ensures valid { KeepsValid (fix T.meaning N.limits A.address) pass.old pass.new }
+        ensures capacity { vec_capacity places.old ≤ vec_capacity places.new }
+        ensures sessions { OnOk result (AreSessions N.limits pass.new.moves sessions.new.entries) }
+        ensures plays { OnOk result (PlaysOn T.op_of (step.Merge session.now from.now ∷ []) (stage_of pass.old sessions.old.entries places.old.items) (stage_of pass.new sessions.new.entries places.new.items)) }
+        ensures few { length places.new.items ≤ length places.old.items + 1 }
+        ensures stopped { IfErr result (Stops (setting (fix T.meaning N.limits A.address) T.op_of N.opened) (sights_of sessions.old.entries) (step.Merge session.now from.now) pass.old pass.new places.old.items places.new.items) }
+    {
+        for _ in self.rt.forever() {
+            match self.try_merge(pass, sessions, places, session, from)? {
+                Landing::Moved => return Ok(self.look_again(pass, sessions, session).is_ok()),
+                Landing::Same => return Ok(true),
+                Landing::Stale => {
+                    if self.look_again(pass, sessions, session).is_err() {
+                        return Err(Stop::Refused(ClientRefusal::Memory));
+                    }
+                }
+            }
+        }
+        unreachable!()
+    }
+
+    // Forks a branch from another, unless the name is taken.
+    fn fork(
+        &self,
+        pass: &mut Pass<T, N>,
+        sessions: &Sessions<T>,
+        places: &mut Vec<u64>,
+        new: &Name,
+        from: &Name,
+    ) -> Result<(), Stop>
+        requires { length places.old.items < vec_capacity places.old }
+        ensures advances { Advances pass.old pass.new places.old.items places.new.items }
+        ensures valid { KeepsValid (fix T.meaning N.limits A.address) pass.old pass.new }
+        ensures capacity { vec_capacity places.old ≤ vec_capacity places.new }
+        ensures plays { OnOk result (PlaysOn T.op_of (step.Fork new.now from.now ∷ []) (stage_of pass.old sessions.now.entries places.old.items) (stage_of pass.new sessions.now.entries places.new.items)) }
+        ensures few { length places.new.items ≤ length places.old.items + 1 }
+        ensures stopped { IfErr result (Stops (setting (fix T.meaning N.limits A.address) T.op_of N.opened) (sights_of sessions.now.entries) (step.Fork new.now from.now) pass.old pass.new places.old.items places.new.items) }
+    {
+        match self.shared.fork(self.rt, pass, *new, from) {
+            Ok(forked) => {
+                note(places, forked.moves);
+                self.gate.after_land(self.rt, self.number, forked.moves);
+                Ok(())
+            }
+            Err(ForkRefused::NameTaken { .. }) => Ok(()),
+            Err(ForkRefused::UnknownBranch { .. }) => {
+                Err(Stop::Refused(ClientRefusal::UnknownBranch { name: *from }))
+            }
+            Err(ForkRefused::FullBranches { count }) => {
+                Err(Stop::Refused(ClientRefusal::FullBranches { count }))
+            }
+            Err(ForkRefused::FullMoves { count }) => {
+                Err(Stop::Refused(ClientRefusal::FullMoves { count }))
+            }
+            Err(ForkRefused::DiskFault) => Err(Stop::Refused(ClientRefusal::DiskFault)),
+            Err(ForkRefused::Failed { moves }) => Err(Stop::Refused(ClientRefusal::Failed {
+                moves,
+            })),
+            Err(ForkRefused::Memory) => Err(Stop::Refused(ClientRefusal::Memory)),
+        }
+    }
+
+    // A session looks at a branch.
+    fn look(
+        &self,
+        pass: &mut Pass<T, N>,
+        sessions: &mut Sessions<T>,
+        session: &Name,
+        branch: &Name,
+    ) -> Result<(), Stop>
+        requires sessions { AreSessions N.limits pass.old.moves sessions.old.entries }
+        ensures prefix { IsPrefix pass.old.moves pass.new.moves }
+        ensures valid { KeepsValid (fix T.meaning N.limits A.address) pass.old pass.new }
+        ensures faults { pass.old.faults ≤ pass.new.faults }
+        ensures rest { IsSeenOn pass.old pass.new }
+        ensures sessions { AreSessions N.limits pass.new.moves sessions.new.entries }
+        ensures plays { (places : _) → OnOk result (PlaysOn T.op_of (step.Look session.now branch.now ∷ []) (stage_of pass.old sessions.old.entries places) (stage_of pass.new sessions.new.entries places)) }
+        ensures stopped { IfErr result (IsStopped (setting (fix T.meaning N.limits A.address) T.op_of N.opened) (sights_of sessions.old.entries) (step.Look session.now branch.now) pass.new) }
+    {
+        match self.look_at(pass, sessions, session, branch) {
+            Ok(()) => Ok(()),
+            Err(LookRefused::UnknownBranch { .. }) => {
+                Err(Stop::Refused(ClientRefusal::UnknownBranch { name: *branch }))
+            }
+            Err(LookRefused::Memory) => Err(Stop::Refused(ClientRefusal::Memory)),
+        }
+    }
+
+    // A branch is asked at its head.
+    fn ask(
+        &self,
+        pass: &mut Pass<T, N>,
+        sessions: &Sessions<T>,
+        branch: &Name,
+        query: &PlainQuery,
+    ) -> Result<(), Stop>
+        ensures prefix { IsPrefix pass.old.moves pass.new.moves }
+        ensures valid { KeepsValid (fix T.meaning N.limits A.address) pass.old pass.new }
+        ensures faults { pass.old.faults ≤ pass.new.faults }
+        ensures rest { IsSeenOn pass.old pass.new }
+        ensures plays { (places : _) → OnOk result (PlaysOn T.op_of (step.Ask branch.now query.now ∷ []) (stage_of pass.old sessions.now.entries places) (stage_of pass.new sessions.now.entries places)) }
+        ensures stopped { IfErr result (IsStopped (setting (fix T.meaning N.limits A.address) T.op_of N.opened) (sights_of sessions.now.entries) (step.Ask branch.now query.now) pass.new) }
+    {
+        let seen = match self.shared.look(self.rt, pass, branch) {
+            Ok(seen) => seen,
+            Err(LookRefused::UnknownBranch { .. }) => {
+                return Err(Stop::Refused(ClientRefusal::UnknownBranch { name: *branch }));
+            }
+            Err(LookRefused::Memory) => return Err(Stop::Refused(ClientRefusal::Memory)),
+        };
+        let Ok(query) = T::query(query) else {
+            return Err(Stop::Refused(ClientRefusal::Memory));
+        };
+        match seen.ask(&query) {
+            Ok(_) => Ok(()),
+            Err(Memory) => Err(Stop::Refused(ClientRefusal::Memory)),
+        }
+    }
+
+    /// Does a step; whether the session that moved could look again.
+    pub(crate) fn step(
+        &self,
+        pass: &mut Pass<T, N>,
+        sessions: &mut Sessions<T>,
+        places: &mut Vec<u64>,
+        step: &Step,
+    ) -> Result<bool, Stop>
+        requires sessions { AreSessions N.limits pass.old.moves sessions.old.entries }
+        requires room { length places.old.items < vec_capacity places.old }
+        ensures advances { Advances pass.old pass.new places.old.items places.new.items }
+        ensures valid { KeepsValid (fix T.meaning N.limits A.address) pass.old pass.new }
+        ensures capacity { vec_capacity places.old ≤ vec_capacity places.new }
+        ensures sessions { OnOk result (AreSessions N.limits pass.new.moves sessions.new.entries) }
+        ensures plays { OnOk result (PlaysOn T.op_of (step.now ∷ []) (stage_of pass.old sessions.old.entries places.old.items) (stage_of pass.new sessions.new.entries places.new.items)) }
+        ensures few { length places.new.items ≤ length places.old.items + 1 }
+        ensures stopped { IfErr result (Stops (setting (fix T.meaning N.limits A.address) T.op_of N.opened) (sights_of sessions.old.entries) step.now pass.old pass.new places.old.items places.new.items) }
+    {
+        match step {
+            Step::Look { session, branch } => {
+                self.look(pass, sessions, session, branch)?;
+                Ok(true)
+            }
+            Step::Fork { new, from } => {
+                self.fork(pass, sessions, places, new, from)?;
+                Ok(true)
+            }
+            Step::Merge { session, branch } => {
+                self.merge(pass, sessions, places, session, branch)
+            }
+            Step::Do { session, op } => self.operation(pass, sessions, places, session, op),
+            Step::Ask { branch, query } => {
+                self.ask(pass, sessions, branch, query)?;
+                Ok(true)
+            }
+        }
+    }
+}

@@ -1,0 +1,120 @@
+// The tries of a client to move.
+ghost use Rattle.std.specs.Prelude.{◌≡◌, ◌<◌, ◌≤◌, length, vec_capacity, IfOk, IfErr};
+ghost use mathlib.Core.List.{IsPrefix};
+ghost use Rattle.branch_machine.specs.Fixed.{fix};
+ghost use Rattle.branch_script.specs.declared.step.Step.TheVariants as step;
+ghost use Rattle.parallel_clients.specs.Clients.{KeepsValid};
+ghost use Rattle.parallel_clients.specs.Outcomes.{setting};
+ghost use Rattle.parallel_clients.specs.Sessions.{AreSessions, IsTried, IsTriedMerge, Stops, sights_of};
+
+use crate::client::{Client, Sessions};
+use crate::gate::Gate;
+use crate::landing::{Landing, Stop};
+use crate::outcome::ClientRefusal;
+use crate::plain::Plain;
+use branch_address::Address;
+use branch_disk::Disk;
+use branch_doc::PlainOp;
+use branch_history::laws::{keeps_order, raises_heads};
+use branch_machine::laws::makes_fewer_moves;
+use branch_names::Name;
+use branch_shared::{Named, Pass};
+use std::sync::Wait;
+use store_seen::{PairPrepareRefused, PairRefused, PairStep, PrepareRefused};
+
+impl<T: Plain, D: Disk + Drop, A: Address, N: Named<T::Op, T::Reply>, G: Gate, R: Wait> Client<
+    '_,
+    T,
+    D,
+    A,
+    N,
+    G,
+    R,
+> {
+    /// Tries to land an operation on the branch that a session sees.
+    pub(crate) fn try_operation(
+        &self,
+        pass: &mut Pass<T, N>,
+        sessions: &Sessions<T>,
+        places: &mut Vec<u64>,
+        session: &Name,
+        op: &PlainOp,
+    ) -> Result<Landing, Stop>
+        requires sessions { AreSessions N.limits pass.old.moves sessions.now.entries }
+        requires room { length places.old.items < vec_capacity places.old }
+        ensures prefix { IsPrefix pass.old.moves pass.new.moves }
+        ensures valid { KeepsValid (fix T.meaning N.limits A.address) pass.old pass.new }
+        ensures faults { pass.old.faults ≤ pass.new.faults }
+        ensures capacity { vec_capacity places.old ≤ vec_capacity places.new }
+        ensures tried { IfOk result (IsTried (sights_of sessions.now.entries session.now) (T.op_of op.now) pass.old pass.new places.old.items places.new.items) }
+        ensures stopped { IfErr result (Stops (setting (fix T.meaning N.limits A.address) T.op_of N.opened) (sights_of sessions.now.entries) (step.Do session.now op.now) pass.old pass.new places.old.items places.new.items) }
+    {
+        let Some(at) = sessions.get(session) else {
+            return Err(Stop::Unseen);
+        };
+        self.gate.before_prepare(self.rt, self.number);
+        let Ok(op) = T::op(op) else {
+            return Err(Stop::Refused(ClientRefusal::Memory));
+        };
+        let prepared = match at.seen.prepare(op) {
+            Ok(prepared) => prepared,
+            Err(PrepareRefused::Exhausted { clock }) => {
+                return Err(Stop::Refused(ClientRefusal::Exhausted { clock }));
+            }
+            Err(PrepareRefused::ValueTooLarge { length }) => {
+                return Err(Stop::Refused(ClientRefusal::ValueTooLarge { length }));
+            }
+            Err(PrepareRefused::Memory) => return Err(Stop::Refused(ClientRefusal::Memory)),
+        };
+        match self.land(pass, places, prepared) {
+            Ok(landing) => Ok(landing),
+            Err(refusal) => Err(Stop::Refused(refusal)),
+        }
+    }
+
+    /// Tries to merge the head of a branch into the branch that a session sees.
+    pub(crate) fn try_merge(
+        &self,
+        pass: &mut Pass<T, N>,
+        sessions: &Sessions<T>,
+        places: &mut Vec<u64>,
+        session: &Name,
+        from: &Name,
+    ) -> Result<Landing, Stop>
+        requires sessions { AreSessions N.limits pass.old.moves sessions.now.entries }
+        requires room { length places.old.items < vec_capacity places.old }
+        ensures prefix { IsPrefix pass.old.moves pass.new.moves }
+        ensures valid { KeepsValid (fix T.meaning N.limits A.address) pass.old pass.new }
+        ensures faults { pass.old.faults ≤ pass.new.faults }
+        ensures capacity { vec_capacity places.old ≤ vec_capacity places.new }
+        ensures tried { IfOk result (IsTriedMerge (sights_of sessions.now.entries session.now) from.now pass.old pass.new places.old.items places.new.items) }
+        ensures stopped { IfErr result (Stops (setting (fix T.meaning N.limits A.address) T.op_of N.opened) (sights_of sessions.now.entries) (step.Merge session.now from.now) pass.old pass.new places.old.items places.new.items) }
+    {
+        let Some(at) = sessions.get(session) else {
+            return Err(Stop::Unseen);
+        };
+        self.gate.before_prepare(self.rt, self.number);
+        let pair = match self.shared.pair(self.rt, pass, &at.seen, from) {
+            Ok(pair) => pair,
+            Err(PairRefused::UnknownBranch { .. }) => {
+                return Err(Stop::Refused(ClientRefusal::UnknownBranch { name: *from }));
+            }
+            Err(PairRefused::Memory) => return Err(Stop::Refused(ClientRefusal::Memory)),
+        };
+        keeps_order::<T>();
+        raises_heads::<T>();
+        makes_fewer_moves::<T>();
+        let prepared = match pair.prepare() {
+            Ok(PairStep::Same) => return Ok(Landing::Same),
+            Ok(PairStep::Land(prepared)) => prepared,
+            Err(PairPrepareRefused::ValueTooLarge { length }) => {
+                return Err(Stop::Refused(ClientRefusal::ValueTooLarge { length }));
+            }
+            Err(PairPrepareRefused::Memory) => return Err(Stop::Refused(ClientRefusal::Memory)),
+        };
+        match self.land(pass, places, prepared) {
+            Ok(landing) => Ok(landing),
+            Err(refusal) => Err(Stop::Refused(refusal)),
+        }
+    }
+}
