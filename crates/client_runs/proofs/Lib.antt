@@ -1,0 +1,4 @@
+pub mod Drawn
+pub mod Reasons
+pub mod Known
+pub mod Runs

@@ -1,0 +1,217 @@
+-- What the machine's refusals name.
+use Rattle.std.proofs.Common.{◌≡◌, ℕ, ◌<◌, Bool, true, false, ◌==◌, List, [], ◌∷◌, ◌++◌, length, refl, ap, sym, subst, ◌∙◌, Option, Some, None, arith}
+use Rattle.std.specs.Prelude.{nat_le, nat_lt, not, ◌&&◌, ◌≢◌, if◌then◌else◌}
+use Rattle.std.specs.Option.{option_map}
+use Rattle.std.proofs.lemmas.Bool.{leb-true}
+use Rattle.mrdt_model.specs.Laws.{Meaning}
+use Rattle.branch_names.specs.declared.limits.Limits.{Limits}
+use Rattle.branch_names.specs.Heads.{head_of, branch_named}
+use Rattle.branch_graph.specs.Graph.{reaches}
+use Rattle.branch_wire.specs.StoredObjects.{Stored, same, has_address, clash, collision}
+use Rattle.branch_history.specs.declared.moves.Move.{Move}
+use Rattle.branch_history.specs.declared.moves.Move.TheVariants as move
+use Rattle.branch_history.specs.Commits.{Commit, graph_of, clock_of, visible, visible_at_all}
+use Rattle.branch_history.specs.History.{store_of}
+use Rattle.branch_history.specs.Laws.{IsWithin}
+use Rattle.branch_history.specs.Steps.{Step, Look, Fork, Land, Merge, Refusal, UnknownBranch, NameTaken, Stale, Exhausted, FullCommits, FullBranches, FullMoves, ValueTooLarge, Collision, Outcome, Sees, Forked, Landed, Merged, Forwarded, Same, Refused, Turn}
+use Rattle.branch_history.specs.Machine.{refusal_if, event_made, event_length, operation_refusal, merge_refusal, forward_refusal, commit_refusal, fork_refusal, answers, makes, unless, look_turn, fork_turn, turn}
+use Rattle.branch_machine.specs.Fixed.{Fixed}
+use Rattle.branch_machine.specs.Objects.{objects_of, new_objects}
+use Rattle.branch_machine.proofs.Stored.{same-eq, same-refl}
+use Rattle.branch_machine.specs.Machine.{collision_refusal, unless_made, full_turn}
+
+-- What a refusal after a history says: a full store has the count that is told, which is the limit; a clock is at the limit, and a value is over it; objects that
+-- collide have one address and other bytes.
+abbrev pub Says : {S O R Q A : Type 0} → Fixed S O R Q A → List (Move O R) → (List ℕ → Type 0) → Refusal → Type 0
+Says fixed moves Unknown (UnknownBranch name) = Unknown name
+Says fixed moves Unknown (NameTaken number) = Unit {0}
+Says fixed moves Unknown (Stale newest) = Unit {0}
+Says fixed moves Unknown (Exhausted clock) = clock ≡ fixed.limits.clock
+Says fixed moves Unknown (FullCommits count) = (count ≡ fixed.limits.commits) × (count ≡ length (store_of moves).commits)
+Says fixed moves Unknown (FullBranches count) = (count ≡ fixed.limits.branches) × (count ≡ length (store_of moves).branches)
+Says fixed moves Unknown (FullMoves count) = (count ≡ fixed.limits.moves) × (count ≡ length moves)
+Says fixed moves Unknown (ValueTooLarge size) = fixed.limits.value < size
+Says fixed moves Unknown (Collision address stored fresh) = (fixed.address stored ≡ address) × (fixed.address fresh ≡ address) × (stored ≢ fresh)
+
+-- a collision is of two objects with one address and other bytes
+module _ (address : List ℕ → List ℕ) where
+  abbrev Collides : List ℕ → List ℕ → Type 0
+  Collides y x = (address y ≡ address x) × (y ≢ x)
+
+  clash-test : (x y : List ℕ) → has_address address (address x) y && not (same y x) ≡ true → Collides y x
+  clash-test x y test = by-tests (has_address address (address x) y) (same y x) refl refl test
+    where
+      by-tests : (a b : Bool) → has_address address (address x) y ≡ a → same y x ≡ b → a && not b ≡ true → Collides y x
+      by-tests true false at other is = (same-eq (address y) (address x) at, λ e. let t : true ≡ false = sym (same-refl x) ∙ ap (λ z. same z x) (sym e) ∙ other in let never : ⊥ = cc in never)
+      by-tests true true at other is = let never : ⊥ = cc in absurd never
+      by-tests false b at other is = let never : ⊥ = cc in absurd never
+
+  clash-collides : (x y : List ℕ) (stored : Stored) → clash address x stored ≡ Some y → Collides y x
+  clash-collides x y [] is = let never : ⊥ = cc in absurd never
+  clash-collides x y (z ∷ zs) is = by-test (clash-collides x y zs) (has_address address (address x) z && not (same z x)) refl is
+    where
+      by-test : (clash address x zs ≡ Some y → Collides y x) → (test : Bool) → has_address address (address x) z && not (same z x) ≡ test → (if test then Some z else clash address x zs) ≡ Some y → Collides y x
+      by-test rest true at e = let found : z ≡ y = cc in subst (λ t. Collides t x) found (clash-test x z at)
+      by-test rest false at e = rest e
+
+  collision-collides : (stored new : Stored) (c : List ℕ × List ℕ) → collision address stored new ≡ Some c → Collides c.0 c.1
+  collision-collides stored [] c is = let never : ⊥ = cc in absurd never
+  collision-collides stored (x ∷ xs) c is = by-clash (collision-collides (stored ++ x ∷ []) xs c) (clash address x stored) refl is
+    where
+      by-clash : (collision address (stored ++ x ∷ []) xs ≡ Some c → Collides c.0 c.1) → (found : Option (List ℕ)) → clash address x stored ≡ found
+          → elim found as (λ o. Option (List ℕ × List ℕ)) [ None ↦ collision address (stored ++ x ∷ []) xs | Some y ↦ Some (y, x) ] ≡ Some c → Collides c.0 c.1
+      by-clash rest None at e = rest e
+      by-clash rest (Some y) at e = let found : (y, x) ≡ c = cc in subst (λ d. Collides d.0 d.1) found (clash-collides x y stored at)
+
+module _ (P : Refusal → Type 0) where
+  reason-if : (test : Bool) (refusal : Refusal) (later : Option Refusal) (why : Refusal) → (test ≡ true → P refusal) → (later ≡ Some why → P why) → refusal_if test refusal later ≡ Some why → P why
+  reason-if true refusal later why here rest is = let same : refusal ≡ why = cc in subst P same (here refl)
+  reason-if false refusal later why here rest is = rest is
+
+  reason-none : (why : Refusal) → None ≡ Some why → P why
+  reason-none why is = let never : ⊥ = cc in absurd never
+
+  same-refusal : {O R A : Type 0} (r why : Refusal) → answers {O = O} {R = R} {A = A} (Refused r) ≡ answers (Refused why) → P r → P why
+  same-refusal {O} {R} {A} r why is here =
+      let told : ◌≡◌ {A = Outcome A R} (Refused r) (Refused why) = ap (λ (t : Turn O R A). t.outcome) is in
+      let same : r ≡ why = cc in
+      subst P same here
+
+  reason-unless : {O R A : Type 0} (o : Option Refusal) (t : Turn O R A) (why : Refusal) → ((r : Refusal) → o ≡ Some r → P r) → (t ≡ answers (Refused why) → P why) → unless o t ≡ answers (Refused why) → P why
+  reason-unless None t why here rest is = rest is
+  reason-unless {O} {R} {A} (Some r) t why here rest is = same-refusal {O = O} {R = R} {A = A} r why is (here r refl)
+
+  reason-makes : {O R A : Type 0} (m : Move O R) (outcome : Outcome A R) (why : Refusal) → makes m outcome ≡ answers (Refused why) → P why
+  reason-makes {O} {R} {A} m outcome why is =
+      let moved : m ∷ [] ≡ [] = ap (λ (t : Turn O R A). t.made) is in
+      let never : ⊥ = cc in
+      absurd never
+
+  pub reason-full : {S O R Q A : Type 0} (fixed : Fixed S O R Q A) (moves : List (Move O R)) (step : Step O Q) (why : Refusal) → ((stored fresh : List ℕ) → Collides fixed.address stored fresh → P (Collision (fixed.address fresh) stored fresh))
+      → (turn fixed.meaning fixed.limits moves step ≡ answers (Refused why) → P why) → full_turn fixed moves step ≡ answers (Refused why) → P why
+  unfolding full_turn collision_refusal
+  reason-full {S} {O} {R} {Q} {A} fixed moves step why collides rest is = by-made t.made is
+    where
+      t : Turn O R A
+      t = turn fixed.meaning fixed.limits moves step
+
+      by-found : (made : Move O R) (found : Option (List ℕ × List ℕ)) → collision fixed.address (objects_of fixed moves) (new_objects fixed moves made) ≡ found
+          → unless (option_map (λ c. Collision (fixed.address c.1) c.0 c.1) found) t ≡ answers (Refused why) → P why
+      by-found made None at e = rest e
+      by-found made (Some c) at e =
+          same-refusal {O = O} {R = R} {A = A} (Collision (fixed.address c.1) c.0 c.1) why e
+          (collides c.0 c.1 (collision-collides fixed.address (objects_of fixed moves) (new_objects fixed moves made) c at))
+
+      by-made : (ms : List (Move O R)) → unless_made (λ m. option_map (λ c. Collision (fixed.address c.1) c.0 c.1) (collision fixed.address (objects_of fixed moves) (new_objects fixed moves m))) ms t ≡ answers (Refused why) → P why
+      by-made [] e = rest e
+      by-made (m ∷ ms) e = by-found m (collision fixed.address (objects_of fixed moves) (new_objects fixed moves m)) refl e
+
+module _ {S O R Q A : Type 0} (fixed : Fixed S O R Q A) (moves : List (Move O R)) (within : IsWithin fixed.limits moves) (Unknown : List ℕ → Type 0) where
+  abbrev meaning : Meaning S O R Q A
+  meaning = fixed.meaning
+
+  abbrev limits : Limits
+  limits = fixed.limits
+
+  abbrev P : Refusal → Type 0
+  P = Says fixed moves Unknown
+
+  abbrev commits : List (Commit O R)
+  commits = (store_of moves).commits
+
+  says-moves : (why : Refusal) → refusal_if (nat_le limits.moves (length moves)) (FullMoves (length moves)) None ≡ Some why → P why
+  says-moves why is =
+      reason-if P (nat_le limits.moves (length moves)) (FullMoves (length moves)) None why
+      (λ test. let at = leb-true limits.moves (length moves) test in let most = within.accepted in (omega arith, refl))
+      (reason-none P why) is
+
+  says-operation : (r h : ℕ) (op : O) (why : Refusal) → operation_refusal meaning limits commits r h op ≡ Some why → P why
+  unfolding operation_refusal
+  says-operation r h op why is =
+      let clock = clock_of commits h in
+      let size = event_length meaning (event_made meaning commits r h op) (visible commits h) in
+      reason-if P (nat_le limits.clock clock) (Exhausted clock) (refusal_if (nat_lt limits.value size) (ValueTooLarge size) None) why
+      (λ test. let at = leb-true limits.clock clock test in let most = within.clocks h in omega arith)
+      (λ later. reason-if P (nat_lt limits.value size) (ValueTooLarge size) None why (λ test. leb-true _ _ test) (reason-none P why) later)
+      is
+
+  says-merging : (h m : ℕ) (why : Refusal) → merge_refusal meaning limits commits h m ≡ Some why → P why
+  unfolding merge_refusal
+  says-merging h m why is =
+      let size = length (meaning.spelling_of (visible_at_all commits (h ∷ m ∷ []))) in
+      reason-if P (nat_lt limits.value size) (ValueTooLarge size) None why (λ test. leb-true _ _ test) (reason-none P why) is
+
+  says-forward : (r h : ℕ) (why : Refusal) → forward_refusal limits moves r h ≡ Some why → P why
+  unfolding forward_refusal
+  says-forward r h why is =
+      let head = head_of (store_of moves).branches r in
+      reason-if P (not (head == h)) (Stale head) (refusal_if (nat_le limits.moves (length moves)) (FullMoves (length moves)) None) why (λ test. tt) (says-moves why) is
+
+  says-commit : (r h : ℕ) (why : Refusal) → commit_refusal limits moves r h ≡ Some why → P why
+  unfolding commit_refusal
+  says-commit r h why is =
+      let head = head_of (store_of moves).branches r in
+      let count = length commits in
+      let full = refusal_if (nat_le limits.moves (length moves)) (FullMoves (length moves)) None in
+      reason-if P (not (head == h)) (Stale head) (refusal_if (nat_le limits.commits count) (FullCommits count) full) why (λ test. tt)
+      (λ later. reason-if P (nat_le limits.commits count) (FullCommits count) full why (λ test. let at = leb-true limits.commits count test in let most = within.commits in (omega arith, refl)) (says-moves why) later)
+      is
+
+  says-forking : (why : Refusal) → fork_refusal limits moves ≡ Some why → P why
+  unfolding fork_refusal
+  says-forking why is =
+      let count = length (store_of moves).branches in
+      reason-if P (nat_le limits.branches count) (FullBranches count) (refusal_if (nat_le limits.moves (length moves)) (FullMoves (length moves)) None) why
+      (λ test. let at = leb-true limits.branches count test in let most = within.branches in (omega arith, refl))
+      (says-moves why) is
+
+  pub says-look : (name : List ℕ) (why : Refusal) → (branch_named (store_of moves).branches name ≡ None → Unknown name) → turn meaning limits moves (Look name) ≡ answers (Refused why) → P why
+  unfolding turn
+  says-look name why none is = by-named (branch_named (store_of moves).branches name) refl is
+    where
+      by-named : (o : Option ℕ) → branch_named (store_of moves).branches name ≡ o → look_turn {O = O} {R = R} {A = A} (store_of moves) name o ≡ answers (Refused why) → P why
+      by-named None at e = same-refusal P {O = O} {R = R} {A = A} (UnknownBranch name) why e (none at)
+      by-named (Some r) at e = let told : ◌≡◌ {A = Outcome A R} (Sees r (head_of (store_of moves).branches r)) (Refused why) = ap (λ (t : Turn O R A). t.outcome) e in let never : ⊥ = cc in absurd never
+
+  pub says-fork : (name from : List ℕ) (why : Refusal) → (branch_named (store_of moves).branches from ≡ None → Unknown from) → turn meaning limits moves (Fork name from) ≡ answers (Refused why) → P why
+  unfolding turn
+  says-fork name from why none is = by-named (branch_named (store_of moves).branches name) (branch_named (store_of moves).branches from) refl is
+    where
+      by-named : (taken there : Option ℕ) → branch_named (store_of moves).branches from ≡ there → fork_turn {O = O} {R = R} {A = A} limits moves name from taken there ≡ answers (Refused why) → P why
+      by-named taken None at e = same-refusal P {O = O} {R = R} {A = A} (UnknownBranch from) why e (none at)
+      by-named (Some number) (Some r) at e = same-refusal P {O = O} {R = R} {A = A} (NameTaken number) why e tt
+      by-named None (Some r) at e =
+          let branches = (store_of moves).branches in
+          let made : Turn O R A = makes (move.Fork name (length branches) r) (Forked (length branches) (head_of branches r)) in
+          reason-unless P (fork_refusal limits moves) made why says-forking (reason-makes P (move.Fork name (length branches) r) (Forked (length branches) (head_of branches r)) why) e
+
+  pub says-land : (r h : ℕ) (op : O) (why : Refusal) → turn meaning limits moves (Land r h op) ≡ answers (Refused why) → P why
+  unfolding turn
+  says-land r h op why is =
+      let e = event_made meaning commits r h op in
+      let m = move.Operation r op e.reply in
+      let outcome : Outcome A R = Landed (length commits) e.time e.reply in
+      reason-unless P (operation_refusal meaning limits commits r h op) (unless (commit_refusal limits moves r h) (makes m outcome)) why (says-operation r h op)
+      (reason-unless P (commit_refusal limits moves r h) (makes m outcome) why (says-commit r h) (reason-makes P m outcome why))
+      is
+
+  pub says-merge : (r h m : ℕ) (why : Refusal) → turn meaning limits moves (Merge r h m) ≡ answers (Refused why) → P why
+  unfolding turn
+  says-merge r h m why is = by-reach (reaches graph h m) (reaches graph m h) is
+    where
+      graph : List (List ℕ)
+      graph = graph_of commits
+
+      up : Turn O R A
+      up = unless (forward_refusal limits moves r h) (makes (move.Forward r m) (Forwarded m))
+
+      apart : Turn O R A
+      apart = unless (merge_refusal meaning limits commits h m) (unless (commit_refusal limits moves r h) (makes (move.Merge r m) (Merged (length commits))))
+
+      by-reach : (below above : Bool) → (if below then answers Same else if above then up else apart) ≡ answers (Refused why) → P why
+      by-reach true above e = let told : ◌≡◌ {A = Outcome A R} Same (Refused why) = ap (λ (t : Turn O R A). t.outcome) e in let never : ⊥ = cc in absurd never
+      by-reach false true e = reason-unless P (forward_refusal limits moves r h) (makes (move.Forward r m) (Forwarded m)) why (says-forward r h) (reason-makes P (move.Forward r m) (Forwarded m) why) e
+      by-reach false false e =
+          reason-unless P (merge_refusal meaning limits commits h m) (unless (commit_refusal limits moves r h) (makes (move.Merge r m) (Merged (length commits)))) why (says-merging h m)
+          (reason-unless P (commit_refusal limits moves r h) (makes (move.Merge r m) (Merged (length commits))) why (says-commit r h) (reason-makes P (move.Merge r m) (Merged (length commits)) why))
+          e

@@ -1,0 +1,48 @@
+-- The scripts are the clients' drawn steps, and over a valid history none of these names a branch that is not there.
+use Rattle.std.proofs.Common.{◌≡◌, List, [], length, ap, sym, ◌∙◌, subst, arith, append-nil}
+use Rattle.branch_history.specs.declared.moves.Move.{Move}
+use Rattle.branch_machine.specs.Fixed.{fix}
+use Rattle.branch_machine.specs.Validity.{IsFullyValid}
+use Rattle.branch_script.specs.declared.step.Step.{Step}
+use Rattle.branch_shared.specs.Keeps.{faults_since}
+use Rattle.branch_shared.specs.Names.{BlankView}
+use Rattle.store_core.specs.Views.{StoreView}
+use Rattle.parallel_clients.specs.Outcomes.{setting}
+use Rattle.client_runs.specs.Scripts.{scripts_of}
+use Rattle.client_runs.specs.Worked.{HaveRun, HaveWorked}
+use Rattle.client_runs.proofs.Known.{first-within}
+use Rattle.client_runs.proofs.Runs.{answer-says, length-scripts_of, have-worked}
+use Rattle.client_runs.proofs.run.run_on.Goals as goal
+
+pub share-requires-clause-parts : goal.share-requires-clause-parts
+share-requires-clause-parts g c =
+    let work = c.args.work in
+    let size = ap (λ (xs : List (List Step)). length xs) (c.deref.ensures.value ∙ c.in-Ok.ensures) ∙ length-scripts_of work.count work.steps work.number in
+    let parts = ap (λ (b : BlankView (Move _ _) _). b.parts) c.in-Ok-new.ensures.made in
+    omega (arith, size, parts)
+
+pub returns-clause-grows : goal.returns-clause-grows
+returns-clause-grows g c = ([], append-nil c.args.core.history ∙ ap (λ (s : StoreView (Move _ _) _). s.history) (sym c.in-Err-new.ensures.same))
+
+pub returns-in-Ok-new-clause-worked : goal.returns-in-Ok-new-clause-worked
+returns-in-Ok-new-clause-worked g c =
+    let core = c.args.core in
+    let work = c.args.work in
+    let made = c.in-Ok-new.ensures.made in
+    let blank = c.in-Ok-new.blank in
+    let meaning = g.T.Mrdt.meaning in
+    let address = g.A.Address.address in
+    let op_of = g.T.Plain.op_of in
+    let history = c.share.result.core.history in
+    let faults = faults_since g.D.Disk.faults c.share.result.core in
+    let on = setting (fix meaning core.limits address) op_of (g.D.Disk.faults core.opened) in
+    let scripts = c.deref.result.now in
+    let drawn : scripts ≡ scripts_of work.count work.steps work.number = c.deref.ensures.value ∙ c.in-Ok.ensures in
+    let valid : IsFullyValid (fix meaning core.limits address) history = subst (λ (b : BlankView (Move _ _) _). IsFullyValid (fix meaning b.core.limits address) history) made c.share.ensures.valid in
+    let within = first-within meaning core.limits address c.keeps_limits.ensures c.makes_fewer_moves.ensures c.has_fully_valid_prefixes.ensures history valid in
+    answer-says (HaveRun (setting (fix meaning blank.core.limits address) op_of blank.opened) blank.core.history history faults scripts) (HaveWorked on core.history history faults work.count work.steps work.number) c.share.result.outcomes
+    (λ outcomes run.
+    let own = subst (λ (b : BlankView (Move _ _) _). HaveRun (setting (fix meaning b.core.limits address) op_of b.opened) b.core.history history faults scripts outcomes) made run in
+    have-worked on core.history history within faults work.count work.steps work.number outcomes
+    (subst (λ (xs : List (List Step)). HaveRun on core.history history faults xs outcomes) drawn own))
+    c.share.ensures.ran

@@ -1,0 +1,52 @@
+-- What becomes of clients that do drawn steps. Its words are no part of this: the layer that writes them tells a client's number, and then that it is done and how
+-- many places it has, or the text of the refusal.
+use Rattle.std.specs.Prelude.{◌≡◌, ◌≢◌, ℕ, ◌+◌, ◌<◌, List, length, slice_get, Some}
+use Rattle.std.specs.List.{AllZip}
+use Rattle.branch_history.specs.declared.moves.Move.{Move}
+use Rattle.branch_history.specs.History.{store_of}
+use Rattle.branch_machine.specs.Fixed.{Fixed}
+use Rattle.branch_script.specs.declared.step.Step.{Step}
+use Rattle.branch_gen.specs.Clients.{client_steps}
+use Rattle.parallel_clients.specs.declared.outcome.ClientRefusal.{ClientRefusal}
+use Rattle.parallel_clients.specs.declared.outcome.ClientRefusal.TheVariants as refusal
+use Rattle.parallel_clients.specs.declared.outcome.Outcome.{Outcome}
+use Rattle.parallel_clients.specs.declared.outcome.Outcome.TheVariants.{Done, Refused, Unseen}
+use Rattle.parallel_clients.specs.Clients.{count_places}
+use Rattle.parallel_clients.specs.Outcomes.{Setting, IsOutcome}
+
+-- each script has its outcome, in their order, where a history grew from an old one to a new one, and the disk has had so many faults since it was opened; all new
+-- moves are the clients'
+pub record HaveRun {S O R Q A : Type 0} (on : Setting S O R Q A) (old new : List (Move O R)) (faults : ℕ) (scripts : List (List Step)) (outcomes : List Outcome) : Type 0 where
+  pub each : AllZip (IsOutcome on old new faults) scripts outcomes
+  pub counted : length new ≡ length old + count_places outcomes
+
+-- What may refuse a client of drawn steps: no unknown branch. A full store has the count that is told, which is the limit; a clock is exhausted at the limit, and a
+-- value is too large over the limit. Objects that collide have one address and other bytes.
+abbrev pub MayRefuse : {S O R Q A : Type 0} → Fixed S O R Q A → List (Move O R) → ClientRefusal → Type 0
+MayRefuse fixed moves (refusal.UnknownBranch name) = ⊥
+MayRefuse fixed moves (refusal.Exhausted clock) = clock ≡ fixed.limits.clock
+MayRefuse fixed moves (refusal.FullCommits count) = (count ≡ fixed.limits.commits) × (count ≡ length (store_of moves).commits)
+MayRefuse fixed moves (refusal.FullBranches count) = (count ≡ fixed.limits.branches) × (count ≡ length (store_of moves).branches)
+MayRefuse fixed moves (refusal.FullMoves count) = (count ≡ fixed.limits.moves) × (count ≡ length moves)
+MayRefuse fixed moves (refusal.ValueTooLarge length) = fixed.limits.value < length
+MayRefuse fixed moves (refusal.Collision address stored fresh) = (fixed.address stored ≡ address) × (fixed.address fresh ≡ address) × (stored ≢ fresh)
+MayRefuse fixed moves refusal.DiskFault = Unit {0}
+MayRefuse fixed moves (refusal.Failed count) = Unit {0}
+MayRefuse fixed moves refusal.Memory = Unit {0}
+
+-- what may become of such a client: none names a session that has not looked
+abbrev pub MayComeTo : {S O R Q A : Type 0} → Fixed S O R Q A → List (Move O R) → Outcome → Type 0
+MayComeTo fixed moves (Done places) = Unit {0}
+MayComeTo fixed moves (Refused step refusal places) = MayRefuse fixed moves refusal
+MayComeTo fixed moves (Unseen step places) = ⊥
+
+-- what became of a client with these steps, where a history grew from an old one to a new one, and the disk has had so many faults since it was opened
+pub record HasWorked {S O R Q A : Type 0} (on : Setting S O R Q A) (old new : List (Move O R)) (faults : ℕ) (steps : List Step) (outcome : Outcome) : Type 0 where
+  pub is : IsOutcome on old new faults steps outcome
+  pub may : MayComeTo on.fixed new outcome
+
+-- so many clients have one outcome each, in their order, and all new moves are theirs
+pub record HaveWorked {S O R Q A : Type 0} (on : Setting S O R Q A) (old new : List (Move O R)) (faults count steps number : ℕ) (outcomes : List Outcome) : Type 0 where
+  pub clients : length outcomes ≡ count
+  pub each : (client : ℕ) (outcome : Outcome) → slice_get outcomes client ≡ Some outcome → HasWorked on old new faults (client_steps client steps number) outcome
+  pub counted : length new ≡ length old + count_places outcomes
