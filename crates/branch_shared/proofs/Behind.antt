@@ -1,5 +1,5 @@
 -- Lists behind one that all begin with.
-use Rattle.std.proofs.Common.{◌≡◌, List, ◌++◌, ap, sym, ◌∙◌, append_assoc}
+use Rattle.std.proofs.Common.{List, ◌++◌, ap, ◌∙◌, append_assoc}
 use mathlib.Core.List.{IsPrefix}
 
 module _ {A : Type 0} where

@@ -1,6 +1,6 @@
 -- What a client has played stays where a history grows.
-use Rattle.std.proofs.Common.{◌≡◌, ℕ, ◌+◌, ◌-◌, ◌<◌, ◌≤◌, ◌⊎◌, inl, inr, ⊎_elim, List, [], ◌∷◌, ◌++◌, length, refl, ap, sym, subst, ◌∙◌, Option, Some, None, arith}
-use Rattle.std.specs.Prelude.{slice_get, take}
+use Rattle.std.proofs.Common.{ℕ, ◌-◌, ◌<◌, ◌≤◌, ◌⊎◌, inl, inr, ⊎_elim, List, [], ◌∷◌, length, subst, ◌∙◌, Option, Some, None, arith}
+use Rattle.std.specs.Prelude.{take}
 use Rattle.std.proofs.lemmas.Option.{slice_get_within}
 use mathlib.Core.List.{IsPrefix}
 use Rattle.branch_front.proofs.Prefixes.{prefix_trans}
@@ -15,7 +15,7 @@ use Rattle.parallel_clients.specs.declared.outcome.ClientRefusal.TheVariants.{Un
 use Rattle.parallel_clients.specs.declared.outcome.Outcome.{Outcome}
 use Rattle.parallel_clients.specs.declared.outcome.Outcome.TheVariants.{Done, Refused, Unseen}
 use Rattle.parallel_clients.specs.Played.{Sights, no_sights, with_sight, sights_after, IsMoveAt, IsDone, IsForked, IsMerged, IsTaken, IsReached, HoldsBetween, TakesOne, IfSees, PlayedFrom, Played}
-use Rattle.parallel_clients.specs.Outcomes.{Setting, HasFailed, StepRefused, ComesTo, IsOutcome, StaysOutcome}
+use Rattle.parallel_clients.specs.Outcomes.{Setting, HasFailed, StepRefused, ComesTo, StaysOutcome}
 use Rattle.parallel_clients.proofs.Went.{named-later, head-later}
 
 module _ {O R : Type 0} (op_of : PlainOp → O) (moves later : List (Move O R)) (grows : IsPrefix moves later) where

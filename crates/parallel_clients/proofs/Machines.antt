@@ -1,5 +1,5 @@
 -- The machine that keeps objects, beside the one that keeps none.
-use Rattle.std.proofs.Common.{◌≡◌, ℕ, List, [], ◌∷◌, refl, ap, sym, ◌∙◌, Option, None, Some}
+use Rattle.std.proofs.Common.{◌≡◌, ℕ, List, [], ◌∷◌, refl, ap, Option, None, Some}
 use Rattle.std.specs.Option.{option_map}
 use Rattle.branch_wire.specs.StoredObjects.{collision}
 use Rattle.branch_history.specs.declared.moves.Move.{Move}

@@ -1,8 +1,7 @@
 -- What became of a try to merge.
-use Rattle.std.proofs.Common.{◌≡◌, ℕ, ◌+◌, ◌<◌, ◌≤◌, ◌⊎◌, inl, inr, ⊎_elim, arith, length, length-append, List, [], ◌∷◌, ◌++◌, refl, ap, sym, subst, ◌∙◌, Option, Some, None, IsTrue}
+use Rattle.std.proofs.Common.{◌≡◌, ℕ, ◌+◌, ◌≤◌, ◌⊎◌, inl, inr, ⊎_elim, arith, length, length-append, List, [], ◌∷◌, refl, ap, sym, subst, ◌∙◌, Option, Some, IsTrue}
 use mathlib.Core.List.{IsPrefix}
 use Rattle.branch_front.proofs.Prefixes.{prefix_self, prefix_trans}
-use Rattle.mrdt_model.specs.Laws.{Meaning}
 use Rattle.branch_names.specs.declared.limits.Limits.{Limits}
 use Rattle.branch_names.specs.Heads.{head_of, branch_named}
 use Rattle.branch_graph.specs.Graph.{reaches}
@@ -14,7 +13,6 @@ use Rattle.branch_history.specs.Laws.{KeepsOrder, RaisesHeads}
 use Rattle.branch_history.specs.Validity.{IsValid}
 use Rattle.branch_history.specs.Steps as machine
 use Rattle.branch_history.specs.Machine.{turn, answers}
-use Rattle.branch_doc.specs.declared.plain.PlainOp.{PlainOp}
 use Rattle.branch_script.specs.declared.step.Step.TheVariants.{Merge}
 use Rattle.store_seen.specs.Pairs.{seen_of, IsPaired, MergesAs, IsWorkOf}
 use Rattle.store_seen.specs.Turns.{step_of, move_of}
@@ -27,7 +25,7 @@ use Rattle.parallel_clients.specs.declared.landing.Landing.{Landing}
 use Rattle.parallel_clients.specs.declared.landing.Landing.TheVariants.{Moved, Stale, Same}
 use Rattle.parallel_clients.specs.declared.outcome.ClientRefusal.{ClientRefusal}
 use Rattle.parallel_clients.specs.declared.outcome.ClientRefusal.TheVariants.{UnknownBranch, Exhausted, FullCommits, FullBranches, FullMoves, ValueTooLarge, Collision, DiskFault, Failed, Memory}
-use Rattle.parallel_clients.specs.Played.{Sights, WasNamed, WasHead, IfSees, IsReached}
+use Rattle.parallel_clients.specs.Played.{Sights, WasHead, IfSees}
 use Rattle.parallel_clients.specs.Outcomes.{Setting, RefusesStep, StepRefused}
 use Rattle.parallel_clients.specs.Sessions.{Sessions, IsSession, IsWaiting, Advances, HasMoved, HasStayed, HasMerged, HasSame, IsLanding, RefusesMade, IsLandRefused, IsTriedMerge}
 use Rattle.parallel_clients.proofs.Machines.{full-answers}

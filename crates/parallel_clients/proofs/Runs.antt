@@ -1,5 +1,5 @@
 -- A client's steps, one after another, and what it comes to.
-use Rattle.std.proofs.Common.{◌≡◌, ℕ, ◌+◌, ◌≤◌, List, [], ◌∷◌, ◌++◌, length, take, refl, ap, sym, subst, ◌∙◌, Some, arith}
+use Rattle.std.proofs.Common.{◌≡◌, ℕ, List, [], ◌∷◌, ◌++◌, length, take, refl, sym, subst, ◌∙◌, Some, arith}
 use Rattle.std.specs.Prelude.{slice_get}
 use mathlib.Core.List.{IsPrefix}
 use Rattle.branch_front.proofs.Prefixes.{prefix_self, prefix_trans}
@@ -12,9 +12,9 @@ use Rattle.parallel_clients.specs.declared.landing.Stop.{Stop}
 use Rattle.parallel_clients.specs.declared.landing.Stop.TheVariants.{Refused, Unseen}
 use Rattle.parallel_clients.specs.declared.outcome.ClientRefusal.TheVariants.{Memory}
 use Rattle.parallel_clients.specs.declared.outcome.Outcome.TheVariants.{Done}
-use Rattle.parallel_clients.specs.Played.{Sights, no_sights, sights_after, Played}
+use Rattle.parallel_clients.specs.Played.{Sights, no_sights, Played}
 use Rattle.parallel_clients.specs.Outcomes.{Setting, ArePast, StepRefused, SeesNone, IsOutcome}
-use Rattle.parallel_clients.specs.Sessions.{Sessions, AreSessions, Stage, sights_of, stage_of, PlaysOn, Advances, Stops, stopped_at, IsPlaying}
+use Rattle.parallel_clients.specs.Sessions.{Sessions, AreSessions, sights_of, stage_of, PlaysOn, Advances, Stops, stopped_at, IsPlaying}
 use Rattle.parallel_clients.proofs.Went.{plays-none, plays-both, plays-played}
 
 pub advances-both : {M : Type 0} (a b c : PassView M) (xs ys zs : List ℕ) → Advances a b xs ys → Advances b c ys zs → Advances a c xs zs

@@ -1,18 +1,16 @@
 -- What one step of a client does to what it has played.
-use Rattle.std.proofs.Common.{◌≡◌, ℕ, ◌+◌, ◌<◌, ◌≤◌, ◌⊎◌, inl, inr, List, [], ◌∷◌, ◌++◌, length, refl, ap, sym, subst, ◌∙◌, Option, Some, None, arith, length-append, ⊎_elim}
+use Rattle.std.proofs.Common.{◌≡◌, ℕ, ◌+◌, ◌<◌, ◌≤◌, ◌⊎◌, inl, inr, List, [], ◌∷◌, ◌++◌, length, ap, sym, subst, ◌∙◌, Some, arith, length-append, ⊎_elim}
 use mathlib.Core.List.{IsPrefix}
 use Rattle.branch_front.proofs.Prefixes.{prefix_trans, prefix_more, prefix_length}
-use Rattle.branch_names.specs.Heads.{branch_named}
 use Rattle.branch_history.specs.declared.moves.Move.{Move}
 use Rattle.branch_history.specs.declared.moves.Move.TheVariants as move
-use Rattle.branch_history.specs.History.{store_of}
 use Rattle.branch_doc.specs.declared.plain.PlainOp.{PlainOp}
 use Rattle.branch_doc.specs.declared.plain.PlainQuery.{PlainQuery}
 use Rattle.branch_script.specs.declared.step.Step.{Step}
 use Rattle.branch_script.specs.declared.step.Step.TheVariants.{Look, Fork, Merge, Do, Ask}
 use Rattle.branch_shared.specs.Passes.{PassView}
-use Rattle.parallel_clients.specs.Played.{Sights, with_sight, sights_after, IsMoveAt, WasNamed, WasHead, IsDone, IsForked, IsMerged, IsTaken, IsReached, IsBelowFirst, HoldsBetween, TakesOne, IfSees, PlayedFrom}
-use Rattle.parallel_clients.specs.Sessions.{Stage, PlaysOn, HasMoved, HasStayed, HasDone, HasMerged, HasSame}
+use Rattle.parallel_clients.specs.Played.{with_sight, sights_after, IsMoveAt, WasNamed, IsDone, IsForked, IsMerged, IsTaken, IsReached, IsBelowFirst, HoldsBetween, TakesOne, IfSees, PlayedFrom}
+use Rattle.parallel_clients.specs.Sessions.{Stage, PlaysOn, HasMoved, HasDone, HasMerged}
 use Rattle.parallel_clients.proofs.Went.{named-later, head-later, move-last, below-less, plays-still, plays-move}
 
 module _ {O R : Type 0} (op_of : PlainOp → O) (old new : Stage (Move O R)) (mid after : PassView (Move O R)) (from_old : IsPrefix old.moves mid.moves) (to_new : IsPrefix after.moves new.moves) (places noted : List ℕ) (had : old.places ≡ places) (has : new.places ≡ noted) where

@@ -1,13 +1,11 @@
 -- What became of a try to move, by what became of its landing.
-use Rattle.std.proofs.Common.{◌≡◌, ℕ, ◌<◌, ◌⊎◌, inl, inr, List, [], ◌∷◌, ◌++◌, length, refl, ap, sym, subst, ◌∙◌, Option, Some, None, IsTrue}
-use mathlib.Core.List.{IsPrefix}
+use Rattle.std.proofs.Common.{◌≡◌, ℕ, List, length, ap, sym, subst, ◌∙◌, Option, Some}
 use Rattle.branch_names.specs.declared.limits.Limits.{Limits}
 use Rattle.branch_history.specs.declared.moves.Move.{Move}
 use Rattle.branch_history.specs.declared.moves.Move.TheVariants as move
 use Rattle.branch_history.specs.Steps as machine
 use Rattle.branch_doc.specs.declared.plain.PlainOp.{PlainOp}
-use Rattle.branch_script.specs.declared.step.Step.{Step}
-use Rattle.branch_script.specs.declared.step.Step.TheVariants.{Look, Fork, Merge, Do, Ask}
+use Rattle.branch_script.specs.declared.step.Step.TheVariants.{Do}
 use Rattle.store_seen.specs.Turns.{Refuses, FromOn, step_of, move_of}
 use Rattle.store_seen.specs.Views.{SeenView, PreparedView, Work}
 use Rattle.store_seen.specs.Views as work
@@ -18,9 +16,9 @@ use Rattle.parallel_clients.specs.declared.landing.Landing.{Landing}
 use Rattle.parallel_clients.specs.declared.landing.Landing.TheVariants.{Moved, Stale, Same}
 use Rattle.parallel_clients.specs.declared.outcome.ClientRefusal.{ClientRefusal}
 use Rattle.parallel_clients.specs.declared.outcome.ClientRefusal.TheVariants.{UnknownBranch, Exhausted, FullCommits, FullBranches, FullMoves, ValueTooLarge, Collision, DiskFault, Failed, Memory}
-use Rattle.parallel_clients.specs.Played.{Sights, WasNamed, WasHead, IfSees}
+use Rattle.parallel_clients.specs.Played.{Sights, WasHead, IfSees}
 use Rattle.parallel_clients.specs.Outcomes.{Setting, RefusesStep, StepRefused}
-use Rattle.parallel_clients.specs.Sessions.{IsSession, HasMoved, HasStayed, HasDone, IsLanding, RefusesMade, IsLandRefused, IsTried}
+use Rattle.parallel_clients.specs.Sessions.{IsSession, HasMoved, IsLanding, RefusesMade, IsLandRefused, IsTried}
 use Rattle.parallel_clients.proofs.Machines.{full-answers}
 use Rattle.parallel_clients.proofs.Sessioned.{session-named, session-head}
 

@@ -1,21 +1,16 @@
 -- How clients go on: what holds of a history holds of a longer one, and steps are played one after another.
-use Rattle.std.proofs.Common.{zero, suc, ◌≡◌, ℕ, ◌+◌, ◌-◌, ◌<◌, ◌≤◌, ◌⊎◌, inl, inr, List, [], ◌∷◌, ◌++◌, length, refl, ap, sym, subst, ◌∙◌, append_assoc, append-nil, Option, Some, None, arith, length-append, IsTrue}
+use Rattle.std.proofs.Common.{◌≡◌, ℕ, ◌+◌, ◌-◌, ◌<◌, ◌≤◌, List, [], ◌∷◌, ◌++◌, length, refl, ap, sym, subst, ◌∙◌, append_assoc, append-nil, Some, arith, length-append}
 use Rattle.std.specs.Prelude.{slice_get}
-use Rattle.std.specs.List.{AllByRecursion}
 use mathlib.Core.List.{IsPrefix}
-use Rattle.branch_front.proofs.Prefixes.{prefix_self, prefix_trans, prefix_more, prefix_length}
-use Rattle.branch_names.specs.Heads.{head_of, branch_named}
+use Rattle.branch_front.proofs.Prefixes.{prefix_self, prefix_trans, prefix_length}
 use Rattle.branch_history.specs.declared.moves.Move.{Move}
-use Rattle.branch_history.specs.declared.moves.Move.TheVariants as move
-use Rattle.branch_history.specs.History.{store_of}
 use Rattle.branch_history.proofs.Lists.{slice_get-append, slice_get-new}
 use Rattle.branch_doc.specs.declared.plain.PlainOp.{PlainOp}
 use Rattle.branch_script.specs.declared.step.Step.{Step}
 use Rattle.branch_script.specs.declared.step.Step.TheVariants.{Look, Fork, Merge, Do, Ask}
-use Rattle.branch_shared.specs.Passes.{PassView}
-use Rattle.parallel_clients.specs.Played.{Sights, no_sights, with_sight, sights_after, IsMoveAt, WasNamed, WasHead, IsDone, IsForked, IsMerged, IsTaken, IsReached, IsBelowFirst, HoldsBetween, TakesOne, IfSees, PlayedFrom, Played}
+use Rattle.parallel_clients.specs.Played.{Sights, no_sights, with_sight, sights_after, IsMoveAt, WasNamed, WasHead, IsBelowFirst, PlayedFrom, Played}
 use Rattle.parallel_clients.specs.Outcomes.{ArePast}
-use Rattle.parallel_clients.specs.Sessions.{Stage, GoesOn, PlaysOn, HasMoved, HasDone, HasMerged}
+use Rattle.parallel_clients.specs.Sessions.{Stage, PlaysOn}
 
 -- what stays when a history grows
 

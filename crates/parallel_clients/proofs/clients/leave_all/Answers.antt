@@ -4,7 +4,7 @@ use Rattle.std.specs.List.{AllByRecursion}
 use Rattle.std.proofs.lemmas.Slice.Zip.{AllZip-long}
 use Rattle.branch_machine.specs.Fixed.{fix}
 use Rattle.parallel_clients.specs.Entrants.{HasRunOwn, IsOwnOutcome, HaveLeft}
-use Rattle.parallel_clients.specs.Outcomes.{Setting, setting}
+use Rattle.parallel_clients.specs.Outcomes.{setting}
 use Rattle.parallel_clients.proofs.Ended.{with-one, before-less, all-at, left-none, left-more}
 use Rattle.parallel_clients.proofs.clients.leave_all.Goals as goal
 

@@ -1,10 +1,9 @@
 -- One fork.
-use Rattle.std.proofs.Common.{◌≡◌, ◌∷◌, [], ◌++◌, ◌∙◌, ap, sym, subst, refl}
+use Rattle.std.proofs.Common.{◌∷◌, [], ◌++◌, ◌∙◌, ap, sym, subst, refl}
 use mathlib.Core.List.{IsPrefix}
 use Rattle.branch_history.specs.declared.moves.Move.TheVariants as move
 use Rattle.branch_machine.specs.Fixed.{fix}
-use Rattle.parallel_clients.specs.Played.{WasNamed}
-use Rattle.parallel_clients.specs.Sessions.{stage_of, HasMoved}
+use Rattle.parallel_clients.specs.Sessions.{stage_of}
 use Rattle.branch_front.proofs.Prefixes.{prefix_self, prefix_more}
 use Rattle.parallel_clients.proofs.Single.{plays-forked, plays-taken}
 use Rattle.parallel_clients.proofs.Turned.{fork-named, fork-has}

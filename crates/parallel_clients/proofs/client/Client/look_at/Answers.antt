@@ -1,5 +1,4 @@
 -- The sessions after a look.
-use Rattle.std.proofs.Common.{◌≡◌}
 use Rattle.parallel_clients.proofs.Sessioned.{sessions_later, sessions-put, sessions-kept, session-looked, sights-put}
 use Rattle.parallel_clients.proofs.client.Client.look_at.Goals as goal
 

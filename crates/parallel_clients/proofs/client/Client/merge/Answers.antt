@@ -1,5 +1,5 @@
 -- One merge, behind the tries before it.
-use Rattle.std.proofs.Common.{◌≡◌, ◌+◌, ◌≤◌, ◌∙◌, ap, sym, subst, refl, length, arith}
+use Rattle.std.proofs.Common.{◌∙◌, sym, subst, refl}
 use Rattle.parallel_clients.specs.Sessions.{sights_of, stage_of, HasMerged, HasSame}
 use Rattle.parallel_clients.proofs.Sessioned.{sessions_later}
 use Rattle.branch_front.proofs.Prefixes.{prefix_self}

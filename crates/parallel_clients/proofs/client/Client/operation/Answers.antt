@@ -1,6 +1,6 @@
 -- One operation, behind the tries before it.
-use Rattle.std.proofs.Common.{◌≡◌, ◌∙◌, ap, sym, subst, refl}
-use Rattle.parallel_clients.specs.Sessions.{sights_of, stage_of, HasDone, IsTried}
+use Rattle.std.proofs.Common.{◌∙◌, sym, subst, refl}
+use Rattle.parallel_clients.specs.Sessions.{sights_of, stage_of, HasDone}
 use Rattle.parallel_clients.proofs.Sessioned.{sessions_later}
 use Rattle.parallel_clients.proofs.Single.{plays-done}
 use Rattle.parallel_clients.proofs.client.Client.operation.Goals as goal

@@ -1,5 +1,5 @@
 -- A try to land an operation, by what became of its preparation and its landing.
-use Rattle.std.proofs.Common.{◌≡◌, ap, sym, subst, Some, refl}
+use Rattle.std.proofs.Common.{◌≡◌, sym, Some, refl}
 use Rattle.branch_history.specs.Steps as machine
 use Rattle.branch_history.specs.History.{store_of}
 use Rattle.branch_history.specs.Commits.{visible}
