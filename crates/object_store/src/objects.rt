@@ -1,5 +1,5 @@
 // The stored objects, and those that are staged behind them.
-ghost use Rattle.std.specs.Prelude.{◌≡◌, ◌≢◌, ◌+◌, ◌-◌, ◌^◌, ◌≤◌, ◌++◌, ◌∷◌, [], List, ℕ, true, false, None, Ok, Err, map, length, IfOk, IfErr, OnOk, OnErr};
+ghost use Rattle.std.specs.Prelude.{◌≡◌, ◌≢◌, ◌+◌, ◌-◌, ◌^◌, ◌≤◌, ◌++◌, ◌∷◌, [], List, ℕ, true, false, None, Ok, Err, map, length, IfOk, IfErr, IfSome, OnOk, OnErr};
 ghost use Rattle.std.specs.List.{AllByRecursion, concat};
 ghost use Rattle.std.specs.Option.{option_copied};
 ghost use Rattle.branch_io.specs.Causes.{HasCause, HasCauseOf};
@@ -17,7 +17,7 @@ use crate::region::{write_first, write_region};
 use crate::shelf::{Mark, Shelf};
 use branch_address::Address;
 use branch_disk::{Disk, DiskFailed, Part};
-use branch_objects_codec::{Action, Object};
+use branch_objects_codec::{Action, Object, put_value};
 use mrdt_model::{Listing, Memory};
 use std::alloc::Global;
 use std::marker::{Model, PhantomData};
@@ -81,6 +81,16 @@ impl<A: Address> Objects<A> {
         })
     }
 
+    /// The address of the object that has this value. It spells the object in memory of its own, so that it needs no
+    /// store: a caller may work it out where others do not wait for it, and `stage` with it.
+    pub fn value_address(alloc: Global, value: &[u8]) -> Result<[u8; 32], Memory>
+        ensures { IfOk result (λ address. address ≡ A.address (value_object value.now)) }
+    {
+        let mut object = Vec::new(alloc);
+        put_value(value, &mut object)?;
+        Ok(A::of(&object))
+    }
+
     /// Writes the header and the stored objects over what the file of the objects has, and syncs them.
     pub fn create_in<D: Disk>(&self, disk: &mut D) -> Result<(), DiskFailed>
         ensures any_moment { LeavesOnly D.moment D.left_since disk.old disk.new (After (OnPart Part.Objects (Torn 0 (length (file_of self.now.stored)))) (D.may_leave disk.old)) }
@@ -137,17 +147,22 @@ impl<A: Address> Objects<A> {
     /// Stages a value, and behind it the commit that has it, each where no equal object is stored; and says the
     /// address of the commit. It takes all memory that writing them has need of.
     ///
+    /// `known` is the address of the value's object, where it was worked out before: then nothing of the value's length is
+    /// hashed in this call, and the value is only copied, and compared with a stored object of that address.
+    ///
     /// `Collision` comes exactly for the first of the two that has the address of a stored one, or of the other, with
     /// other bytes; `stored` is the first such. After a refusal nothing is staged.
     pub fn stage(
         &mut self,
         value: &[u8],
+        known: Option<[u8; 32]>,
         parents: Listing<[u8; 32]>,
         branch: u32,
         clock: u64,
         action: Action,
     ) -> Result<[u8; 32], StageRefused>
-        requires { self.old.staged ≡ [] }
+        requires unstaged { self.old.staged ≡ [] }
+        requires known { IfSome known (λ address. address ≡ A.address (value_object value.now)) }
         ensures stored { OnOk result (self.new.stored ≡ self.old.stored) }
         ensures added { OnOk result (self.new.staged ≡ fresh self.old.stored (commit_pair A.address value.now parents branch clock action)) }
         ensures address { IfOk result (λ address. address ≡ A.address (commit_object (commit_fields A.address value.now parents branch clock action))) }
@@ -158,7 +173,7 @@ impl<A: Address> Objects<A> {
         let mark = self.shelf.mark();
         match self
             .shelf
-            .add_pair::<A>(value, parents, branch, clock, action)
+            .add_pair::<A>(value, known, parents, branch, clock, action)
         {
             Ok(address) => {
                 self.mark = mark;
