@@ -20,6 +20,7 @@ ghost use Rattle.recorded_history.specs.Machine.{Forks, LandsAs};
 ghost use Rattle.recorded_history.specs.Refusals.{ForkRefusedAs, LandRefusedAs};
 ghost use Rattle.recorded_history.specs.Views.{core_of};
 
+use crate::addressed::Addressed;
 use crate::answers::{Branched, LandRefused, Made};
 use crate::staging::{record_for, stage};
 use branch_address::Address;
@@ -33,8 +34,7 @@ use std::alloc::Global;
 use std::marker::Model;
 use std::snapshot::Snapshot;
 use store_seen::{
-    ForkRefused, LookRefused, Pair, PairPrepareRefused, PairRefused, PairStep, Prepared, Seen,
-    Versions,
+    ForkRefused, LookRefused, Pair, PairPrepareRefused, PairRefused, PairStep, Seen, Versions,
 };
 
 /// A history with the bytes of its files. Contracts see a `RecordedView`: the moves that are written, the one that was
@@ -187,7 +187,10 @@ impl<T: Mrdt, A: Address> Recorded<T, A> {
     /// Lands what was prepared on a look at this history, now or earlier, in memory; then it is pending. It is refused
     /// exactly as the machine refuses it, and then nothing has changed: `Stale` before `FullCommits`, which only a new
     /// commit meets, before `FullMoves`, before `Collision`.
-    pub fn land(&mut self, prepared: Prepared<T>) -> Result<Made<T::Reply>, LandRefused>
+    ///
+    /// Where the address of the new value's object was worked out before, it only copies the value, and hashes nothing
+    /// but the new commit's own bytes.
+    pub fn land(&mut self, prepared: Addressed<T, A>) -> Result<Made<T::Reply>, LandRefused>
         requires settled { self.old.pending ≡ [] }
         requires history { IsPrefix prepared.seen.history self.old.written }
         requires limits { prepared.seen.limits ≡ self.old.limits }
@@ -195,9 +198,20 @@ impl<T: Mrdt, A: Address> Recorded<T, A> {
         ensures refused { IfErr result (LandRefusedAs (fix T.meaning self.old.limits A.address) prepared self.old.written) }
         ensures kept { OnErr result (self.new ≡ self.old) }
     {
+        let Addressed {
+            prepared,
+            known,
+            by: _,
+        } = prepared;
         self.versions.may_land(&prepared)?;
         let head = prepared.head();
-        let address = stage(self.alloc, &self.versions, &mut self.objects, &prepared)?;
+        let address = stage(
+            self.alloc,
+            &self.versions,
+            &mut self.objects,
+            &prepared,
+            known,
+        )?;
         let record = record_for(&prepared, address, self.objects.end());
         let Ok(landed) = self.versions.land(prepared, address) else {
             self.objects.drop_staged();

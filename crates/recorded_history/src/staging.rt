@@ -1,9 +1,10 @@
 // The objects and the record of a work that is ready to land.
-ghost use Rattle.std.specs.Prelude.{◌≡◌, IfOk, IfErr, OnErr};
+ghost use Rattle.std.specs.Prelude.{◌≡◌, IfOk, IfErr, IfSome, OnErr};
 ghost use mathlib.Core.List.{IsPrefix};
 ghost use Rattle.branch_files.specs.Records.{record_with};
 ghost use Rattle.branch_machine.specs.Fixed.{fix};
 ghost use Rattle.store_seen.specs.Turns.{MayLand, move_of};
+ghost use Rattle.recorded_history.specs.Addresses.{IsValueAddress};
 ghost use Rattle.recorded_history.specs.Keeps.{IsSettled, IsStaged};
 ghost use Rattle.recorded_history.specs.Refusals.{LandRefusedAs};
 
@@ -17,16 +18,18 @@ use std::alloc::Global;
 use store_seen::{Prepared, Versions, Written};
 
 /// Stages the objects of what may land behind those of the history, and says the address of the commit that it makes,
-/// if it makes one.
+/// if it makes one. The address of its value's object may be known.
 pub(crate) fn stage<T: Mrdt, A: Address>(
     alloc: Global,
     versions: &Versions<T>,
     objects: &mut Objects<A>,
     prepared: &Prepared<T>,
+    known: Option<[u8; 32]>,
 ) -> Result<[u8; 32], LandRefused>
     requires history { IsPrefix prepared.now.seen.history versions.now.core.history }
     requires limits { prepared.now.seen.limits ≡ versions.now.core.limits }
     requires may { MayLand T.meaning prepared.now versions.now.core }
+    requires known { IfSome known (IsValueAddress T.meaning A.address prepared.now) }
     requires settled { IsSettled T.meaning A.address versions.now objects.old }
     ensures staged { IfOk result (IsStaged (fix T.meaning versions.now.core.limits A.address) versions.now.core.history prepared.now.work (move_of prepared.now.seen.branch prepared.now.work) objects.new) }
     ensures refused { IfErr result (LandRefusedAs (fix T.meaning versions.now.core.limits A.address) prepared.now versions.now.core.history) }
@@ -46,7 +49,14 @@ pub(crate) fn stage<T: Mrdt, A: Address>(
                 op: Bytes::from_slice(alloc, op)?,
                 reply: Bytes::from_slice(alloc, reply)?,
             };
-            Ok(objects.stage(value, Listing::from_vec(parent), branch, clock, action)?)
+            Ok(objects.stage(
+                value,
+                known,
+                Listing::from_vec(parent),
+                branch,
+                clock,
+                action,
+            )?)
         }
         Written::Merge {
             other,
@@ -57,7 +67,7 @@ pub(crate) fn stage<T: Mrdt, A: Address>(
             push_address(*versions.address(head), &mut parents)?;
             push_address(*versions.address(other), &mut parents)?;
             let parents = Listing::from_vec(parents);
-            Ok(objects.stage(value, parents, branch, clock, Action::Merge)?)
+            Ok(objects.stage(value, known, parents, branch, clock, Action::Merge)?)
         }
         // It makes no commit.
         Written::Forward { .. } => Ok([0; 32]),
