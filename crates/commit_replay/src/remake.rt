@@ -19,7 +19,8 @@ use branch_names::Name;
 use heads_journal::Record;
 use mrdt_model::{Memory, Mrdt};
 use recorded_history::{
-    ForkRefused, LandRefused, PairPrepareRefused, PairStep, PrepareRefused, Prepared, Recorded,
+    Addressed, ForkRefused, LandRefused, PairPrepareRefused, PairStep, PrepareRefused, Prepared,
+    Recorded,
 };
 
 // Makes the move of a plan, where it has this record and this region.
@@ -110,7 +111,7 @@ fn land<T: Mrdt, A: Address>(
     requires limits { prepared.seen.limits ≡ recorded.old.limits }
     ensures { IfOk result (Remade (fix T.meaning recorded.old.limits A.address) recorded.old recorded.new (step_of prepared.seen prepared.work) next.now bytes.now) }
 {
-    match recorded.land(prepared) {
+    match recorded.land(Addressed::later(prepared)) {
         Ok(made) => {
             let _moves = recorded.moves();
             Ok(keep_if_same(recorded, &made.record, next, bytes))
