@@ -30,7 +30,7 @@ use branch_machine::laws::grows_by_full_moves;
 use branch_names::{Limits, Name};
 use heads_journal::Journal;
 use mrdt_model::Mrdt;
-use recorded_history::Recorded;
+use recorded_history::{Addressed, Recorded};
 use std::alloc::Global;
 use std::marker::Model;
 use std::snapshot::Snapshot;
@@ -235,6 +235,29 @@ impl<T: Mrdt, D: Disk + Drop, A: Address> Core<T, D, A> {
     /// leaves the history before, or that with the move; after `Ok`, the latter. Both are valid, so that the disk can
     /// be opened again after a fault.
     pub fn land(&mut self, prepared: Prepared<T>) -> Result<Landed<T::Reply>, LandRefused>
+        requires history { IsPrefix prepared.seen.history self.old.history }
+        requires limits { prepared.seen.limits ≡ self.old.limits }
+        ensures landed { IfOk result (λ landed. LandsAs (fix T.meaning self.old.limits A.address) prepared self.old self.new landed.moves landed.kind) }
+        ensures stands { OnOk result (AllStand (fix T.meaning self.old.limits A.address) self.new.history (D.may_leave self.new.disk)) }
+        ensures failed { self.old.failed ≡ true → result ≡ Err (LandRefused.Failed (length self.old.history)) }
+        ensures refused { IfErr result (LandRefusedAs (fix T.meaning self.old.limits A.address) prepared self.old) }
+        ensures kept { IfErr result (LandLeaves self.old self.new) }
+        ensures any_moment { self.old.failed ≡ false → LeavesOnly D.moment D.left_since self.old.disk self.new.disk
+            (WithOrWithout (fix T.meaning self.old.limits A.address) self.old.history (full_turn (fix T.meaning self.old.limits A.address) self.old.history (step_made prepared)).made) }
+        ensures fault_leaves { result ≡ Err LandRefused.DiskFault → (c : Files) → D.may_leave self.new.disk c
+            → WithOrWithout (fix T.meaning self.old.limits A.address) self.old.history (full_turn (fix T.meaning self.old.limits A.address) self.old.history (step_made prepared)).made c }
+        ensures fault_valid { result ≡ Err LandRefused.DiskFault → IsFullyValid (fix T.meaning self.old.limits A.address) (self.old.history ++ (full_turn (fix T.meaning self.old.limits A.address) self.old.history (step_made prepared)).made) }
+        ensures cause { HasCauseOf LandRefused.DiskFault (D.faults self.old.disk) (D.faults self.new.disk) result }
+    {
+        self.land_addressed(Addressed::later(prepared))
+    }
+
+    /// Lands what was prepared, as `land` does. Where the address of the new value's object was worked out before, it only
+    /// copies the value, and hashes nothing but the new commit's own bytes.
+    pub fn land_addressed(
+        &mut self,
+        prepared: Addressed<T, A>,
+    ) -> Result<Landed<T::Reply>, LandRefused>
         requires history { IsPrefix prepared.seen.history self.old.history }
         requires limits { prepared.seen.limits ≡ self.old.limits }
         ensures landed { IfOk result (λ landed. LandsAs (fix T.meaning self.old.limits A.address) prepared self.old self.new landed.moves landed.kind) }

@@ -1,7 +1,7 @@
 -- The move waits; then the history has it, or the files may have it.
 use Rattle.branch_disk.specs.Moments.{now_too}
 use Rattle.store_core.proofs.Landings.{waits_so, moves_so, leaves_so, valid_so}
-use Rattle.store_core.proofs.store.Core.land.Goals as goal
+use Rattle.store_core.proofs.store.Core.land_addressed.Goals as goal
 
 pub put-requires-clause-waits : goal.put-requires-clause-waits
 put-requires-clause-waits g c = λ _ _. waits_so g.T.Mrdt.meaning g.A.Address.address c.self.inside.recorded _ _ _ _ _ _ c.in_ok-made.ensures.made
