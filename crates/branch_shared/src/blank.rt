@@ -14,6 +14,7 @@ use store_core::Core;
 /// A core that threads are to share, with a front of its own, under no name yet. Contracts see a `BlankView`.
 #[derive(Drop)]
 pub struct Blank<T: Mrdt, D: Disk + Drop, A: Address> {
+    pub(crate) alloc: Global,
     pub(crate) core: Core<T, D, A>,
     pub(crate) front: Front<MoveOf<T>>,
     pub(crate) writer: Writer<MoveOf<T>>,
@@ -49,6 +50,7 @@ impl<T: Mrdt, D: Disk + Drop, A: Address> Blank<T, D, A> {
             Ok((front, mut writer)) => {
                 note_faults(&front, &mut writer, &core);
                 Ok(Blank {
+                    alloc,
                     core,
                     front,
                     writer,

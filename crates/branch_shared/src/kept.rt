@@ -22,7 +22,7 @@ use branch_names::Name;
 use mrdt_model::Mrdt;
 use std::marker::{Brand, Model, PhantomData};
 use store_core::{
-    Core, ForkRefused, Forked, LandRefused, Landed, LookRefused, Pair, PairRefused, Prepared, Seen,
+    Addressed, Core, ForkRefused, Forked, LandRefused, Landed, LookRefused, Pair, PairRefused, Seen,
 };
 
 /// What lies under the lock of a shared store: its core, and the writer, which knows the core's history and faults.
@@ -97,7 +97,7 @@ impl<T: Mrdt, D: Disk + Drop, A: Address, N: Named<T::Op, T::Reply>> Kept<T, D, 
         &mut self,
         front: &Front<MoveOf<T>>,
         pass: &mut Pass<T, N>,
-        prepared: Prepared<T>,
+        prepared: Addressed<T, A>,
     ) -> Result<Landed<T::Reply>, LandRefused>
         requires front { front.now ≡ front_of N.table N.begun N.parts }
         requires history { IsPrefix prepared.seen.history pass.old.moves }
@@ -113,7 +113,7 @@ impl<T: Mrdt, D: Disk + Drop, A: Address, N: Named<T::Op, T::Reply>> Kept<T, D, 
         ensures quiet { result ≢ Err LandRefused.DiskFault → ((moves : ℕ) → result ≢ Err (LandRefused.Failed moves)) → pass.new.faults ≡ 0 }
     {
         see(front, &mut self.writer, pass, &self.core);
-        let outcome = self.core.land(prepared);
+        let outcome = self.core.land_addressed(prepared);
         if outcome.is_ok() {
             add(front, &mut self.writer, pass, &self.core);
         } else {

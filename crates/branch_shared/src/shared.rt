@@ -21,10 +21,12 @@ use branch_disk::Disk;
 use branch_front::Front;
 use branch_names::Name;
 use mrdt_model::Mrdt;
+use std::alloc::Global;
 use std::marker::{Model, PhantomData};
 use std::sync::{Mutex, Wait};
 use store_core::{
-    Core, ForkRefused, Forked, LandRefused, Landed, LookRefused, Pair, PairRefused, Prepared, Seen,
+    Addressed, Core, ForkRefused, Forked, LandRefused, Landed, LookRefused, Pair, PairRefused,
+    Prepared, Seen,
 };
 
 /// A store that threads share by reference. What it began with, its limits and the number of its parts are those that N
@@ -32,8 +34,13 @@ use store_core::{
 ///
 /// `look`, `pair`, `land` and `fork` wait for the one lock, and do under it what one event of the store is. After each
 /// of them, refused or not, the pass has seen the whole history up to the call, of which it had seen a beginning.
+///
+/// The lock is held to find names, to compare and move heads, to copy the bytes of a new commit behind the others, for
+/// the calls of the disk, and to hash the commit's own few bytes. What else takes time with the length of a value is done
+/// outside of it: applying and merging, spelling, and hashing the value that a landing brings.
 #[derive(Drop)]
 pub struct Shared<T: Mrdt, D: Disk + Drop, A: Address, N: Named<T::Op, T::Reply>> {
+    alloc: Global,
     front: Front<MoveOf<T>>,
     kept: Mutex<Kept<T, D, A, N>>,
     begun: u64,
@@ -69,6 +76,7 @@ impl<T: Mrdt, D: Disk + Drop, A: Address, N: Named<T::Op, T::Reply>> Shared<T, D
         ensures { result.1 ≡ record { moves = blank.core.history; mine = []; faults = faults_since D.faults blank.core; parts = blank.parts; receipts = 0 } }
     {
         let Blank {
+            alloc,
             core,
             front,
             mut writer,
@@ -81,6 +89,7 @@ impl<T: Mrdt, D: Disk + Drop, A: Address, N: Named<T::Op, T::Reply>> Shared<T, D
             of: PhantomData,
         };
         let shared = Shared {
+            alloc,
             front,
             kept: Mutex::new(kept),
             begun,
@@ -150,6 +159,10 @@ impl<T: Mrdt, D: Disk + Drop, A: Address, N: Named<T::Op, T::Reply>> Shared<T, D
     /// Lands what was prepared on a look, now or earlier. After `Ok` the last move that the pass has seen is this one.
     /// It is refused exactly as the machine refuses it on the history up to the call, or where the disk fails or has
     /// failed.
+    ///
+    /// The object of the new value is spelled and hashed before the lock is waited for, in memory of its own; only where
+    /// that is short, it is hashed under the lock. Under the lock the heads are compared, the new bytes are copied, the
+    /// commit's own few bytes are hashed, and the disk is called.
     pub fn land<R: Wait>(
         &self,
         rt: &R,
@@ -168,6 +181,7 @@ impl<T: Mrdt, D: Disk + Drop, A: Address, N: Named<T::Op, T::Reply>> Shared<T, D
         ensures rest { OnErr result (IsSeenOn pass.old pass.new) }
         ensures quiet { result ≢ Err LandRefused.DiskFault → ((moves : ℕ) → result ≢ Err (LandRefused.Failed moves)) → pass.new.faults ≡ 0 }
     {
+        let prepared = Addressed::new(self.alloc, prepared);
         self.kept.lock(rt).land(&self.front, pass, prepared)
     }
 
@@ -222,6 +236,7 @@ impl<T: Mrdt, D: Disk + Drop, A: Address, N: Named<T::Op, T::Reply>> Shared<T, D
         ensures opened { D.faults result.opened ≡ N.opened }
     {
         let Shared {
+            alloc: _,
             front: _,
             kept,
             begun: _,
@@ -246,7 +261,12 @@ impl<T: Mrdt, D: Disk + Drop, A: Address, N: Named<T::Op, T::Reply>> Shared<T, D
         ensures receipts { result.receipts ≡ last.receipts }
         ensures all { last.parts ≡ N.parts → result.receipts ≡ result.landed }
     {
-        let Shared { front, kept, begun } = self;
+        let Shared {
+            alloc: _,
+            front,
+            kept,
+            begun,
+        } = self;
         let Kept {
             core,
             writer,
