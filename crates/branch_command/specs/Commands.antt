@@ -9,7 +9,7 @@ use Rattle.clap.specs.Faults.{fault_of}
 use Rattle.clap.specs.declared.error.kind.ErrorKind.{ErrorKind}
 use Rattle.clap.specs.declared.error.kind.ErrorKind.TheVariants.{DisplayHelp, DisplayVersion}
 use Rattle.branch_command.specs.Numbers.{Numbers, numbers_of, AreLimits}
-use Rattle.branch_command.specs.Work.{Work, work_of}
+use Rattle.branch_command.specs.Work.{Work, work_of, Clients as ClientsGiven, clients_of}
 use Rattle.branch_command.specs.Program.{program}
 use Rattle.branch_command.specs.declared.command.Command.{Command}
 use Rattle.branch_command.specs.declared.command.Command.TheVariants as read
@@ -23,6 +23,8 @@ pub data Said : Type 0 where
   Check : Said
   -- run the script that is drawn from a number
   Generate : Work → Said
+  -- run so many clients side by side
+  Clients : ClientsGiven → Said
   -- tell the text of help or of the version
   Help : Said
 
@@ -49,6 +51,7 @@ said_by name given =
     else if bytes_eq name (codes "script") then Some Script
     else if bytes_eq name (codes "check") then Some Check
     else if bytes_eq name (codes "generate") then option_map Generate (work_of given)
+    else if bytes_eq name (codes "clients") then option_map Clients (clients_of given)
     else if bytes_eq name (codes "help") then asked_by (fault_of program (help_words (first_of (codes "command") given)))
     else None
 
@@ -75,6 +78,7 @@ Means (Init n) (read.Init limits) = AreLimits n limits
 Means Script read.Script = Unit {0}
 Means Check read.Check = Unit {0}
 Means (Generate work) (read.Generate steps number) = work ≡ record { steps = steps; number = number }
+Means (Clients given) (read.Clients count steps number) = given ≡ record { count = count; work = record { steps = steps; number = number } }
 Means Help (read.Tell text) = Unit {0}
 Means said command = ⊥
 

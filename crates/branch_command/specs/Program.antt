@@ -27,11 +27,14 @@ leaf name rules = record (new_shape name) { rules = rules ++ version_rule ∷ []
 abbrev pub work_names : List Text
 work_names = codes "steps" ∷ codes "number" ∷ []
 
+abbrev pub client_names : List Text
+client_names = codes "count" ∷ work_names
+
 abbrev pub limit_names : List Text
 limit_names = codes "max-clock" ∷ codes "max-commits" ∷ codes "max-branches" ∷ codes "max-value" ∷ codes "max-moves" ∷ []
 
--- `init [--max-clock N] ..`, `script`, `check`, `generate STEPS NUMBER` and `help [COMMAND]`, one of which is wanted; no program's name in
--- front
+-- `init [--max-clock N] ..`, `script`, `check`, `generate STEPS NUMBER`, `clients COUNT STEPS NUMBER` and `help [COMMAND]`, one of which is
+-- wanted; no program's name in front
 unfoldable pub program : App
 program = record {
   top = record (new_shape (codes "bucketplum")) {
@@ -46,5 +49,5 @@ program = record {
   };
   subs = leaf (codes "init") (map limit_rule limit_names)
       ∷ leaf (codes "script") [] ∷ leaf (codes "check") []
-      ∷ leaf (codes "generate") (map wanted_rule work_names) ∷ leaf (codes "help") (topic_rule ∷ []) ∷ [];
+      ∷ leaf (codes "generate") (map wanted_rule work_names) ∷ leaf (codes "clients") (map wanted_rule client_names) ∷ leaf (codes "help") (topic_rule ∷ []) ∷ [];
 }

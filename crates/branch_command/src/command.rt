@@ -12,7 +12,7 @@ ghost use Rattle.clap.specs.declared.error.kind.ErrorKind.TheVariants.{OutOfMemo
 
 use crate::limits::read_limits;
 use crate::table::program;
-use crate::work::read_work;
+use crate::work::{read_clients, read_work};
 use branch_names::Limits;
 use clap::error::ErrorKind;
 use clap::{ArgMatches, Error as Answer};
@@ -32,6 +32,15 @@ pub enum Command {
     /// Run the script that is drawn from a number.
     Generate {
         /// How many lines are drawn, at most 1,000,000.
+        steps: u64,
+        /// The number from which they are.
+        number: u64,
+    },
+    /// Run clients side by side, each with steps of its own.
+    Clients {
+        /// How many there are, 1 to 64.
+        count: u32,
+        /// How many steps are drawn for each, at most 1,000,000.
         steps: u64,
         /// The number from which they are.
         number: u64,
@@ -111,6 +120,14 @@ fn command_named(
         "check" => Ok(Command::Check),
         "generate" => match read_work(given) {
             Some((steps, number)) => Ok(Command::Generate { steps, number }),
+            None => Err(CommandRefused::Usage),
+        },
+        "clients" => match read_clients(given) {
+            Some((count, (steps, number))) => Ok(Command::Clients {
+                count,
+                steps,
+                number,
+            }),
             None => Err(CommandRefused::Usage),
         },
         "help" => tell_help(alloc, given.get_str("command")),

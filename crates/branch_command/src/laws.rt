@@ -1,7 +1,7 @@
 //! What the definition of the words' command says of some words, and of options in general.
 ghost use Rattle.std.specs.Prelude.{◌≡◌, Some, None, [], ◌∷◌, codes, option_map};
 ghost use Rattle.clap.specs.Walk.{Text};
-ghost use Rattle.branch_command.specs.Commands.{Init, Script, Check, Generate, Help, command_of, init_with};
+ghost use Rattle.branch_command.specs.Commands.{Init, Script, Check, Generate, Clients, Help, command_of, init_with};
 ghost use Rattle.branch_command.specs.Numbers.{usual, number_of, all_five};
 
 /// The commands of some words, and words that say none.
@@ -31,8 +31,16 @@ pub fn words()
     ensures zeros { command_of (codes "generate" ∷ codes "00" ∷ codes "0" ∷ []) ≡ None }
     ensures steps_alone { command_of (codes "generate" ∷ codes "1" ∷ []) ≡ None }
     ensures one_more { command_of (codes "generate" ∷ codes "1" ∷ codes "2" ∷ codes "3" ∷ []) ≡ None }
+    ensures clients { command_of (codes "clients" ∷ codes "64" ∷ codes "0" ∷ codes "7" ∷ [])
+        ≡ Some (Clients (record { count = 64; work = record { steps = 0; number = 7 } })) }
+    ensures no_clients { command_of (codes "clients" ∷ codes "0" ∷ codes "1" ∷ codes "7" ∷ []) ≡ None }
+    ensures many_clients { command_of (codes "clients" ∷ codes "65" ∷ codes "1" ∷ codes "7" ∷ []) ≡ None }
+    ensures clients_alone { command_of (codes "clients" ∷ codes "1" ∷ []) ≡ None }
+    ensures clients_help { command_of (codes "clients" ∷ codes "--help" ∷ []) ≡ Some Help }
+    ensures clients_great_number { command_of (codes "clients" ∷ codes "1" ∷ codes "1" ∷ codes "18446744073709551616" ∷ []) ≡ None }
+    ensures clients_many_steps { command_of (codes "clients" ∷ codes "1" ∷ codes "1000001" ∷ codes "0" ∷ []) ≡ None }
     ensures nothing { command_of [] ≡ None }
-    ensures unknown { command_of (codes "clients" ∷ []) ≡ None }
+    ensures unknown { command_of (codes "client" ∷ []) ≡ None }
     ensures more { command_of (codes "script" ∷ codes "x" ∷ []) ≡ None }
     ensures topic { command_of (codes "help" ∷ codes "x" ∷ []) ≡ None }
 {}

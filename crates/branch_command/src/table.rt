@@ -3,7 +3,7 @@ ghost use Rattle.std.specs.Prelude.{◌≡◌, IfOk, false, codes, ◌∷◌, []
 ghost use Rattle.clap.specs.declared.builder.command.Command.TheViews.{out-Command as fields_of};
 ghost use Rattle.clap.specs.Walk.{rule_of};
 ghost use Rattle.clap.specs.Simple.{app_of, shape_of};
-ghost use Rattle.branch_command.specs.Program.{limit_rule, version_rule, topic_rule, wanted_rule, leaf, limit_names, work_names, program};
+ghost use Rattle.branch_command.specs.Program.{limit_rule, version_rule, topic_rule, wanted_rule, leaf, limit_names, work_names, client_names, program};
 
 use clap::{Arg, ArgAction, Command};
 use std::alloc::{AllocError, Global};
@@ -123,6 +123,36 @@ fn generate<'a>(alloc: Global) -> Result<Command<'a>, AllocError>
         .arg(version(alloc))
 }
 
+// `clients COUNT STEPS NUMBER`.
+fn clients<'a>(alloc: Global) -> Result<Command<'a>, AllocError>
+    ensures { IfOk result (λ c. (shape_of c ≡ leaf (codes "clients") (map wanted_rule client_names)) × ((fields_of c).has_globals ≡ false)) }
+{
+    let count = wanted(
+        alloc,
+        "count",
+        "COUNT",
+        "How many clients there are, 1 to 64",
+    );
+    let steps = wanted(
+        alloc,
+        "steps",
+        "STEPS",
+        "How many steps are drawn for each, 0 to 1000000",
+    );
+    let number = wanted(
+        alloc,
+        "number",
+        "NUMBER",
+        "The number from which they are drawn, 0 to 18446744073709551615",
+    );
+    Command::new(alloc, "clients")
+        .about("Run clients side by side, and print what came of each and the report")
+        .arg(count)?
+        .arg(steps)?
+        .arg(number)?
+        .arg(version(alloc))
+}
+
 /// The program, whose words have no program's name in front.
 pub(crate) fn program<'a>(alloc: Global) -> Result<Command<'a>, AllocError>
     ensures { IfOk result (λ c. app_of c ≡ program) }
@@ -131,6 +161,7 @@ pub(crate) fn program<'a>(alloc: Global) -> Result<Command<'a>, AllocError>
     let script = plain(alloc, "script", "Run the lines of standard input as steps")?;
     let check = plain(alloc, "check", "Open the store and print its report")?;
     let generate = generate(alloc)?;
+    let clients = clients(alloc)?;
     let help = help(alloc)?;
     Command::new(alloc, "bucketplum")
         .bin_name("bucketplum PATH")?
@@ -146,5 +177,6 @@ pub(crate) fn program<'a>(alloc: Global) -> Result<Command<'a>, AllocError>
         .subcommand(script)?
         .subcommand(check)?
         .subcommand(generate)?
+        .subcommand(clients)?
         .subcommand(help)
 }

@@ -12,32 +12,53 @@ fn words_of(alloc: Global, text: &str) -> Result<Vec<String>, AllocError> {
     Ok(words)
 }
 
+// Limits in a few words, of which those that the rows name have their own.
+fn init_as(limits: Limits) -> &'static str {
+    if limits == Limits::default() {
+        "init by default"
+    } else if Limits::new(5, 6, 7, 8, 9) == Some(limits) {
+        "init from 5 to 9"
+    } else if Limits::new(u64::MAX, u32::MAX, u32::MAX, 1 << 30, 1 << 48) == Some(limits) {
+        "init at most"
+    } else {
+        "init"
+    }
+}
+
+// Generated work in a few words.
+fn work_as(steps: u64, number: u64) -> &'static str {
+    match (steps, number) {
+        (0, 0) => "generate at least",
+        (1_000_000, u64::MAX) => "generate at most",
+        _ => "generate",
+    }
+}
+
+// Clients in a few words.
+fn clients_as(count: u32, steps: u64, number: u64) -> &'static str {
+    match (count, steps, number) {
+        (1, 0, 0) => "clients at least",
+        (64, 1_000_000, u64::MAX) => "clients at most",
+        (2, 30, 7) => "clients 2 30 7",
+        _ => "clients",
+    }
+}
+
 // What a text is read as, in a few words of which each command has its own.
 fn read_as(alloc: Global, text: &str) -> Result<&'static str, AllocError> {
     let words = words_of(alloc, text)?;
     Ok(match read_command(alloc, &words) {
-        Ok(Command::Init(limits)) => {
-            if limits == Limits::default() {
-                "init by default"
-            } else if Limits::new(5, 6, 7, 8, 9) == Some(limits) {
-                "init from 5 to 9"
-            } else if Limits::new(u64::MAX, u32::MAX, u32::MAX, 1 << 30, 1 << 48) == Some(limits) {
-                "init at most"
-            } else {
-                "init"
-            }
-        }
+        Ok(Command::Init(limits)) => init_as(limits),
         Ok(Command::Script) => "script",
         Ok(Command::Check) => "check",
-        Ok(Command::Generate { steps, number }) => {
-            if steps == 0 && number == 0 {
-                "generate at least"
-            } else if steps == 1_000_000 && number == u64::MAX {
-                "generate at most"
-            } else {
-                "generate"
-            }
-        }
+        Ok(Command::Generate { steps, number }) => work_as(steps, number),
+        Ok(
+            Command::Clients {
+                count,
+                steps,
+                number,
+            },
+        ) => clients_as(count, steps, number),
         Ok(Command::Tell(_)) => "tell",
         Err(CommandRefused::Usage) => "usage",
         Err(CommandRefused::Memory) => "memory",
@@ -95,7 +116,24 @@ fn words_and_commands(rt: HostRuntime) -> Result<(), AllocError> {
         ("generate", "usage"),
         ("generate 1 7 7", "usage"),
         ("generate --steps 1 --number 7", "usage"),
-        ("clients 1 1 1", "usage"),
+        ("clients 1 0 0", "clients at least"),
+        ("clients 64 1000000 18446744073709551615", "clients at most"),
+        ("clients 2 30 7", "clients 2 30 7"),
+        ("clients 0 1 7", "usage"),
+        ("clients 65 1 7", "usage"),
+        ("clients 4294967297 1 7", "usage"),
+        ("clients 1 1000001 7", "usage"),
+        ("clients 1 1 18446744073709551616", "usage"),
+        ("clients 01 1 7", "usage"),
+        ("clients 1 01 7", "usage"),
+        ("clients 1 1 07", "usage"),
+        ("clients +1 1 7", "usage"),
+        ("clients -1 1 7", "usage"),
+        ("clients 1 1", "usage"),
+        ("clients", "usage"),
+        ("clients 1 1 7 7", "usage"),
+        ("clients --count 1 --steps 1 --number 7", "usage"),
+        ("client 1 1 7", "usage"),
         ("-V", "usage"),
         ("--help", "tell"),
         ("-h", "tell"),
@@ -108,7 +146,10 @@ fn words_and_commands(rt: HostRuntime) -> Result<(), AllocError> {
         ("generate --help", "tell"),
         ("generate 1 7 -h", "tell"),
         ("help generate", "tell"),
-        ("help clients", "usage"),
+        ("clients --help", "tell"),
+        ("clients 1 1 7 -h", "tell"),
+        ("help clients", "tell"),
+        ("help client", "usage"),
     ];
     for (text, wanted) in rows {
         let found = read_as(rt.alloc(), text)?;
@@ -126,11 +167,16 @@ fn texts(rt: HostRuntime) -> Result<(), AllocError> {
         ("--help", "script "),
         ("--help", "check "),
         ("--help", "generate "),
+        ("--help", "clients "),
         ("--help", "in the files PATH.objects and PATH.heads"),
         ("help init", "Usage: bucketplum PATH init [OPTIONS]\n"),
         (
             "generate -h",
             "Usage: bucketplum PATH generate <STEPS> <NUMBER>\n",
+        ),
+        (
+            "clients -h",
+            "Usage: bucketplum PATH clients <COUNT> <STEPS> <NUMBER>\n",
         ),
         ("init -h", "--max-clock <N>"),
         ("init -h", "--max-commits <N>"),

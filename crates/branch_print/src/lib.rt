@@ -3,6 +3,7 @@
 //! After want of memory a first part of the text may have been written.
 #![tactic(auto)]
 
+pub mod clients;
 pub mod laws;
 mod pieces;
 pub mod refusals;

@@ -4,8 +4,8 @@ use Rattle.clap.specs.Matches.{found_of}
 use Rattle.clap.specs.Walk.{Text, rows_of}
 use Rattle.clap.specs.Faults.{fault_of}
 use Rattle.clap.proofs.WalkLemmas.{first_value-rows}
-use Rattle.branch_command.specs.Work.{Work}
-use Rattle.branch_command.specs.Commands.{Init, Generate, asked_by, help_words, said_by}
+use Rattle.branch_command.specs.Work.{Work, Clients as ClientsGiven}
+use Rattle.branch_command.specs.Commands.{Init, Generate, Clients, asked_by, help_words, said_by}
 use Rattle.branch_command.specs.Program.{program}
 use Rattle.branch_command.proofs.Heard.{as_said}
 use Rattle.branch_command.proofs.command.command_named.Goals as goal
@@ -23,6 +23,14 @@ returns-in-Some-read_work c =
     let work : Work = record { steps = c.in-Some-read_work.steps; number = c.in-Some-read_work.number } in
     let is : said_by c.args.name.now rows ≡ Some (Generate work) = ap (λ (n : Text). said_by n rows) c.in-generate.is ∙ ap (option_map Generate) c.in-Some-read_work.ensures.some in
     ((Generate work, is, refl), λ u. cc)
+
+pub returns-in-Some-read_clients : goal.returns-in-Some-read_clients
+returns-in-Some-read_clients c =
+    let rows = rows_of (found_of c.args.given.now) in
+    let work : Work = record { steps = c.in-Some-read_clients.steps; number = c.in-Some-read_clients.number } in
+    let clients : ClientsGiven = record { count = c.in-Some-read_clients.count; work = work } in
+    let is : said_by c.args.name.now rows ≡ Some (Clients clients) = ap (λ (n : Text). said_by n rows) c.in-clients.is ∙ ap (option_map Clients) c.in-Some-read_clients.ensures.some in
+    ((Clients clients, is, refl), λ u. cc)
 
 pub returns-in-help : goal.returns-in-help
 returns-in-help c =
