@@ -39,8 +39,7 @@ fn main(rt: HostRuntime) -> ExitCode {
                 &mut source,
                 &mut sink,
                 disk,
-            )
-            .0
+            ).0
         }
         Ok(_) => Status::Usage,
         Err(error) => unread(&error),

@@ -160,13 +160,7 @@ pub(crate) fn run_together<
     D: Disk + Drop + Send,
     A: Address + Send,
     R: Threads + Wait + Sync,
->(
-    rt: &R,
-    alloc: Global,
-    work: Work,
-    sink: &mut K,
-    disk: D,
-) -> (Status, D)
+>(rt: &R, alloc: Global, work: Work, sink: &mut K, disk: D) -> (Status, D)
     ensures wrote { Answers (RanTogether D.may_leave A.address (D.contents disk) (record { count = work.count; work = record { steps = work.steps; number = work.number } }) result.1)
         (SaysRefused document A.address (D.contents disk)) result.0 (K.given sink.old) (K.given sink.new) }
     // The store is left with the moves of some of the clients' steps behind its history, or with none.

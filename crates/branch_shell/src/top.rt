@@ -37,11 +37,13 @@ fn read_clients(alloc: Global, words: &[String]) -> Result<Option<ClientWork>, M
     ensures none { IfOk result (λ clients. IfNone clients (command_alone (map string_bytes words.now) ≡ command_of (map string_bytes words.now))) }
 {
     match read_command(alloc, words) {
-        Ok(Command::Clients {
-            count,
-            steps,
-            number,
-        }) => Ok(Some(ClientWork {
+        Ok(
+            Command::Clients {
+                count,
+                steps,
+                number,
+            },
+        ) => Ok(Some(ClientWork {
             count,
             steps,
             number,
@@ -72,13 +74,7 @@ fn read_clients(alloc: Global, words: &[String]) -> Result<Option<ClientWork>, M
 /// own order, and the sum of the numbers of the lines, with the moves of clients that were refused, is how many moves lie
 /// behind the old history. Whatever the status, the files that are left read as the store with or without moves behind
 /// its history.
-pub fn run<
-    S: Source,
-    K: Sink,
-    D: Disk + Drop + Send,
-    A: Address + Send,
-    R: Threads + Wait + Sync,
->(
+pub fn run<S: Source, K: Sink, D: Disk + Drop + Send, A: Address + Send, R: Threads + Wait + Sync>(
     rt: &R,
     alloc: Global,
     words: &[String],

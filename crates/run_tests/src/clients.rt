@@ -4,12 +4,11 @@ use branch_address::Sha256Address;
 use branch_disk::{FileDisk, MemoryDisk};
 use branch_shell::Status;
 use std::alloc::Global;
-use std::fs;
 use std::process::Abort;
-use std::str;
 use std::sync::Wait;
 use std::test::Fail;
 use std::thread::Threads;
+use std::{fs, str};
 
 // Runs a command that ends so and writes this, and gives the disk that it left.
 fn says<R: Threads + Wait + Abort + Sync>(
@@ -26,7 +25,11 @@ fn says<R: Threads + Wait + Abort + Sync>(
 
 // The number behind the front of a line, up to a space.
 fn number_behind(line: &str, front: &str) -> Option<u64> {
-    line.strip_prefix(front)?.split(' ').next()?.parse::<u64>().ok()
+    line.strip_prefix(front)?
+        .split(' ')
+        .next()?
+        .parse::<u64>()
+        .ok()
 }
 
 // The lines of clients at the head of a text, added up, and the report behind them.
@@ -108,8 +111,14 @@ fn clients_over_files(rt: HostRuntime) -> Result<(), Fail> {
     let (ran, text, _) = ran_over(&rt, alloc, "clients 4 20 7", disk)?;
     let disk = FileDisk::new(&rt, path);
     let (checked, report, _) = ran_over(&rt, alloc, "check", disk)?;
-    assert_eq!(rt; (made, ran, checked), (Status::Done, Status::Done, Status::Done));
-    assert_eq!(rt; reported(&rt, alloc, &text, 4)?.as_bytes(), report.as_slice());
+    assert_eq!(rt;
+        (made, ran, checked),
+        (Status::Done, Status::Done, Status::Done)
+    );
+    assert_eq!(rt;
+        reported(&rt, alloc, &text, 4)?.as_bytes(),
+        report.as_slice()
+    );
     fs::remove_dir_all(&rt, folder)?;
     Ok(())
 }
@@ -154,7 +163,13 @@ fn clients_that_are_refused(rt: HostRuntime) -> Result<(), Fail> {
     let alloc = rt.alloc();
     let disk = MemoryDisk::new(Vec::new(alloc));
     let refused: &[u8] = b"refused not a store\n";
-    let _disk = says(&rt, alloc, "clients 1 1 0", disk, (Status::StoreRefused, refused))?;
+    let _disk = says(
+        &rt,
+        alloc,
+        "clients 1 1 0",
+        disk,
+        (Status::StoreRefused, refused),
+    )?;
     for command in [
         "clients 0 1 7",
         "clients 65 1 7",

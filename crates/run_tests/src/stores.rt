@@ -65,8 +65,14 @@ pub fn ran_over<D: Disk + Drop + Send, R: Threads + Wait + Sync>(
     let words = words_of(alloc, command)?;
     let mut source = MemorySource::new(Vec::new(alloc), 16, Vec::new(alloc));
     let mut sink = MemorySink::new(Vec::new(alloc));
-    let (status, disk) =
-        run::<_, _, _, Sha256Address, R>(rt, alloc, &words, &mut source, &mut sink, disk);
+    let (status, disk) = run::<_, _, _, Sha256Address, R>(
+        rt,
+        alloc,
+        &words,
+        &mut source,
+        &mut sink,
+        disk,
+    );
     let text = sink.bytes().to_vec(alloc)?;
     Ok((status, text, disk))
 }
