@@ -32,7 +32,14 @@ fn main(rt: HostRuntime) -> ExitCode {
             let disk = FileDisk::new(&rt, words.remove(0));
             let mut source = ReadSource::new(rt.reader());
             let mut sink = WriteSink::new(io::writer(&rt));
-            run::<_, _, _, Sha256Address>(rt.alloc(), &words, &mut source, &mut sink, disk).0
+            run::<_, _, _, Sha256Address, _>(
+                &rt,
+                rt.alloc(),
+                &words,
+                &mut source,
+                &mut sink,
+                disk,
+            ).0
         }
         Ok(_) => Status::Usage,
         Err(error) => unread(&error),

@@ -14,3 +14,4 @@ pub mod Runs
 pub mod Drawn
 pub mod Worked
 pub mod Works
+pub mod Outcomes

@@ -6,14 +6,15 @@ use Rattle.std.proofs.KnownBytes.{Consumes-nil, Appends-nil}
 use Rattle.branch_disk.specs.Disk.{Files}
 use Rattle.branch_doc.specs.Document.{document}
 use Rattle.branch_command.specs.Numbers.{Numbers}
-use Rattle.branch_command.specs.Work.{Work}
-use Rattle.branch_command.specs.Commands.{Said, Init, Script, Check, Generate, Help}
+use Rattle.branch_command.specs.Work.{Work, Clients as ClientsGiven}
+use Rattle.branch_command.specs.Commands.{Said, Init, Script, Check, Generate, Clients, Help}
 use Rattle.branch_shell.specs.declared.status.Status.{Status}
 use Rattle.branch_shell.specs.declared.status.Status.TheVariants.{Done, Memory}
 use Rattle.branch_shell.specs.Reading.{Exchanges}
 use Rattle.branch_shell.specs.Once.{Answers, Says}
 use Rattle.branch_shell.specs.Stores.{SaysReady, SaysNotEmpty, SaysReport, SaysRefused}
 use Rattle.branch_shell.specs.Generated.{SaysWork}
+use Rattle.branch_shell.specs.Together.{SaysTogether}
 use Rattle.branch_shell.specs.Statuses.{ScriptWrote, Wrote}
 use Rattle.branch_shell.proofs.Said.{one_command}
 
@@ -32,6 +33,11 @@ module _ (address : List ℕ → List ℕ) (told : Option Files) (words : Option
       → (command : Said) → words ≡ Some command → Exchanges l l g0 g1 (Wrote address command told l status)
   work_wrote work is status l g0 g1 w command said =
       ([], w.0, Consumes-nil l, w.1, subst (λ (k : Said). Wrote address k told l status [] w.0) (sym (one_command words command (Generate work) said is)) (refl, w.2))
+
+  pub clients_wrote : (clients : ClientsGiven) → words ≡ Some (Clients clients) → (status : Status) (l g0 g1 : Option (List ℕ)) → Answers (SaysTogether address told clients) (SaysRefused document address told) status g0 g1
+      → (command : Said) → words ≡ Some command → Exchanges l l g0 g1 (Wrote address command told l status)
+  clients_wrote clients is status l g0 g1 w command said =
+      ([], w.0, Consumes-nil l, w.1, subst (λ (k : Said). Wrote address k told l status [] w.0) (sym (one_command words command (Clients clients) said is)) (refl, w.2))
 
   pub script_wrote : words ≡ Some Script → (status : Status) (l0 l1 g0 g1 : Option (List ℕ)) → Exchanges l0 l1 g0 g1 (ScriptWrote address told l1 status)
       → (command : Said) → words ≡ Some command → Exchanges l0 l1 g0 g1 (Wrote address command told l1 status)
@@ -61,4 +67,5 @@ memory_wrote address told l g (Init n) = ([], [], Consumes-nil l, Appends-nil g,
 memory_wrote address told l g Script = ([], [], Consumes-nil l, Appends-nil g, inl (refl, refl))
 memory_wrote address told l g Check = ([], [], Consumes-nil l, Appends-nil g, (refl, refl))
 memory_wrote address told l g (Generate work) = ([], [], Consumes-nil l, Appends-nil g, (refl, refl))
+memory_wrote address told l g (Clients clients) = ([], [], Consumes-nil l, Appends-nil g, (refl, refl))
 memory_wrote address told l g Help = ([], [], Consumes-nil l, Appends-nil g, refl)

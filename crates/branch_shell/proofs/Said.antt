@@ -1,19 +1,21 @@
 -- A command that was read is the one that the words say.
 use Rattle.std.proofs.Common.{◌≡◌, ℕ, refl, sym, subst, ◌∙◌, ap}
-use Rattle.std.specs.Prelude.{Option, Some, String}
+use Rattle.std.specs.Prelude.{Option, Some, None, IfSome, IfNone, String}
 use Rattle.std.specs.declared.alloc.Global.{Global}
 use Rattle.branch_names.specs.declared.limits.Limits.{Limits}
 use Rattle.branch_command.specs.declared.command.Command.{Command}
 use Rattle.branch_command.specs.declared.command.Command.TheVariants as read
 use Rattle.branch_command.specs.Numbers.{Numbers, AreLimits}
-use Rattle.branch_command.specs.Work.{Work}
-use Rattle.branch_command.specs.Commands.{Said, Init, Script, Check, Generate, Help, Means}
+use Rattle.branch_command.specs.Work.{Work, Clients as ClientsGiven}
+use Rattle.branch_command.specs.Commands.{Said, Init, Script, Check, Generate, Clients, Help, Means}
+use Rattle.branch_shell.specs.Alone.{alone}
 
 is_init : (said : Said) (limits : Limits) → Means said (read.Init limits) → (n : Numbers) × (said ≡ Init n) × AreLimits n limits
 is_init (Init n) limits means = (n, refl, means)
 is_init Script limits means = absurd means
 is_init Check limits means = absurd means
 is_init (Generate work) limits means = absurd means
+is_init (Clients given) limits means = absurd means
 is_init Help limits means = absurd means
 
 is_script : (said : Said) → Means said read.Script → said ≡ Script
@@ -21,6 +23,7 @@ is_script (Init n) means = absurd means
 is_script Script means = refl
 is_script Check means = absurd means
 is_script (Generate work) means = absurd means
+is_script (Clients given) means = absurd means
 is_script Help means = absurd means
 
 is_check : (said : Said) → Means said read.Check → said ≡ Check
@@ -28,6 +31,7 @@ is_check (Init n) means = absurd means
 is_check Script means = absurd means
 is_check Check means = refl
 is_check (Generate work) means = absurd means
+is_check (Clients given) means = absurd means
 is_check Help means = absurd means
 
 is_generate : (said : Said) (steps number : ℕ) → Means said (read.Generate steps number) → said ≡ Generate (record { steps = steps; number = number })
@@ -35,13 +39,23 @@ is_generate (Init n) steps number means = absurd means
 is_generate Script steps number means = absurd means
 is_generate Check steps number means = absurd means
 is_generate (Generate work) steps number means = ap Generate means
+is_generate (Clients given) steps number means = absurd means
 is_generate Help steps number means = absurd means
+
+is_clients : (said : Said) (count steps number : ℕ) → Means said (read.Clients count steps number) → said ≡ Clients (record { count = count; work = record { steps = steps; number = number } })
+is_clients (Init n) count steps number means = absurd means
+is_clients Script count steps number means = absurd means
+is_clients Check count steps number means = absurd means
+is_clients (Generate work) count steps number means = absurd means
+is_clients (Clients given) count steps number means = ap Clients means
+is_clients Help count steps number means = absurd means
 
 is_help : (said : Said) (text : String Global) → Means said (read.Tell text) → said ≡ Help
 is_help (Init n) text means = absurd means
 is_help Script text means = absurd means
 is_help Check text means = absurd means
 is_help (Generate work) text means = absurd means
+is_help (Clients given) text means = absurd means
 is_help Help text means = refl
 
 -- what was said, of the command that was read
@@ -61,9 +75,16 @@ module _ (words : Option Said) where
   pub said_generate : (command : Command) (steps number : ℕ) → command ≡ read.Generate steps number → Reads words command → words ≡ Some (Generate (record { steps = steps; number = number }))
   said_generate command steps number is r = r.1 ∙ ap Some (is_generate r.0 steps number (subst (Means r.0) is r.2))
 
+  pub said_clients : (command : Command) (count steps number : ℕ) → command ≡ read.Clients count steps number → Reads words command
+      → words ≡ Some (Clients (record { count = count; work = record { steps = steps; number = number } }))
+  said_clients command count steps number is r = r.1 ∙ ap Some (is_clients r.0 count steps number (subst (Means r.0) is r.2))
+
   -- the work that was read is the one that was said
   pub same_work : (m n : Work) → words ≡ Some (Generate m) → words ≡ Some (Generate n) → m ≡ n
   same_work m n x y = cc (x, y)
+
+  pub same_clients : (m n : ClientsGiven) → words ≡ Some (Clients m) → words ≡ Some (Clients n) → m ≡ n
+  same_clients m n x y = cc (x, y)
 
   pub said_help : (command : Command) (text : String Global) → command ≡ read.Tell text → Reads words command → words ≡ Some Help
   said_help command text is r = r.1 ∙ ap Some (is_help r.0 text (subst (Means r.0) is r.2))
@@ -80,3 +101,44 @@ module _ (words : Option Said) where
       let i = said_init command limits is r in
       let numbers : i.0 ≡ n = same_numbers i.0 n i.1 said in
       subst (AreLimits n) (sym same) (subst (λ (m : Numbers). AreLimits m limits) numbers i.2)
+
+-- clients are no command that needs no threads
+pub never_alone : (words : Option Said) (clients : ClientsGiven) → alone words ≡ Some (Clients clients) → ⊥
+never_alone None clients is = cc is
+never_alone (Some (Init n)) clients is = cc is
+never_alone (Some Script) clients is = cc is
+never_alone (Some Check) clients is = cc is
+never_alone (Some (Generate work)) clients is = cc is
+never_alone (Some (Clients given)) clients is = cc is
+never_alone (Some Help) clients is = cc is
+
+-- a command that was read and needs no threads is the one that the words say
+abbrev pub NeedsNone : Command → Type 0
+NeedsNone (read.Clients count steps number) = ⊥
+NeedsNone command = Unit {0}
+
+same_said : (said : Said) (command : Command) → NeedsNone command → Means said command → alone (Some said) ≡ Some said
+same_said (Init n) command none means = refl
+same_said Script command none means = refl
+same_said Check command none means = refl
+same_said (Generate work) command none means = refl
+same_said (Clients given) (read.Init limits) none means = absurd means
+same_said (Clients given) read.Script none means = absurd means
+same_said (Clients given) read.Check none means = absurd means
+same_said (Clients given) (read.Generate steps number) none means = absurd means
+same_said (Clients given) (read.Clients count steps number) none means = absurd none
+same_said (Clients given) (read.Tell text) none means = absurd means
+same_said Help command none means = refl
+
+pub same_alone : (words : Option Said) (command : Command) → NeedsNone command → Reads words command → alone words ≡ words
+same_alone words command none r = ap alone r.1 ∙ same_said r.0 command none r.2 ∙ sym r.1
+
+pub reads_alone : (words : Option Said) (command : Command) → NeedsNone command → Reads words command → Reads (alone words) command
+reads_alone words command none r = (r.0, same_alone words command none r ∙ r.1, r.2)
+
+-- what holds of what was read
+pub some_holds : {X : Type 0} (read : Option X) (P : X → Type 0) (x : X) → read ≡ Some x → IfSome read P → P x
+some_holds read P x is holds = subst (λ o. IfSome o P) is holds
+
+pub none_holds : {X : Type 0} (read : Option X) (P : Type 0) → read ≡ None → IfNone read P → P
+none_holds read P is holds = subst (λ o. IfNone o P) is holds

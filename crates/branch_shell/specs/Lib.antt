@@ -5,6 +5,8 @@ pub mod Counts
 pub mod Documents
 pub mod Telling
 pub mod Generated
+pub mod Together
 pub mod Statuses
+pub mod Alone
 pub mod Refusals
 pub mod StatusNumbers

@@ -6,7 +6,7 @@ use Rattle.branch_disk.specs.Disk.{Files, LeavesOnly}
 use Rattle.branch_doc.specs.Document.{document}
 use Rattle.branch_script.specs.Lines.{lines_of}
 use Rattle.branch_engine.specs.Play.{begins}
-use Rattle.branch_command.specs.Commands.{Said, Init, Script, Check, Generate, Help}
+use Rattle.branch_command.specs.Commands.{Said, Init, Script, Check, Generate, Clients, Help}
 use Rattle.branch_shell.specs.declared.status.Status.{Status}
 use Rattle.branch_shell.specs.declared.status.Status.TheVariants.{Done, Usage, StoreRefused, DiskFault, ReadFault, WriteFault, LineTooLong, InputTooLong, Memory}
 use Rattle.branch_shell.specs.Reading.{IsCut, AreShort, WereRead, IsFirstPart}
@@ -15,6 +15,7 @@ use Rattle.branch_shell.specs.Once.{WroteOnce}
 use Rattle.branch_shell.specs.Telling.{ReadsAfterSome}
 use Rattle.branch_shell.specs.Documents.{DocStore, fixed_of, script_text, store_after}
 use Rattle.branch_shell.specs.Generated.{SaysWork}
+use Rattle.branch_shell.specs.Together.{SaysTogether}
 
 -- the text is that of the input's whole lines, behind which this is left
 pub record TellsWholeLines (address : List ℕ → List ℕ) (store : DocStore) (input text rest : List ℕ) : Type 0 where
@@ -59,6 +60,7 @@ Wrote address (Init numbers) told left status input text = (input ≡ []) × Wro
 Wrote address Script told left status input text = ScriptWrote address told left status input text
 Wrote address Check told left status input text = (input ≡ []) × WroteOnce (SaysReport document address told) (SaysRefused document address told) status text
 Wrote address (Generate work) told left status input text = (input ≡ []) × WroteOnce (SaysWork address told work) (SaysRefused document address told) status text
+Wrote address (Clients clients) told left status input text = (input ≡ []) × WroteOnce (SaysTogether address told clients) (SaysRefused document address told) status text
 Wrote address Help told left status input text = input ≡ []
 
 -- at the start the disk tells files that read as the store, and so does each image

@@ -1,37 +1,65 @@
 // The top call.
-ghost use Rattle.std.specs.Prelude.{◌≡◌, ◌⊎◌, Some, None, map};
+ghost use Rattle.std.specs.Prelude.{◌≡◌, ◌⊎◌, List, ℕ, Some, None, map, IfOk, IfSome, IfNone};
 ghost use Rattle.std.specs.String.{string_bytes};
+ghost use Rattle.std.specs.Io.KnownBytes.{Appends};
 ghost use Rattle.branch_disk.specs.Disk.{Files, LeavesOnly};
 ghost use Rattle.branch_doc.specs.Document.{document};
 ghost use Rattle.store_core.specs.Inits.{IsEmpty};
 ghost use Rattle.store_core.specs.Opens.{ReadsAsNone};
-ghost use Rattle.branch_command.specs.Commands.{Said, Init as SaidInit, Script as SaidScript, Check as SaidCheck, Generate as SaidGenerate, Help as SaidHelp, command_of};
+ghost use Rattle.branch_command.specs.Commands.{Said, Init as SaidInit, Script as SaidScript, Check as SaidCheck, Generate as SaidGenerate, Clients as SaidClients, Help as SaidHelp, command_of};
 ghost use Rattle.branch_command.specs.Numbers.{Numbers, AreLimits};
-ghost use Rattle.branch_command.specs.Work.{Work};
+ghost use Rattle.branch_command.specs.Work.{Work, Clients};
 ghost use Rattle.branch_shell.specs.Reading.{Exchanges};
 ghost use Rattle.branch_shell.specs.Counts.{HasReason};
 ghost use Rattle.branch_shell.specs.Stores.{ReadsAsStore, ReadsAsEmpty, ReadsAsNoneOrEmpty};
 ghost use Rattle.branch_shell.specs.Documents.{DocStore};
 ghost use Rattle.branch_shell.specs.Generated.{drawn_lines, SurvivesWork};
+ghost use Rattle.branch_shell.specs.Together.{RanTogether, ReadsOn};
 ghost use Rattle.branch_shell.specs.Statuses.{Wrote, Holds, Survives};
+ghost use Rattle.branch_shell.specs.Alone.{command_alone};
 
-use crate::answer::{run_check, run_init, say};
-use crate::generate::run_generate;
-use crate::script::run_script;
+use crate::alone::run_alone;
 use crate::status::Status;
+use crate::together::run_together;
 use branch_address::Address;
 use branch_command::{Command, CommandRefused, read_command};
 use branch_disk::Disk;
 use branch_io::{Sink, Source};
-use commit_replay::laws::reads_as_no_store;
-use mrdt_doc::Doc;
+use client_runs::Work as ClientWork;
+use mrdt_model::Memory;
 use std::alloc::Global;
+use std::sync::Wait;
+use std::thread::Threads;
+
+// The clients that the words say, if they say some.
+fn read_clients(alloc: Global, words: &[String]) -> Result<Option<ClientWork>, Memory>
+    ensures some { IfOk result (λ clients. IfSome clients (λ work. command_of (map string_bytes words.now) ≡ Some (SaidClients (record { count = work.count; work = record { steps = work.steps; number = work.number } })))) }
+    ensures none { IfOk result (λ clients. IfNone clients (command_alone (map string_bytes words.now) ≡ command_of (map string_bytes words.now))) }
+{
+    match read_command(alloc, words) {
+        Ok(
+            Command::Clients {
+                count,
+                steps,
+                number,
+            },
+        ) => Ok(Some(ClientWork {
+            count,
+            steps,
+            number,
+        })),
+        Ok(_) => Ok(None),
+        Err(CommandRefused::Usage) => Ok(None),
+        Err(CommandRefused::Memory) => Err(Memory),
+    }
+}
 
 /// Runs the command that the words say, over the store that the disk holds, and hands the disk back.
 ///
 /// `init` makes a store of a disk that holds no bytes; `script` opens the store and runs the lines of the source as
 /// steps; `check` opens the store and reports; `generate` opens the store, runs the script that is drawn from a number
-/// and writes what came of it and the report. `Usage` comes only where the words say no command, and then nothing was
+/// and writes what came of it and the report; `clients` opens the store, runs clients of drawn steps side by side, and
+/// writes what became of each and the report. `Usage` comes only where the words say no command, and then nothing was
 /// touched. What was written is, by the status, the text that is defined for the command, or a first part of it. A fault
 /// comes only where the count of faults of that object rose, and no other count rises, but where the sink cannot finish
 /// behind a fault.
@@ -39,7 +67,15 @@ use std::alloc::Global;
 /// A crash at any moment of a script leaves files that read as the store after some of the lines that were read; at the
 /// end after those that were answered, or one more; and after `Done` after all. A crash at any moment of `generate`
 /// leaves files that read as the store after some of its lines, in order; and after `Done` after all.
-pub fn run<S: Source, K: Sink, D: Disk + Drop, A: Address>(
+///
+/// `clients COUNT STEPS NUMBER` starts up to so many threads, and may wait for a lock or for a thread. All clients are
+/// joined before the store is closed, and before anything is written. After `Done` the files read as the store with the
+/// history whose report was written: it begins with the one that was found, each client's moves lie behind that in its
+/// own order, and the sum of the numbers of the lines, with the moves of clients that were refused, is how many moves lie
+/// behind the old history. Whatever the status, the files that are left read as the store with or without moves behind
+/// its history.
+pub fn run<S: Source, K: Sink, D: Disk + Drop + Send, A: Address + Send, R: Threads + Wait + Sync>(
+    rt: &R,
     alloc: Global,
     words: &[String],
     source: &mut S,
@@ -59,10 +95,17 @@ pub fn run<S: Source, K: Sink, D: Disk + Drop, A: Address>(
     // A crash at any moment of generated work, and at its end.
     ensures generate_crashes { (work : Work) → command_of (map string_bytes words.now) ≡ Some (SaidGenerate work) → (store : DocStore) → Holds D.contents D.may_leave A.address disk store
         → SurvivesWork D.may_leave D.moment D.left_since A.address store (drawn_lines work) disk result.1 result.0 }
+    // What clients wrote when they are done, and how the files that are left read then.
+    ensures clients_ran { (clients : Clients) → command_of (map string_bytes words.now) ≡ Some (SaidClients clients) → result.0 ≡ Status.Done
+        → (text : List ℕ) × Appends (K.given sink.old) (K.given sink.new) text × RanTogether D.may_leave A.address (D.contents disk) clients result.1 text }
+    // However clients end, the files that are left read as the store with or without moves behind its history.
+    ensures clients_crashes { (clients : Clients) → command_of (map string_bytes words.now) ≡ Some (SaidClients clients) → (store : DocStore) → Holds D.contents D.may_leave A.address disk store
+        → (c : Files) → D.may_leave result.1 c → ReadsOn A.address store c }
     // `check`, and what is refused, leave only what a crash might have left at the start.
     ensures check_crashes { command_of (map string_bytes words.now) ≡ Some SaidCheck → LeavesOnly D.moment D.left_since disk result.1 (D.may_leave disk) }
     ensures refused_crashes { result.0 ≡ Status.StoreRefused → LeavesOnly D.moment D.left_since disk result.1 (D.may_leave disk) }
-    ensures refused_keeps { (command_of (map string_bytes words.now) ≡ Some SaidScript) ⊎ ((work : Work) × (command_of (map string_bytes words.now) ≡ Some (SaidGenerate work))) → (f : Files) → D.contents disk ≡ Some f → ReadsAsNone document A.address f
+    ensures refused_keeps { (command_of (map string_bytes words.now) ≡ Some SaidScript) ⊎ (((work : Work) × (command_of (map string_bytes words.now) ≡ Some (SaidGenerate work)))
+        ⊎ ((clients : Clients) × (command_of (map string_bytes words.now) ≡ Some (SaidClients clients)))) → (f : Files) → D.contents disk ≡ Some f → ReadsAsNone document A.address f
         → LeavesOnly D.moment D.left_since disk result.1 (D.may_leave disk) }
     // Where each image was empty, a crash at any moment of `init` leaves no store, or one of no moves.
     ensures init_crashes { (numbers : Numbers) → command_of (map string_bytes words.now) ≡ Some (SaidInit numbers) → ((c : Files) → D.may_leave disk c → IsEmpty c)
@@ -75,9 +118,9 @@ pub fn run<S: Source, K: Sink, D: Disk + Drop, A: Address>(
     // After `check` the disk holds the store that it held.
     ensures check_keeps { command_of (map string_bytes words.now) ≡ Some SaidCheck → result.0 ≡ Status.Done → (f : Files) (store : DocStore) → D.contents disk ≡ Some f
         → ReadsAsStore document A.address store f → (c : Files) → D.may_leave result.1 c → ReadsAsStore document A.address store c }
-    // What `script`, `check` and `generate` refuse reads as no store.
+    // What `script`, `check`, `generate` and `clients` refuse reads as no store.
     ensures refused_only { (command_of (map string_bytes words.now) ≡ Some SaidScript) ⊎ ((command_of (map string_bytes words.now) ≡ Some SaidCheck)
-        ⊎ ((work : Work) × (command_of (map string_bytes words.now) ≡ Some (SaidGenerate work)))) → result.0 ≡ Status.StoreRefused
+        ⊎ (((work : Work) × (command_of (map string_bytes words.now) ≡ Some (SaidGenerate work))) ⊎ ((clients : Clients) × (command_of (map string_bytes words.now) ≡ Some (SaidClients clients))))) → result.0 ≡ Status.StoreRefused
         → (f : Files) → D.contents disk ≡ Some f → ReadsAsNone document A.address f }
 
     ensures reason { HasReason (record { source = S.faults source.old; sink = K.faults sink.old; disk = D.faults disk })
@@ -88,16 +131,9 @@ pub fn run<S: Source, K: Sink, D: Disk + Drop, A: Address>(
     ensures behind_disk { (command : Said) → command_of (map string_bytes words.now) ≡ Some command → result.0 ≡ Status.WriteFault → (D.faults result.1 ≡ D.faults disk)
         ⊎ Exchanges (S.left source.old) (S.left source.new) (K.given sink.old) (K.given sink.new) (Wrote A.address command (D.contents disk) (S.left source.new) Status.DiskFault) }
 {
-    reads_as_no_store::<Doc>();
-    match read_command(alloc, words) {
-        Ok(Command::Init(limits)) => run_init::<Doc, K, D, A>(alloc, limits, sink, disk),
-        Ok(Command::Script) => run_script::<S, K, D, A>(alloc, source, sink, disk),
-        Ok(Command::Check) => run_check::<Doc, K, D, A>(alloc, sink, disk),
-        Ok(Command::Generate { steps, number }) => run_generate::<K, D, A>(
-            alloc, steps, number, sink, disk,
-        ),
-        Ok(Command::Tell(text)) => (say(sink, text.as_bytes(), Status::Done), disk),
-        Err(CommandRefused::Usage) => (Status::Usage, disk),
-        Err(CommandRefused::Memory) => (Status::Memory, disk),
+    match read_clients(alloc, words) {
+        Ok(Some(work)) => run_together::<K, D, A, R>(rt, alloc, work, sink, disk),
+        Ok(None) => run_alone::<S, K, D, A>(alloc, words, source, sink, disk),
+        Err(_) => (Status::Memory, disk),
     }
 }

@@ -3,6 +3,7 @@ use crate::stores::{Bytes, checks, fresh, made, ran, says};
 use branch_address::Sha256Address;
 use branch_disk::MemoryDisk;
 use branch_shell::Status;
+use std::str;
 use std::test::Fail;
 
 // One step: the three forks and the landing are the four moves.
@@ -63,6 +64,27 @@ fn work_is_made_again(rt: HostRuntime) -> Result<(), Fail> {
         );
         assert!(rt; one.objects == other.objects && one.heads == other.heads);
     }
+    Ok(())
+}
+
+// Much work writes the same bytes again, and the report stays.
+#[test]
+fn much_work_is_made_again(rt: HostRuntime) -> Result<(), Fail> {
+    let alloc = rt.alloc();
+    let command = "generate 2000 7";
+    let first = ran::<Sha256Address>(alloc, command, b"", fresh(&rt, alloc)?)?;
+    let second = ran::<Sha256Address>(alloc, command, b"", fresh(&rt, alloc)?)?;
+    assert_eq!(rt; (first.status, second.status), (Status::Done, Status::Done));
+    assert_eq!(rt; first.text.as_slice(), second.text.as_slice());
+    let Some((_, report)) = str::from_utf8(&first.text)?.split_once('\n') else {
+        panic!(rt; "no report")
+    };
+    let disk = checks::<Sha256Address>(&rt, alloc, first.disk, Status::Done, report.as_bytes())?;
+    let (one, other) = (
+        Bytes::of(&rt, alloc, disk),
+        Bytes::of(&rt, alloc, second.disk),
+    );
+    assert!(rt; one.objects == other.objects && one.heads == other.heads);
     Ok(())
 }
 

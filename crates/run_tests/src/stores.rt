@@ -2,10 +2,12 @@
 use branch_address::{Address, Sha256Address};
 use branch_disk::{Disk, MemoryDisk, Part, read_whole};
 use branch_io::{MemorySink, MemorySource};
-use branch_shell::{Status, run};
+use branch_shell::{Status, run, run_alone};
 use std::alloc::{AllocError, Global};
 use std::process::Abort;
+use std::sync::Wait;
 use std::test::Fail;
+use std::thread::Threads;
 
 // What a command answered and wrote, and the disk that it left.
 #[derive(Drop)]
@@ -26,7 +28,7 @@ fn words_of(alloc: Global, text: &str) -> Result<Vec<String>, AllocError> {
     Ok(words)
 }
 
-// Runs a command with a source and a sink.
+// Runs a command that starts no thread, with a source and a sink.
 pub fn ran_with<A: Address>(
     alloc: Global,
     command: &str,
@@ -36,7 +38,7 @@ pub fn ran_with<A: Address>(
 ) -> Result<Outcome, Fail> {
     let words = words_of(alloc, command)?;
     let (mut source, mut sink) = (source, sink);
-    let (status, disk) = run::<_, _, _, A>(alloc, &words, &mut source, &mut sink, disk);
+    let (status, disk) = run_alone::<_, _, _, A>(alloc, &words, &mut source, &mut sink, disk);
     let text = sink.bytes().to_vec(alloc)?;
     Ok(Outcome { status, text, disk })
 }
@@ -51,6 +53,39 @@ pub fn ran<A: Address>(
     let source = MemorySource::new(input.to_vec(alloc)?, 16, Vec::new(alloc));
     let sink = MemorySink::new(Vec::new(alloc));
     ran_with::<A>(alloc, command, source, sink, disk)
+}
+
+// Runs a command that may start threads, over no input and any disk. Gives its status, what it wrote and the disk.
+pub fn ran_over<D: Disk + Drop + Send, R: Threads + Wait + Sync>(
+    rt: &R,
+    alloc: Global,
+    command: &str,
+    disk: D,
+) -> Result<(Status, Vec<u8>, D), Fail> {
+    let words = words_of(alloc, command)?;
+    let mut source = MemorySource::new(Vec::new(alloc), 16, Vec::new(alloc));
+    let mut sink = MemorySink::new(Vec::new(alloc));
+    let (status, disk) = run::<_, _, _, Sha256Address, R>(
+        rt,
+        alloc,
+        &words,
+        &mut source,
+        &mut sink,
+        disk,
+    );
+    let text = sink.bytes().to_vec(alloc)?;
+    Ok((status, text, disk))
+}
+
+// Runs a command that may start threads, over no input.
+pub fn ran_together<R: Threads + Wait + Sync>(
+    rt: &R,
+    alloc: Global,
+    command: &str,
+    disk: MemoryDisk,
+) -> Result<Outcome, Fail> {
+    let (status, text, disk) = ran_over(rt, alloc, command, disk)?;
+    Ok(Outcome { status, text, disk })
 }
 
 // Runs a command that ends so and writes this, and gives the disk that it left.

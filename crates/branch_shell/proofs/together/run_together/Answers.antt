@@ -1,0 +1,86 @@
+-- Clients over the store that opening found, and what is left of files that are no store.
+use Rattle.std.proofs.Common.{◌≡◌, ℕ, [], subst, append-nil}
+use Rattle.std.specs.Prelude.{Some}
+use Rattle.branch_disk.specs.Disk.{LeavesOnly}
+use Rattle.branch_disk.specs.Moments.{now_too}
+use Rattle.branch_doc.specs.Document.{document}
+use Rattle.branch_command.specs.Work.{Clients}
+use Rattle.branch_shell.specs.Counts.{HasReason}
+use Rattle.branch_shell.specs.Refusals.{open_refusal_text}
+use Rattle.branch_shell.specs.Stores.{IsOpenedAs, SaysRefused}
+use Rattle.branch_shell.specs.Documents.{DocStore}
+use Rattle.branch_shell.specs.Together.{RanOver, RanTogether, ReadsOn}
+use Rattle.branch_shell.proofs.Once.{answers_map, says_refused, none_refused, not_behind}
+use Rattle.branch_shell.proofs.Scripts.{same_store}
+use Rattle.branch_shell.proofs.Works.{never_refused}
+use Rattle.branch_shell.proofs.together.run_together.Goals as goal
+
+pub returns-in-Ok-clause-wrote : goal.returns-in-Ok-clause-wrote
+returns-in-Ok-clause-wrote g c =
+    let told = g.D.Disk.contents c.args.disk in
+    let address = g.A.Address.address in
+    let core = c.in-Ok.core in
+    let opened = c.in-Ok.ensures in
+    let found : DocStore = record { limits = core.limits; history = core.history } in
+    let clients : Clients = record { count = c.args.work.count; work = record { steps = c.args.work.steps; number = c.args.work.number } } in
+    answers_map (RanOver g.D.Disk.may_leave address found clients c.together_over.result.1) (λ whole. ⊥) (RanTogether g.D.Disk.may_leave address told clients c.together_over.result.1) (SaysRefused document address told)
+    (λ whole ran. (found, record { valid = opened.valid; reads = opened.reads; only = opened.only }, ran)) (λ whole no. absurd no)
+    c.together_over.result.0 (g.K.Sink.given c.args.sink.now) (g.K.Sink.given c.together_over.new.sink) c.together_over.ensures.wrote
+
+pub returns-in-Ok-clause-crashes : goal.returns-in-Ok-clause-crashes
+returns-in-Ok-clause-crashes g c store holds i left =
+    let d = g.D.Disk in
+    let address = g.A.Address.address in
+    let core = c.in-Ok.core in
+    let opened = c.in-Ok.ensures in
+    let found : DocStore = record { limits = core.limits; history = core.history } in
+    let is : IsOpenedAs document address (d.contents c.args.disk) found = record { valid = opened.valid; reads = opened.reads; only = opened.only } in
+    let same = same_store address d.contents d.may_leave d.moment d.left_since (g.met.D.Disk g.world.𝓛 g.world.𝓜 g.world.𝓡 ((λ s x. x), (λ x. x), (λ x. x), λ x. x)).counts_now c.args.disk store found holds is in
+    subst (λ (s : DocStore). ReadsOn address s i) same (c.together_over.ensures.survives i left)
+
+pub returns-in-Ok-clause-refused : goal.returns-in-Ok-clause-refused
+returns-in-Ok-clause-refused g c refused =
+    let d = g.D.Disk in
+    let found : DocStore = record { limits = c.in-Ok.core.limits; history = c.in-Ok.core.history } in
+    let clients : Clients = record { count = c.args.work.count; work = record { steps = c.args.work.steps; number = c.args.work.number } } in
+    absurd {A = LeavesOnly d.moment d.left_since c.args.disk c.together_over.result.1 (d.may_leave c.args.disk)}
+    (never_refused (RanOver g.D.Disk.may_leave g.A.Address.address found clients c.together_over.result.1) c.together_over.result.0 (g.K.Sink.given c.args.sink.now) (g.K.Sink.given c.together_over.new.sink) c.together_over.ensures.wrote refused)
+
+pub returns-in-Ok-clause-refused_only : goal.returns-in-Ok-clause-refused_only
+returns-in-Ok-clause-refused_only g c refused f told limits history reads =
+    let found : DocStore = record { limits = c.in-Ok.core.limits; history = c.in-Ok.core.history } in
+    let clients : Clients = record { count = c.args.work.count; work = record { steps = c.args.work.steps; number = c.args.work.number } } in
+    never_refused (RanOver g.D.Disk.may_leave g.A.Address.address found clients c.together_over.result.1) c.together_over.result.0 (g.K.Sink.given c.args.sink.now) (g.K.Sink.given c.together_over.new.sink) c.together_over.ensures.wrote refused
+
+pub returns-in-Ok-clause-keeps : goal.returns-in-Ok-clause-keeps
+returns-in-Ok-clause-keeps g c f told none =
+    let d = g.D.Disk in
+    absurd {A = LeavesOnly d.moment d.left_since c.args.disk c.together_over.result.1 (d.may_leave c.args.disk)} (none c.in-Ok.core.limits c.in-Ok.core.history (c.in-Ok.ensures.reads f told))
+
+pub returns-in-Ok-clause-reason : goal.returns-in-Ok-clause-reason
+returns-in-Ok-clause-reason g c n =
+    let faults = g.D.Disk.faults in
+    subst (λ (k : ℕ). HasReason (record { source = n; sink = g.K.Sink.faults c.args.sink.now; disk = k })
+    (record { source = n; sink = g.K.Sink.faults c.together_over.new.sink; disk = faults c.together_over.result.1 }) c.together_over.result.0) c.in-Ok.ensures.no_cause (c.together_over.ensures.reason n)
+
+pub returns-in-Err-clause-wrote : goal.returns-in-Err-clause-wrote
+returns-in-Err-clause-wrote g c =
+    let told = g.D.Disk.contents c.args.disk in
+    let address = g.A.Address.address in
+    let clients : Clients = record { count = c.args.work.count; work = record { steps = c.args.work.steps; number = c.args.work.number } } in
+    answers_map (λ whole. ⊥) (λ whole. open_refusal_text c.in-Err.refusal ≡ Some whole) (RanTogether g.D.Disk.may_leave address told clients c.in-Err.disk) (SaysRefused document address told)
+    (λ whole no. absurd no) (says_refused document address told c.in-Err.refusal c.in-Err.ensures.refused c.in-Err.ensures.refused_only)
+    c.refuse.result (g.K.Sink.given c.args.sink.now) (g.K.Sink.given c.refuse.new.sink) c.refuse.ensures.wrote
+
+pub returns-in-Err-clause-crashes : goal.returns-in-Err-clause-crashes
+returns-in-Err-clause-crashes g c store holds i left =
+    let d = g.D.Disk in
+    let was = now_too d.moment d.left_since d.may_leave (g.met.D.Disk g.world.𝓛 g.world.𝓜 g.world.𝓡 ((λ s x. x), (λ x. x), (λ x. x), λ x. x)).counts_now c.args.disk c.in-Err.disk (d.may_leave c.args.disk) c.in-Err.ensures.any_moment_err i left in
+    (store.history, ([], append-nil store.history), holds.images i was)
+
+pub returns-in-Err-clause-refused_only : goal.returns-in-Err-clause-refused_only
+returns-in-Err-clause-refused_only g c refused f told =
+    none_refused document g.A.Address.address (g.D.Disk.contents c.args.disk) c.in-Err.refusal c.in-Err.ensures.refused_only (c.refuse.ensures.files refused) f told
+
+pub returns-in-Err-clause-no_fault : goal.returns-in-Err-clause-no_fault
+returns-in-Err-clause-no_fault g c = not_behind (g.D.Disk.faults c.args.disk) (g.D.Disk.faults c.in-Err.disk) c.in-Err.refusal c.refuse.result c.in-Err.ensures.cause c.refuse.ensures.fault

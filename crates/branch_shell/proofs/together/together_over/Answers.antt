@@ -1,0 +1,116 @@
+-- Clients over a store that was opened, which may have failed meanwhile.
+use Rattle.std.proofs.Common.{◌≡◌, ◌+◌, ◌-◌, ℕ, List, ap, sym, subst, ◌∙◌, arith}
+use Rattle.std.specs.Prelude.{IfOk}
+use Rattle.std.specs.List.{AllByRecursion}
+use Rattle.branch_io.specs.Causes.{Rose}
+use Rattle.branch_doc.specs.Document.{document}
+use Rattle.branch_doc.specs.Forms.{doc_op}
+use Rattle.branch_machine.specs.Fixed.{fix}
+use Rattle.branch_names.specs.declared.limits.Limits.{Limits}
+use Rattle.branch_shared.specs.Keeps.{faults_since}
+use Rattle.branch_command.specs.Work.{Clients}
+use Rattle.parallel_clients.specs.declared.outcome.Outcome.{Outcome}
+use Rattle.parallel_clients.specs.Outcomes.{setting}
+use Rattle.client_runs.specs.Worked.{HaveWorked}
+use Rattle.store_core.specs.Images.{AllStand, MayBeLeft}
+use Rattle.branch_shell.specs.Documents.{DocStore}
+use Rattle.branch_shell.specs.Together.{FindsAll, TellsClients, RanOver}
+use Rattle.branch_shell.proofs.Once.{answers_map}
+use Rattle.branch_shell.proofs.Outcomes.{reads_on, reads_all, finds_all, fault_rose, reason_stays}
+use Rattle.branch_shell.proofs.together.together_over.Goals as goal
+
+pub returns-then-has_failed-clause-survives : goal.returns-then-has_failed-clause-survives
+returns-then-has_failed-clause-survives g c i left =
+    let d = g.D.Disk in
+    let address = g.A.Address.address in
+    let store : DocStore = record { limits = c.args.core.limits; history = c.args.core.history } in
+    let after = c.run_on-core.result.core in
+    let ran = c.run_on-core.ensures in
+    reads_on address c.reads_what_stands.ensures store after.history ran.grows ran.valid i
+    (subst (λ (l : Limits). MayBeLeft (fix document l address) after.history i) ran.limits (c.moves.ensures.left i (subst (λ k. d.may_leave k i) c.close.ensures.same left)))
+
+pub say_together-requires : goal.say_together-requires
+say_together-requires g c =
+    let faults = g.D.Disk.faults in
+    let core = c.args.core in
+    let work = c.args.work in
+    let after = c.run_on-core.result.core in
+    let on = setting (fix document core.limits g.A.Address.address) doc_op (faults core.opened) in
+    let since = faults_since faults after in
+    let worked = subst (λ r. IfOk r (HaveWorked on core.history after.history since work.count work.steps work.number)) c.in-Ok.is c.run_on-core.ensures.worked in
+    subst (AllByRecursion FindsAll) (sym c.as_slice.ensures) (finds_all on core.history after.history since work.count work.steps work.number c.in-Ok.outcomes worked)
+
+pub returns-in-Ok-clause-wrote : goal.returns-in-Ok-clause-wrote
+returns-in-Ok-clause-wrote g c =
+    let d = g.D.Disk in
+    let address = g.A.Address.address in
+    let core = c.args.core in
+    let work = c.args.work in
+    let store : DocStore = record { limits = core.limits; history = core.history } in
+    let clients : Clients = record { count = work.count; work = record { steps = work.steps; number = work.number } } in
+    let after = c.run_on-core.result.core in
+    let ran = c.run_on-core.ensures in
+    let on = setting (fix document core.limits address) doc_op (d.faults core.opened) in
+    let since = faults_since d.faults after in
+    let worked = subst (λ r. IfOk r (HaveWorked on core.history after.history since work.count work.steps work.number)) c.in-Ok.is ran.worked in
+    let seen = c.as_slice.result.now in
+    let working = sym c.has_failed.ensures ∙ c.if-has_failed.false in
+    let stands = subst (λ (l : Limits). AllStand (fix document l address) after.history (d.may_leave after.disk)) ran.limits (c.moves.ensures.stands working) in
+    answers_map (TellsClients seen after.history) (λ whole. ⊥) (RanOver d.may_leave address store clients c.close-in-Ok.result) (λ whole. ⊥)
+    (λ whole tells. record {
+      history = after.history;
+      grown = ran.grows;
+      worked = record {
+        opened = d.faults core.opened;
+        since = since;
+        outcomes = seen;
+        worked = subst (λ (os : List Outcome). HaveWorked on core.history after.history since work.count work.steps work.number os) (sym c.as_slice.ensures) worked;
+        tells = tells;
+      };
+      reads = λ i left. reads_all address c.reads_what_stands.ensures store after.history ran.grows ran.valid (d.may_leave after.disk) stands i (subst (λ k. d.may_leave k i) c.close-in-Ok.ensures.same left);
+    })
+    (λ whole no. no) c.say_together.result (g.K.Sink.given c.args.sink.now) (g.K.Sink.given c.say_together.new.sink) c.say_together.ensures.wrote
+
+pub returns-in-Ok-clause-survives : goal.returns-in-Ok-clause-survives
+returns-in-Ok-clause-survives g c i left =
+    let d = g.D.Disk in
+    let address = g.A.Address.address in
+    let store : DocStore = record { limits = c.args.core.limits; history = c.args.core.history } in
+    let after = c.run_on-core.result.core in
+    let ran = c.run_on-core.ensures in
+    reads_on address c.reads_what_stands.ensures store after.history ran.grows ran.valid i
+    (subst (λ (l : Limits). MayBeLeft (fix document l address) after.history i) ran.limits (c.moves.ensures.left i (subst (λ k. d.may_leave k i) c.close-in-Ok.ensures.same left)))
+
+pub returns-in-Ok-clause-reason : goal.returns-in-Ok-clause-reason
+returns-in-Ok-clause-reason g c n =
+    let faults = g.D.Disk.faults in
+    let core = c.args.core in
+    let work = c.args.work in
+    let after = c.run_on-core.result.core in
+    let on = setting (fix document core.limits g.A.Address.address) doc_op (faults core.opened) in
+    let since = faults_since faults after in
+    let worked = subst (λ r. IfOk r (HaveWorked on core.history after.history since work.count work.steps work.number)) c.in-Ok.is c.run_on-core.ensures.worked in
+    let seen = c.as_slice.result.now in
+    let own = subst (λ (os : List Outcome). HaveWorked on core.history after.history since work.count work.steps work.number os) (sym c.as_slice.ensures) worked in
+    let working = sym c.has_failed.ensures ∙ c.if-has_failed.false in
+    let quiet : faults after.disk ≡ faults after.opened = c.moves.ensures.quiet working in
+    let opened : faults after.opened ≡ faults core.opened = c.run_on-core.ensures.opened in
+    let closed : faults c.close-in-Ok.result ≡ faults after.disk = ap faults c.close-in-Ok.ensures.same in
+    let fresh : faults core.opened ≡ faults core.disk = ap faults c.requires in
+    let last : faults core.opened + since ≡ faults c.close-in-Ok.result = omega (arith, quiet, opened, closed) in
+    reason_stays (TellsClients seen after.history) (λ whole. ⊥) n (g.K.Sink.faults c.args.sink.now) (g.K.Sink.faults c.say_together.new.sink) (faults core.disk) (faults c.close-in-Ok.result)
+    (g.K.Sink.given c.args.sink.now) (g.K.Sink.given c.say_together.new.sink) c.say_together.result c.say_together.ensures.wrote (closed ∙ quiet ∙ opened ∙ fresh)
+    (λ is.
+    let rose = fault_rose on core.history after.history since work.count work.steps work.number seen own (c.say_together.ensures.fault is) in
+    subst (λ (k : ℕ). Rose (faults core.disk) k) last (subst (λ (k : ℕ). Rose k (faults core.opened + since)) fresh rose))
+    c.say_together.ensures.reason
+
+pub returns-in-Err-clause-survives : goal.returns-in-Err-clause-survives
+returns-in-Err-clause-survives g c i left =
+    let d = g.D.Disk in
+    let address = g.A.Address.address in
+    let store : DocStore = record { limits = c.args.core.limits; history = c.args.core.history } in
+    let after = c.run_on-core.result.core in
+    let ran = c.run_on-core.ensures in
+    reads_on address c.reads_what_stands.ensures store after.history ran.grows ran.valid i
+    (subst (λ (l : Limits). MayBeLeft (fix document l address) after.history i) ran.limits (c.moves.ensures.left i (subst (λ k. d.may_leave k i) c.close-in-Err.ensures.same left)))

@@ -1,0 +1,130 @@
+-- Clients that work side by side on one store: what is written of them, and what a crash leaves.
+use Rattle.std.specs.Prelude.{◌≡◌, ℕ, ◌+◌, List, [], ◌∷◌, ◌++◌, codes, length, slice_get, Some, None, option_map}
+use Rattle.std.specs.declared.option.Option.{Option}
+use mathlib.Core.List.{IsPrefix}
+use Rattle.branch_disk.specs.Disk.{Files}
+use Rattle.branch_doc.specs.Document.{document}
+use Rattle.branch_doc.specs.Forms.{doc_op}
+use Rattle.branch_history.specs.Steps as machine
+use Rattle.branch_print.specs.Texts.{refusal_text, line_end}
+use Rattle.branch_print.specs.Reports.{report_text}
+use Rattle.branch_print.specs.Clients.{client_text, client_done_text}
+use Rattle.branch_engine.specs.Play.{History}
+use Rattle.branch_command.specs.Work.{Clients}
+use Rattle.parallel_clients.specs.declared.outcome.ClientRefusal.{ClientRefusal}
+use Rattle.parallel_clients.specs.declared.outcome.ClientRefusal.TheVariants as refused
+use Rattle.parallel_clients.specs.declared.outcome.Outcome.{Outcome}
+use Rattle.parallel_clients.specs.declared.outcome.Outcome.TheVariants as outcome
+use Rattle.parallel_clients.specs.Outcomes.{setting}
+use Rattle.client_runs.specs.Worked.{HaveWorked}
+use Rattle.branch_shell.specs.declared.status.Status.{Status}
+use Rattle.branch_shell.specs.declared.status.Status.TheVariants.{DiskFault, Memory}
+use Rattle.branch_shell.specs.Stores.{ReadsAsStore, IsOpenedAs}
+use Rattle.branch_shell.specs.Documents.{DocStore, fixed_of}
+
+-- the machine's refusal of a client's step; none, where the disk failed or memory was short
+abbrev pub machine_refusal : ClientRefusal → Option machine.Refusal
+machine_refusal (refused.UnknownBranch name) = Some (machine.UnknownBranch name)
+machine_refusal (refused.Exhausted clock) = Some (machine.Exhausted clock)
+machine_refusal (refused.FullCommits count) = Some (machine.FullCommits count)
+machine_refusal (refused.FullBranches count) = Some (machine.FullBranches count)
+machine_refusal (refused.FullMoves count) = Some (machine.FullMoves count)
+machine_refusal (refused.ValueTooLarge size) = Some (machine.ValueTooLarge size)
+machine_refusal (refused.Collision address stored fresh) = Some (machine.Collision address stored fresh)
+machine_refusal refused.DiskFault = None
+machine_refusal (refused.Failed count) = None
+machine_refusal refused.Memory = None
+
+-- the line of a client that was refused
+abbrev pub refused_line : ℕ → machine.Refusal → List ℕ
+refused_line client refusal = (client_text client ++ codes " ") ++ (refusal_text [] refusal ++ line_end)
+
+-- The line of a client: how many moves it landed, or why it was refused. There is none where the disk failed or memory was short, nor of a step that names a session
+-- that has not looked.
+abbrev pub client_line : ℕ → Outcome → Option (List ℕ)
+client_line client (outcome.Done places) = Some (client_done_text client (length places) ++ line_end)
+client_line client (outcome.Refused step refusal places) = option_map (refused_line client) (machine_refusal refusal)
+client_line client (outcome.Unseen step places) = None
+
+-- two texts, where there are both
+abbrev pub both_texts : Option (List ℕ) → Option (List ℕ) → Option (List ℕ)
+both_texts (Some first) (Some second) = Some (first ++ second)
+both_texts _ _ = None
+
+-- a line for each client, from one with a number on; none where one of them has none
+abbrev pub client_lines : ℕ → List Outcome → Option (List ℕ)
+client_lines client [] = Some []
+client_lines client (one ∷ others) = both_texts (client_line client one) (client_lines (client + 1) others)
+
+-- a line for each client, and then the report of a store with this history
+pub record TellsClients (outcomes : List Outcome) (history : History) (text : List ℕ) : Type 0 where
+  pub lines : List ℕ
+  pub told : client_lines 0 outcomes ≡ Some lines
+  pub text_is : text ≡ lines ++ report_text history
+
+-- Clients worked on the store, which came to this history, and this is their text. No line tells how many faults the disk had had when the store was opened, and how
+-- many since.
+pub record WorkedTogether (address : List ℕ → List ℕ) (store : DocStore) (clients : Clients) (history : History) (text : List ℕ) : Type 0 where
+  pub opened : ℕ
+  pub since : ℕ
+  pub outcomes : List Outcome
+  pub worked : HaveWorked (setting (fixed_of address store) doc_op opened) store.history history since clients.count clients.work.steps clients.work.number outcomes
+  pub tells : TellsClients outcomes history text
+
+-- the text of clients that worked on a store, which came to a history that begins with the store's
+abbrev pub SaysOver : (List ℕ → List ℕ) → DocStore → Clients → List ℕ → Type 0
+SaysOver address store clients text = (history : History) × IsPrefix store.history history × WorkedTogether address store clients history text
+
+-- the text of clients that worked on the store that opening found
+abbrev pub SaysTogether : (List ℕ → List ℕ) → Option Files → Clients → List ℕ → Type 0
+SaysTogether address told clients text = (store : DocStore) × IsOpenedAs document address told store × SaysOver address store clients text
+
+-- the store with another history
+abbrev pub with_history : DocStore → History → DocStore
+with_history store history = record { limits = store.limits; history = history }
+
+-- clients worked on a store and this is their text, and each image of the disk reads as the store with the history that they came to
+pub record RanOver {D : Type 0} (may_leave : D → Files → Type 0) (address : List ℕ → List ℕ) (store : DocStore) (clients : Clients) (new : D) (text : List ℕ) : Type 0 where
+  pub history : History
+  pub grown : IsPrefix store.history history
+  pub worked : WorkedTogether address store clients history text
+  pub reads : (c : Files) → may_leave new c → ReadsAsStore document address (with_history store history) c
+
+-- clients worked so on the store that opening found
+abbrev pub RanTogether : {D : Type 0} → (D → Files → Type 0) → (List ℕ → List ℕ) → Option Files → Clients → D → List ℕ → Type 0
+RanTogether may_leave address told clients new text = (store : DocStore) × IsOpenedAs document address told store × RanOver may_leave address store clients new text
+
+-- the files read as the store, with or without moves behind its history
+abbrev pub ReadsOn : (List ℕ → List ℕ) → DocStore → Files → Type 0
+ReadsOn address store c = (history : History) × IsPrefix store.history history × ReadsAsStore document address (with_history store history) c
+
+-- a client's step was not refused for a branch that is not there
+abbrev pub FindsBranch : ClientRefusal → Type 0
+FindsBranch (refused.UnknownBranch name) = ⊥
+FindsBranch refusal = Unit {0}
+
+-- no step of a client named a branch that is not there, or a session that has not looked
+abbrev pub FindsAll : Outcome → Type 0
+FindsAll (outcome.Done places) = Unit {0}
+FindsAll (outcome.Refused step refusal places) = FindsBranch refusal
+FindsAll (outcome.Unseen step places) = ⊥
+
+-- a client's step was refused since the disk had failed
+abbrev pub IsFault : ClientRefusal → Type 0
+IsFault refused.DiskFault = Unit {0}
+IsFault (refused.Failed count) = Unit {0}
+IsFault refusal = ⊥
+
+abbrev pub TellsFault : Outcome → Type 0
+TellsFault (outcome.Refused step refusal places) = IsFault refusal
+TellsFault one = ⊥
+
+-- some client's step was refused since the disk had failed
+abbrev pub SomeTellFault : List Outcome → Type 0
+SomeTellFault outcomes = (client : ℕ) × (one : Outcome) × (slice_get outcomes client ≡ Some one) × TellsFault one
+
+-- writing was stopped for want of memory, or for a fault of the disk that was told
+abbrev pub StopsFor : Type 0 → Status → Type 0
+StopsFor fault DiskFault = fault
+StopsFor fault Memory = Unit {0}
+StopsFor fault status = ⊥

@@ -1,0 +1,181 @@
+// Clients that work side by side on one store.
+ghost use Rattle.std.specs.Prelude.{◌≡◌, ◌++◌, [], ℕ, Some, OnOk, IfErr, IfSome, IsSome};
+ghost use Rattle.std.specs.List.{AllByRecursion};
+ghost use Rattle.branch_disk.specs.Disk.{Files, LeavesOnly};
+ghost use Rattle.branch_doc.specs.Document.{document};
+ghost use Rattle.store_core.specs.Opens.{ReadsAsNone};
+ghost use Rattle.branch_shell.specs.Counts.{HasReason, SaysReason};
+ghost use Rattle.branch_shell.specs.Once.{Answers};
+ghost use Rattle.branch_shell.specs.Stores.{SaysRefused};
+ghost use Rattle.branch_shell.specs.Documents.{DocStore};
+ghost use Rattle.branch_shell.specs.Statuses.{Holds};
+ghost use Rattle.branch_shell.specs.Together.{FindsBranch, FindsAll, IsFault, TellsFault, SomeTellFault, StopsFor, TellsClients, RanOver, RanTogether, ReadsOn, client_line, client_lines, machine_refusal};
+ghost use Rattle.branch_print.specs.Texts.{refusal_text, line_end};
+
+use crate::answer::{put_report, refuse, say};
+use crate::status::Status;
+use branch_address::Address;
+use branch_disk::Disk;
+use branch_files::laws::reads_what_stands;
+use branch_io::Sink;
+use branch_print::clients::{put_client, put_client_done};
+use branch_print::refusals::{
+    put_collision, put_exhausted, put_full_branches, put_full_commits, put_full_moves,
+    put_too_large,
+};
+use client_runs::{Finished, Work, run_on};
+use mrdt_doc::Doc;
+use parallel_clients::{ClientRefusal, Outcome};
+use std::alloc::Global;
+use std::sync::Wait;
+use std::thread::Threads;
+use store_core::Core;
+
+// Writes why a client was refused.
+fn put_client_refusal(out: &mut Vec<u8>, refusal: &ClientRefusal) -> Result<(), Status>
+    requires { FindsBranch refusal.now }
+    ensures ok { OnOk result (IfSome (machine_refusal refusal.now) (λ r. out.new.items ≡ out.old.items ++ (refusal_text [] r ++ line_end))) }
+    ensures told { OnOk result (IsSome (machine_refusal refusal.now)) }
+    ensures err { IfErr result (StopsFor (IsFault refusal.now)) }
+{
+    match refusal {
+        ClientRefusal::Exhausted { clock } => Ok(put_exhausted(out, *clock)?),
+        ClientRefusal::FullCommits { count } => Ok(put_full_commits(out, *count)?),
+        ClientRefusal::FullBranches { count } => Ok(put_full_branches(out, *count)?),
+        ClientRefusal::FullMoves { count } => Ok(put_full_moves(out, *count)?),
+        ClientRefusal::ValueTooLarge { length } => Ok(put_too_large(out, *length)?),
+        ClientRefusal::Collision { address, .. } => Ok(put_collision(out, address)?),
+        ClientRefusal::DiskFault => Err(Status::DiskFault),
+        ClientRefusal::Failed { .. } => Err(Status::DiskFault),
+        ClientRefusal::Memory => Err(Status::Memory),
+        ClientRefusal::UnknownBranch { .. } => unreachable!(),
+    }
+}
+
+// Writes the line of a client.
+fn put_outcome(out: &mut Vec<u8>, client: u64, outcome: &Outcome) -> Result<(), Status>
+    requires { FindsAll outcome.now }
+    ensures ok { OnOk result (IfSome (client_line client outcome.now) (λ line. out.new.items ≡ out.old.items ++ line)) }
+    ensures told { OnOk result (IsSome (client_line client outcome.now)) }
+    ensures err { IfErr result (StopsFor (TellsFault outcome.now)) }
+{
+    match outcome {
+        Outcome::Done { places } => {
+            let moves = places.as_slice().len() as u64;
+            Ok(put_client_done(out, client, moves)?)
+        }
+        Outcome::Refused { refusal, .. } => {
+            put_client(out, client)?;
+            put_client_refusal(out, refusal)
+        }
+        Outcome::Unseen { .. } => unreachable!(),
+    }
+}
+
+// Writes the lines of all clients, in their order.
+fn put_outcomes(out: &mut Vec<u8>, outcomes: &[Outcome]) -> Result<(), Status>
+    requires { AllByRecursion FindsAll outcomes.now }
+    ensures ok { OnOk result (IfSome (client_lines 0 outcomes.now) (λ lines. out.new.items ≡ out.old.items ++ lines)) }
+    ensures told { OnOk result (IsSome (client_lines 0 outcomes.now)) }
+    ensures err { IfErr result (StopsFor (SomeTellFault outcomes.now)) }
+{
+    for (client, outcome) in outcomes.iter().enumerate() {
+        put_outcome(out, client as u64, outcome)?;
+    }
+    Ok(())
+}
+
+// Writes what became of the clients, and then the report of the store.
+fn put_together<D: Disk + Drop, A: Address>(
+    out: &mut Vec<u8>,
+    outcomes: &[Outcome],
+    core: &Core<Doc, D, A>,
+) -> Result<(), Status>
+    requires finds { AllByRecursion FindsAll outcomes.now }
+    requires empty { out.old.items ≡ [] }
+    ensures ok { OnOk result (TellsClients outcomes.now core.now.history out.new.items) }
+    ensures err { IfErr result (StopsFor (SomeTellFault outcomes.now)) }
+{
+    put_outcomes(out, outcomes)?;
+    Ok(put_report(out, core)?)
+}
+
+// Says what became of the clients, and then the report of the store.
+fn say_together<K: Sink, D: Disk + Drop, A: Address>(
+    alloc: Global,
+    sink: &mut K,
+    outcomes: &[Outcome],
+    core: &Core<Doc, D, A>,
+) -> Status
+    requires { AllByRecursion FindsAll outcomes.now }
+    ensures wrote { Answers (TellsClients outcomes.now core.now.history) (λ whole. ⊥) result (K.given sink.old) (K.given sink.new) }
+    ensures fault { result ≡ Status.DiskFault → SomeTellFault outcomes.now }
+    ensures reason { SaysReason (K.faults sink.old) (K.faults sink.new) result }
+{
+    let mut text = Vec::new(alloc);
+    match put_together(&mut text, outcomes, core) {
+        Ok(()) => say(sink, &text, Status::Done),
+        Err(status) => status,
+    }
+}
+
+// Runs clients side by side over a store that was opened, and hands its disk back.
+fn together_over<K: Sink, D: Disk + Drop + Send, A: Address + Send, R: Threads + Wait + Sync>(
+    rt: &R,
+    alloc: Global,
+    core: Core<Doc, D, A>,
+    work: Work,
+    sink: &mut K,
+) -> (Status, D)
+    requires { core.opened ≡ core.disk }
+    ensures wrote { Answers (RanOver D.may_leave A.address (record { limits = core.limits; history = core.history }) (record { count = work.count; work = record { steps = work.steps; number = work.number } }) result.1)
+        (λ whole. ⊥) result.0 (K.given sink.old) (K.given sink.new) }
+    ensures survives { (c : Files) → D.may_leave result.1 c → ReadsOn A.address (record { limits = core.limits; history = core.history }) c }
+    ensures reason { (n : ℕ) → HasReason (record { source = n; sink = K.faults sink.old; disk = D.faults core.disk })
+        (record { source = n; sink = K.faults sink.new; disk = D.faults result.1 }) result.0 }
+    // Where the sink failed, the disk did not.
+    ensures no_fault { result.0 ≡ Status.WriteFault → D.faults result.1 ≡ D.faults core.disk }
+{
+    reads_what_stands::<Doc>();
+    let Finished { core, outcomes } = run_on(rt, alloc, core, work);
+    // Its clauses say what is known of a core.
+    let _ = core.moves();
+    if core.has_failed() {
+        return (Status::DiskFault, core.close());
+    }
+    match outcomes {
+        Ok(outcomes) => (
+            say_together(alloc, sink, outcomes.as_slice(), &core),
+            core.close(),
+        ),
+        Err(_) => (Status::Memory, core.close()),
+    }
+}
+
+/// Runs clients side by side over the store that the disk holds, each in a thread of its own as far as threads are to
+/// be had, and says what became of each and the report of the store after them. Nothing is given to the sink before all
+/// clients are done.
+pub(crate) fn run_together<
+    K: Sink,
+    D: Disk + Drop + Send,
+    A: Address + Send,
+    R: Threads + Wait + Sync,
+>(rt: &R, alloc: Global, work: Work, sink: &mut K, disk: D) -> (Status, D)
+    ensures wrote { Answers (RanTogether D.may_leave A.address (D.contents disk) (record { count = work.count; work = record { steps = work.steps; number = work.number } }) result.1)
+        (SaysRefused document A.address (D.contents disk)) result.0 (K.given sink.old) (K.given sink.new) }
+    // The store is left with the moves of some of the clients' steps behind its history, or with none.
+    ensures crashes { (store : DocStore) → Holds D.contents D.may_leave A.address disk store → (c : Files) → D.may_leave result.1 c → ReadsOn A.address store c }
+    // Where the files are refused, they read as no store, and a crash leaves only what it might have left at the start.
+    ensures refused { result.0 ≡ Status.StoreRefused → LeavesOnly D.moment D.left_since disk result.1 (D.may_leave disk) }
+    ensures refused_only { result.0 ≡ Status.StoreRefused → (f : Files) → D.contents disk ≡ Some f → ReadsAsNone document A.address f }
+    ensures keeps { (f : Files) → D.contents disk ≡ Some f → ReadsAsNone document A.address f → LeavesOnly D.moment D.left_since disk result.1 (D.may_leave disk) }
+    ensures reason { (n : ℕ) → HasReason (record { source = n; sink = K.faults sink.old; disk = D.faults disk })
+        (record { source = n; sink = K.faults sink.new; disk = D.faults result.1 }) result.0 }
+    // Where the sink failed, the disk did not.
+    ensures no_fault { result.0 ≡ Status.WriteFault → D.faults result.1 ≡ D.faults disk }
+{
+    match Core::<Doc, D, A>::open(alloc, disk) {
+        Ok(core) => together_over(rt, alloc, core, work, sink),
+        Err((refusal, disk)) => (refuse(alloc, sink, refusal), disk),
+    }
+}
