@@ -1,5 +1,5 @@
 // Clients side by side: what `clients` writes and leaves, whatever the order in which their steps come.
-use crate::stores::{checks, fresh, made, ran, ran_over, ran_together};
+use crate::stores::{checks, fresh, made, ran, ran_over};
 use branch_address::Sha256Address;
 use branch_disk::{FileDisk, MemoryDisk};
 use branch_shell::Status;
@@ -18,9 +18,9 @@ fn says<R: Threads + Wait + Abort + Sync>(
     disk: MemoryDisk,
     wanted: (Status, &[u8]),
 ) -> Result<MemoryDisk, Fail> {
-    let ran = ran_together(rt, alloc, command, disk)?;
-    assert_eq!(rt; (ran.status, ran.text.as_slice()), wanted);
-    Ok(ran.disk)
+    let (status, text, disk) = ran_over(rt, alloc, command, disk)?;
+    assert_eq!(rt; (status, text.as_slice()), wanted);
+    Ok(disk)
 }
 
 // The number behind the front of a line, up to a space.
@@ -90,10 +90,10 @@ fn eight_clients(rt: HostRuntime) -> Result<(), Fail> {
     let alloc = rt.alloc();
     let disk = MemoryDisk::new(Vec::new(alloc));
     let disk = says(&rt, alloc, "init", disk, (Status::Done, b"ready\n"))?;
-    let ran = ran_together(&rt, alloc, "clients 8 200 7", disk)?;
-    assert_eq!(rt; ran.status, Status::Done);
-    let report = reported(&rt, alloc, &ran.text, 8)?.as_bytes();
-    let _disk = says(&rt, alloc, "check", ran.disk, (Status::Done, report))?;
+    let (status, text, disk) = ran_over(&rt, alloc, "clients 8 200 7", disk)?;
+    assert_eq!(rt; status, Status::Done);
+    let report = reported(&rt, alloc, &text, 8)?.as_bytes();
+    let _disk = says(&rt, alloc, "check", disk, (Status::Done, report))?;
     Ok(())
 }
 

@@ -1,5 +1,5 @@
 // Generated work: what `generate` writes and leaves. The summaries and reports are those of a model of the script in Python.
-use crate::stores::{Bytes, checks, fresh, made, ran, says};
+use crate::stores::{Bytes, Outcome, checks, fresh, made, ran, says};
 use branch_address::Sha256Address;
 use branch_disk::MemoryDisk;
 use branch_shell::Status;
@@ -72,14 +72,19 @@ fn work_is_made_again(rt: HostRuntime) -> Result<(), Fail> {
 fn much_work_is_made_again(rt: HostRuntime) -> Result<(), Fail> {
     let alloc = rt.alloc();
     let command = "generate 2000 7";
-    let first = ran::<Sha256Address>(alloc, command, b"", fresh(&rt, alloc)?)?;
+    let Outcome { status, text, disk } = ran::<Sha256Address>(
+        alloc,
+        command,
+        b"",
+        fresh(&rt, alloc)?,
+    )?;
     let second = ran::<Sha256Address>(alloc, command, b"", fresh(&rt, alloc)?)?;
-    assert_eq!(rt; (first.status, second.status), (Status::Done, Status::Done));
-    assert_eq!(rt; first.text.as_slice(), second.text.as_slice());
-    let Some((_, report)) = str::from_utf8(&first.text)?.split_once('\n') else {
+    assert_eq!(rt; (status, second.status), (Status::Done, Status::Done));
+    assert_eq!(rt; text.as_slice(), second.text.as_slice());
+    let Some((_, report)) = str::from_utf8(&text)?.split_once('\n') else {
         panic!(rt; "no report")
     };
-    let disk = checks::<Sha256Address>(&rt, alloc, first.disk, Status::Done, report.as_bytes())?;
+    let disk = checks::<Sha256Address>(&rt, alloc, disk, Status::Done, report.as_bytes())?;
     let (one, other) = (
         Bytes::of(&rt, alloc, disk),
         Bytes::of(&rt, alloc, second.disk),

@@ -77,17 +77,6 @@ pub fn ran_over<D: Disk + Drop + Send, R: Threads + Wait + Sync>(
     Ok((status, text, disk))
 }
 
-// Runs a command that may start threads, over no input.
-pub fn ran_together<R: Threads + Wait + Sync>(
-    rt: &R,
-    alloc: Global,
-    command: &str,
-    disk: MemoryDisk,
-) -> Result<Outcome, Fail> {
-    let (status, text, disk) = ran_over(rt, alloc, command, disk)?;
-    Ok(Outcome { status, text, disk })
-}
-
 // Runs a command that ends so and writes this, and gives the disk that it left.
 pub fn says<A: Address>(
     rt: &impl Abort,
