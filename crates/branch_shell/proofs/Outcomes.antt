@@ -1,21 +1,16 @@
 -- The lines of clients, what became of these, and what is left of the store on which they worked.
-use Rattle.std.proofs.Common.{zero, suc, ◌≡◌, ◌≢◌, ℕ, ◌+◌, ◌-◌, ◌<◌, List, [], ◌∷◌, ◌++◌, codes, length, take, get_or, length-take-le, refl, ap, sym, subst, ◌∙◌, append_assoc, append-nil, inl, inr, arith}
-use Rattle.std.specs.Prelude.{Option, Some, None, IfSome, IsSome, option_map, slice_get}
+use Rattle.std.proofs.Common.{suc, ◌≡◌, ℕ, ◌+◌, ◌<◌, List, [], ◌∷◌, ◌++◌, length, take, length-take-le, refl, ap, sym, subst, ◌∙◌, append_assoc, append-nil, inl, inr, arith}
+use Rattle.std.specs.Prelude.{Option, Some, None, IfSome, IsSome, slice_get}
 use Rattle.std.specs.Io.KnownBytes.{Appends}
 use Rattle.std.specs.List.{AllByRecursion}
-use Rattle.std.proofs.lemmas.List.{take_more}
 use mathlib.Core.List.{IsPrefix}
 use Rattle.branch_io.specs.Causes.{Rose}
 use Rattle.branch_disk.specs.Disk.{Files}
 use Rattle.branch_doc.specs.Document.{document}
-use Rattle.branch_doc.specs.Forms.{DocOp, DocReply, doc_op}
+use Rattle.branch_doc.specs.Forms.{DocOp, DocReply}
 use Rattle.branch_files.specs.Laws.{ReadsWhatStands}
 use Rattle.branch_history.specs.declared.moves.Move.{Move}
-use Rattle.branch_history.specs.Steps as machine
 use Rattle.branch_machine.specs.Validity.{IsFullyValid}
-use Rattle.branch_print.specs.Texts.{refusal_text, line_end}
-use Rattle.branch_print.specs.Reports.{report_text}
-use Rattle.branch_print.specs.Clients.{client_text}
 use Rattle.branch_engine.specs.Play.{History}
 use Rattle.branch_command.specs.Work.{Clients}
 use Rattle.branch_gen.specs.Clients.{client_steps}
@@ -32,7 +27,7 @@ use Rattle.branch_shell.specs.Counts.{HasReason, SaysReason}
 use Rattle.branch_shell.specs.Once.{Answers, WroteOnce}
 use Rattle.branch_shell.specs.Stores.{ReadsAsStore}
 use Rattle.branch_shell.specs.Documents.{DocStore, fixed_of}
-use Rattle.branch_shell.specs.Together.{refused_line, client_line, both_texts, client_lines, TellsClients, SaysTogether, RanTogether, with_history, ReadsOn, FindsBranch, FindsAll, IsFault, TellsFault, SomeTellFault, StopsFor}
+use Rattle.branch_shell.specs.Together.{client_line, both_texts, client_lines, SaysTogether, RanTogether, with_history, ReadsOn, FindsBranch, FindsAll, IsFault, TellsFault, SomeTellFault, StopsFor}
 
 -- two texts that there are
 record BothThere (a b : Option (List ℕ)) (text : List ℕ) : Type 0 where

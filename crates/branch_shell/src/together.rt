@@ -163,7 +163,7 @@ pub(crate) fn run_together<
 >(rt: &R, alloc: Global, work: Work, sink: &mut K, disk: D) -> (Status, D)
     ensures wrote { Answers (RanTogether D.may_leave A.address (D.contents disk) (record { count = work.count; work = record { steps = work.steps; number = work.number } }) result.1)
         (SaysRefused document A.address (D.contents disk)) result.0 (K.given sink.old) (K.given sink.new) }
-    // The store is left with the moves of some of the clients' steps behind its history, or with none.
+    // However clients end, the files that are left read as the store with or without moves behind its history.
     ensures crashes { (store : DocStore) → Holds D.contents D.may_leave A.address disk store → (c : Files) → D.may_leave result.1 c → ReadsOn A.address store c }
     // Where the files are refused, they read as no store, and a crash leaves only what it might have left at the start.
     ensures refused { result.0 ≡ Status.StoreRefused → LeavesOnly D.moment D.left_since disk result.1 (D.may_leave disk) }

@@ -43,11 +43,14 @@ fn read_clients(alloc: Global, words: &[String]) -> Result<Option<ClientWork>, M
                 steps,
                 number,
             },
-        ) => Ok(Some(ClientWork {
-            count,
-            steps,
-            number,
-        })),
+        ) => {
+            let work = ClientWork {
+                count,
+                steps,
+                number,
+            };
+            Ok(Some(work))
+        }
         Ok(_) => Ok(None),
         Err(CommandRefused::Usage) => Ok(None),
         Err(CommandRefused::Memory) => Err(Memory),
