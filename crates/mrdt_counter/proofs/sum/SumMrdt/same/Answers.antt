@@ -1,7 +1,7 @@
 use Rattle.std.proofs.Common.{rules, subst, FitsSigned}
 use Rattle.std.specs.Int.{w128}
 use Rattle.branch_wire.proofs.Numbers.{wide_signed_number-same}
-use Rattle.mrdt_counter.proofs.counter.CounterMrdt.same.Goals as goal
+use Rattle.mrdt_counter.proofs.sum.SumMrdt.same.Goals as goal
 
 pub returns-clause-spelled : goal.returns-clause-spelled
 returns-clause-spelled c short alike =

@@ -1,7 +1,7 @@
 use Rattle.std.proofs.Common.{rules, ◌+ℤ◌, ◌∙◌, ap, FitsSigned, w64}
 use Rattle.std.proofs.lemmas.Int.{wrapping_add_is, to_z-of_z}
 use Rattle.std.specs.Int.{int_wrap, w128}
-use Rattle.mrdt_counter.proofs.counter.Counter.added.Goals as goal
+use Rattle.mrdt_counter.proofs.sum.Sum.added.Goals as goal
 
 pub returns : goal.returns
 returns c =
