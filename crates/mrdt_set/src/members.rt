@@ -1,5 +1,5 @@
 // The elements of sets, and their live times after operations and merges.
-ghost use Rattle.std.specs.Prelude.{◌≡◌, [], None, List, ℕ, IsTrue, IfOk, OnOk, if◌then◌else◌};
+ghost use Rattle.std.specs.Prelude.{◌≡◌, [], ◌∷◌, None, List, ℕ, IsTrue, IfOk, OnOk, if◌then◌else◌};
 ghost use Rattle.std.specs.Option.{option_copied};
 ghost use Rattle.std.specs.Map.{keys_of};
 ghost use Rattle.std.specs.Cmp.Lexicographic.{slice_cmp};
@@ -10,7 +10,7 @@ ghost use Rattle.mrdt_set.specs.Members.{same_element, times_at, some_times, all
 
 use crate::table::{Table, Times};
 use live_set::Live;
-use mrdt_model::{Bytes, Listing, Memory, Shared};
+use mrdt_model::{Bytes, Listing, Memory, Shared, Time};
 use std::alloc::Global;
 
 // Copies of the elements, in order.
@@ -25,7 +25,7 @@ pub(crate) fn elements_in_order(alloc: Global, members: &Table) -> Result<Listin
 }
 
 // Sets the times of an element, which leaves where there are none.
-pub(crate) fn set_times(
+fn set_times(
     alloc: Global,
     members: &mut Table,
     element: &[u8],
@@ -46,8 +46,33 @@ pub(crate) fn set_times(
     }
 }
 
+// The same elements and times, but for the times of one element, which leaves where there are none.
+pub(crate) fn with_times(
+    alloc: Global,
+    members: &Table,
+    element: &[u8],
+    times: Option<Times>,
+) -> Result<Table, Memory>
+    ensures times { IfOk result (λ table. (k : List ℕ) → times_at table k ≡ (if same_element element.now k then times else times_at members.now k)) }
+    ensures sorted { IfOk result (λ table. IsStrictlySortedBy (slice_cmp nat_cmp) (keys_of table)) }
+{
+    let mut table = members.copy()?;
+    set_times(alloc, &mut table, element, times)?;
+    let _size = table.size();
+    Ok(table)
+}
+
+// The times of an element that was added once.
+pub(crate) fn first_times(alloc: Global, time: Time) -> Result<Times, Memory>
+    ensures { IfOk result (λ times. times ≡ record { time = time; payload = tt } ∷ []) }
+{
+    let mut times = Live::new(alloc);
+    times.add(time, ())?;
+    Shared::new(alloc, times)
+}
+
 // New times, where there are some.
-pub(crate) fn some_new(alloc: Global, times: Live<()>) -> Result<Option<Times>, Memory>
+fn some_new(alloc: Global, times: Live<()>) -> Result<Option<Times>, Memory>
     ensures { IfOk result (λ shared. shared ≡ some_times times) }
 {
     if times.items().is_empty() {

@@ -1,14 +1,21 @@
 // The set, its operations and its laws.
-ghost use Rattle.std.specs.Prelude.{◌≡◌, IfOk, OnOk, IsErrOf};
+ghost use Rattle.std.specs.Prelude.{◌≡◌, ◌++◌, ◌∷◌, [], List, ℕ, IfOk, OnOk, OnErr, IsErrOf};
+ghost use Rattle.std.specs.Option.{option_copied};
+ghost use Rattle.std.specs.Map.{keys_of};
+ghost use Rattle.std.specs.Cmp.Lexicographic.{slice_cmp};
+ghost use Rattle.std.specs.Ordering.{nat_cmp};
+ghost use Rattle.std.specs.List.Sorted.{IsStrictlySortedBy};
+ghost use Rattle.mrdt_model.specs.Spelled.{AppendsPart};
 ghost use Rattle.mrdt_set.specs.declared.set.SetOp.{SetOp as SpecOp};
-ghost use Rattle.mrdt_set.specs.Set.{IsSetOp, op_spelling, IsOpSpelling};
+ghost use Rattle.mrdt_set.specs.Members.{times_at};
+ghost use Rattle.mrdt_set.specs.Set.{IsSetOp, element_of, times_after, op_spelling, IsOpSpelling};
 
-use crate::members::{Sides, elements_in_order, merged, set_times, some_new};
+use crate::members::{Sides, elements_in_order, first_times, merged, with_times};
 use crate::same::same_tables;
 use crate::spelled::{put_members, take_members};
 use crate::table::Table;
 use branch_wire::Cursor;
-use live_set::{Live, unit_reply, whole_text};
+use live_set::{unit_reply, whole_text};
 use mrdt_model::{Bytes, Listing, Memory, Mrdt, Time, Unread};
 use std::alloc::Global;
 use std::marker::Model;
@@ -17,6 +24,8 @@ const ADD: u8 = 1;
 
 const REMOVE: u8 = 2;
 
+const CLEAR: u8 = 3;
+
 /// An operation of a set.
 #[derive(Drop)]
 pub enum SetOp {
@@ -24,43 +33,55 @@ pub enum SetOp {
     Add(Bytes),
     /// Takes an element away where it has been seen.
     Remove(Bytes),
+    /// Takes all elements away where they have been seen.
+    Clear,
 }
 
 impl SetOp {
-    ghost use Rattle.std.specs.Prelude.{◌≡◌, IfOk};
-    ghost use Rattle.mrdt_set.specs.Set.{element_of, word_of, times_after};
-
-    /// The element that the operation adds or takes away.
-    pub fn element(&self) -> &Bytes
-        ensures { result.now ≡ element_of self.now }
+    /// The element that the operation adds or takes away. A Clear names none.
+    pub fn element(&self) -> Option<&Bytes>
+        ensures { option_copied result ≡ element_of self.now }
     {
         match self {
-            SetOp::Add(element) => element,
-            SetOp::Remove(element) => element,
+            SetOp::Add(element) | SetOp::Remove(element) => Some(element),
+            SetOp::Clear => None,
         }
     }
+}
 
-    // The byte that the operation's spelling begins with.
-    fn word(&self) -> u8
-        ensures { result ≡ word_of self.now }
-    {
-        match self {
-            SetOp::Add(_) => ADD,
-            SetOp::Remove(_) => REMOVE,
-        }
-    }
+// The table of no members.
+fn no_members(alloc: Global) -> Table
+    ensures none { result ≡ [] }
+    ensures sorted { IsStrictlySortedBy (slice_cmp nat_cmp) (keys_of result) }
+{
+    let members = Table::new(alloc);
+    let _size = members.size();
+    members
+}
 
-    // The element's live times after the operation.
-    fn times(&self, alloc: Global, time: Time) -> Result<Live<()>, Memory>
-        ensures { IfOk result (λ times. times ≡ times_after self.now time) }
-    {
-        let mut times = Live::new(alloc);
-        match self {
-            SetOp::Add(_) => times.add(time, ())?,
-            SetOp::Remove(_) => (),
+// The members after an operation that has seen them all. A Clear looks at none of them.
+fn after(alloc: Global, members: &Table, op: &SetOp, time: Time) -> Result<Table, Memory>
+    ensures known { IfOk result (λ _table. IsSetOp op.now) }
+    ensures times { IfOk result (λ table. (k : List ℕ) → times_at table k ≡ times_after op.now time k (times_at members.now k)) }
+    ensures sorted { IfOk result (λ table. IsStrictlySortedBy (slice_cmp nat_cmp) (keys_of table)) }
+{
+    match op {
+        SetOp::Add(element) => {
+            let times = first_times(alloc, time)?;
+            with_times(alloc, members, element.as_slice(), Some(times))
         }
-        Ok(times)
+        SetOp::Remove(element) => with_times(alloc, members, element.as_slice(), None),
+        SetOp::Clear => Ok(no_members(alloc)),
     }
+}
+
+// Writes a byte, and behind it an element.
+fn put_word(word: u8, element: &[u8], out: &mut Vec<u8>) -> Result<(), Memory>
+    ensures ok { OnOk result (out.new.items ≡ out.old.items ++ word ∷ element.now) }
+    ensures err { OnErr result (AppendsPart out.old.items out.new.items (word ∷ element.now)) }
+{
+    out.push(word)?;
+    Ok(out.extend_from_slice(element)?)
 }
 
 // Reads an operation that is the whole of the bytes. What is outside the grammar is refused before any memory is
@@ -76,6 +97,7 @@ fn get_op(alloc: Global, bytes: &[u8]) -> Result<SetOp, Unread>
     match bytes.split_first() {
         Some((&ADD, rest)) => Ok(SetOp::Add(whole_text(alloc, rest)?)),
         Some((&REMOVE, rest)) => Ok(SetOp::Remove(whole_text(alloc, rest)?)),
+        Some((&CLEAR, [])) => Ok(SetOp::Clear),
         _ => Err(Unread::NotCanonical),
     }
 }
@@ -102,8 +124,8 @@ pub enum SetAnswer {
     Count(u64),
 }
 
-/// A set. Contracts see its elements, in byte order, each with the times of the Adds that no operation on it has
-/// seen.
+/// A set. Contracts see its elements, in byte order, each with the times of the Adds that no operation on it and no
+/// Clear has seen.
 #[derive(Drop)]
 pub struct Set {
     alloc: Global,
@@ -171,16 +193,10 @@ impl Mrdt for Set {
     }
 
     fn apply(&self, op: &SetOp, time: Time) -> Result<(Set, ()), Memory> {
-        let element = op.element().as_slice();
-        let mut members = self.members.copy()?;
-        let after = op.times(self.alloc, time)?;
-        let times = some_new(self.alloc, after)?;
-        set_times(self.alloc, &mut members, element, times)?;
-        let _size = members.size();
         Ok((
             Set {
                 alloc: self.alloc,
-                members,
+                members: after(self.alloc, &self.members, op, time)?,
             },
             (),
         ))
@@ -222,8 +238,11 @@ impl Mrdt for Set {
     }
 
     fn put_op(op: &SetOp, out: &mut Vec<u8>) -> Result<(), Memory> {
-        out.push(op.word())?;
-        Ok(out.extend_from_slice(op.element().as_slice())?)
+        match op {
+            SetOp::Add(element) => put_word(ADD, element.as_slice(), out),
+            SetOp::Remove(element) => put_word(REMOVE, element.as_slice(), out),
+            SetOp::Clear => put_word(CLEAR, &[], out),
+        }
     }
 
     fn get_op(alloc: Global, bytes: &[u8]) -> Result<SetOp, Unread> {
