@@ -1,19 +1,14 @@
 // The set, its operations and its laws.
-ghost use Rattle.std.specs.Prelude.{◌≡◌, ◌++◌, ◌∷◌, [], List, ℕ, IfOk, OnOk, OnErr, IsErrOf};
+ghost use Rattle.std.specs.Prelude.{◌≡◌, ◌++◌, ◌∷◌, IfOk, OnOk, OnErr, IsErrOf};
 ghost use Rattle.std.specs.Option.{option_copied};
-ghost use Rattle.std.specs.Map.{keys_of};
-ghost use Rattle.std.specs.Cmp.Lexicographic.{slice_cmp};
-ghost use Rattle.std.specs.Ordering.{nat_cmp};
-ghost use Rattle.std.specs.List.Sorted.{IsStrictlySortedBy};
 ghost use Rattle.mrdt_model.specs.Spelled.{AppendsPart};
 ghost use Rattle.mrdt_set.specs.declared.set.SetOp.{SetOp as SpecOp};
-ghost use Rattle.mrdt_set.specs.Members.{times_at};
-ghost use Rattle.mrdt_set.specs.Set.{IsSetOp, element_of, times_after, op_spelling, IsOpSpelling};
+ghost use Rattle.mrdt_set.specs.Set.{IsSetOp, element_of, op_spelling, IsOpSpelling};
 
 use crate::members::{Sides, elements_in_order, first_times, merged, with_times};
 use crate::same::same_tables;
 use crate::spelled::{put_members, take_members};
-use crate::table::Table;
+use crate::table::{Table, Times};
 use branch_wire::Cursor;
 use live_set::{unit_reply, whole_text};
 use mrdt_model::{Bytes, Listing, Memory, Mrdt, Time, Unread};
@@ -46,32 +41,6 @@ impl SetOp {
             SetOp::Add(element) | SetOp::Remove(element) => Some(element),
             SetOp::Clear => None,
         }
-    }
-}
-
-// The table of no members.
-fn no_members(alloc: Global) -> Table
-    ensures none { result ≡ [] }
-    ensures sorted { IsStrictlySortedBy (slice_cmp nat_cmp) (keys_of result) }
-{
-    let members = Table::new(alloc);
-    let _size = members.size();
-    members
-}
-
-// The members after an operation that has seen them all. A Clear looks at none of them.
-fn after(alloc: Global, members: &Table, op: &SetOp, time: Time) -> Result<Table, Memory>
-    ensures known { IfOk result (λ _table. IsSetOp op.now) }
-    ensures times { IfOk result (λ table. (k : List ℕ) → times_at table k ≡ times_after op.now time k (times_at members.now k)) }
-    ensures sorted { IfOk result (λ table. IsStrictlySortedBy (slice_cmp nat_cmp) (keys_of table)) }
-{
-    match op {
-        SetOp::Add(element) => {
-            let times = first_times(alloc, time)?;
-            with_times(alloc, members, element.as_slice(), Some(times))
-        }
-        SetOp::Remove(element) => with_times(alloc, members, element.as_slice(), None),
-        SetOp::Clear => Ok(no_members(alloc)),
     }
 }
 
@@ -142,8 +111,14 @@ impl Model for Set {
 }
 
 impl Set {
-    ghost use Rattle.std.specs.Prelude.{◌≡◌, length, is_some, IfOk};
-    ghost use Rattle.mrdt_set.specs.Members.{times_at};
+    ghost use Rattle.std.specs.Prelude.{◌≡◌, [], length, is_some, if◌then◌else◌, List, ℕ, IfOk};
+    ghost use Rattle.std.specs.Map.{keys_of};
+    ghost use Rattle.std.specs.Cmp.Lexicographic.{slice_cmp};
+    ghost use Rattle.std.specs.Ordering.{nat_cmp};
+    ghost use Rattle.std.specs.List.Sorted.{IsStrictlySortedBy};
+    ghost use Rattle.mrdt_model.specs.Spelled.{IsBytes};
+    ghost use Rattle.mrdt_set.specs.Members.{same_element, times_at};
+    ghost use Rattle.mrdt_set.specs.Set.{IsSetOp, times_after};
 
     /// Whether the element is in the set. It takes no memory.
     pub fn contains(&self, element: &[u8]) -> bool
@@ -157,6 +132,44 @@ impl Set {
         ensures { result ≡ length self.now }
     {
         self.members.size() as u64
+    }
+
+    /// The set after a Clear that has seen all. It takes no memory, and looks at no element.
+    pub fn cleared(&self) -> Set
+        ensures { result ≡ [] }
+    {
+        Set {
+            alloc: self.alloc,
+            members: Table::new(self.alloc),
+        }
+    }
+
+    // The same set, but for the times of one element, which leaves where there are none.
+    fn with_times(&self, element: &Bytes, times: Option<Times>) -> Result<Set, Memory>
+        ensures times { IfOk result (λ set. (k : List ℕ) → times_at set k ≡ (if same_element element.now k then times else times_at self.now k)) }
+        ensures sorted { IfOk result (λ set. IsStrictlySortedBy (slice_cmp nat_cmp) (keys_of set)) }
+        ensures known { IsBytes element.now }
+    {
+        Ok(Set {
+            alloc: self.alloc,
+            members: with_times(self.alloc, &self.members, element.as_slice(), times)?,
+        })
+    }
+
+    // The set after an operation that has seen all.
+    fn after(&self, op: &SetOp, time: Time) -> Result<Set, Memory>
+        ensures known { IfOk result (λ _set. IsSetOp op.now) }
+        ensures times { IfOk result (λ set. (k : List ℕ) → times_at set k ≡ times_after op.now time k (times_at self.now k)) }
+        ensures sorted { IfOk result (λ set. IsStrictlySortedBy (slice_cmp nat_cmp) (keys_of set)) }
+    {
+        match op {
+            SetOp::Add(element) => {
+                let times = first_times(self.alloc, time)?;
+                self.with_times(element, Some(times))
+            }
+            SetOp::Remove(element) => self.with_times(element, None),
+            SetOp::Clear => Ok(self.cleared()),
+        }
     }
 }
 
@@ -193,13 +206,7 @@ impl Mrdt for Set {
     }
 
     fn apply(&self, op: &SetOp, time: Time) -> Result<(Set, ()), Memory> {
-        Ok((
-            Set {
-                alloc: self.alloc,
-                members: after(self.alloc, &self.members, op, time)?,
-            },
-            (),
-        ))
+        Ok((self.after(op, time)?, ()))
     }
 
     fn merge(base: &Set, left: &Set, right: &Set) -> Result<Set, Memory> {
