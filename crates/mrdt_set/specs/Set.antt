@@ -15,7 +15,7 @@ use Rattle.mrdt_set.specs.declared.set.SetQuery.{SetQuery}
 use Rattle.mrdt_set.specs.declared.set.SetQuery.TheVariants.{Contains, Members, Size}
 use Rattle.mrdt_set.specs.declared.set.SetAnswer.{SetAnswer}
 use Rattle.mrdt_set.specs.declared.set.SetAnswer.TheVariants.{IsIn, All, Count}
-use Rattle.mrdt_set.specs.Members.{Times, same_element, set_spelling, IsSetSpelling}
+use Rattle.mrdt_set.specs.Members.{Times, same_element, times_at, set_spelling, IsSetSpelling}
 
 -- the element that an operation adds or takes away; a Clear names none
 abbrev pub element_of : SetOp → Option (List ℕ)
@@ -35,6 +35,10 @@ abbrev pub times_after : SetOp → Time → List ℕ → Option Times → Option
 times_after (Add x) t k old = if same_element x k then Some (record { time = t; payload = tt } ∷ []) else old
 times_after (Remove x) t k old = if same_element x k then None else old
 times_after Clear t k old = None
+
+-- the new members have at each element what an operation leaves that has seen the old ones
+abbrev pub IsAfter : SetOp → Time → List (List ℕ × Times) → List (List ℕ × Times) → Type 0
+IsAfter op t old new = (k : List ℕ) → times_at new k ≡ times_after op t k (times_at old k)
 
 abbrev pub IsSetOp : SetOp → Type 0
 IsSetOp (Add x) = IsBytes x

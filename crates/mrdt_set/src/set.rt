@@ -58,7 +58,8 @@ fn put_word(word: u8, element: &[u8], out: &mut Vec<u8>) -> Result<(), Memory>
 fn get_op(alloc: Global, bytes: &[u8]) -> Result<SetOp, Unread>
     ensures spelled { IfOk result (λ op. op_spelling op ≡ bytes.now) }
     ensures known { IfOk result IsSetOp }
-    ensures equal { IfOk result (λ op. (other : SpecOp) → IsSetOp other → op_spelling other ≡ bytes.now → op ≡ other) }
+    ensures equal { IfOk result (λ op. (other : SpecOp) → IsSetOp other
+        → op_spelling other ≡ bytes.now → op ≡ other) }
     ensures inside { OnOk result (IsOpSpelling bytes.now) }
     ensures outside { IsErrOf result Unread.NotCanonical → ¬ IsOpSpelling bytes.now }
     ensures refused { ¬ IsOpSpelling bytes.now → IsErrOf result Unread.NotCanonical }
@@ -111,14 +112,10 @@ impl Model for Set {
 }
 
 impl Set {
-    ghost use Rattle.std.specs.Prelude.{◌≡◌, [], length, is_some, if◌then◌else◌, List, ℕ, IfOk};
-    ghost use Rattle.std.specs.Map.{keys_of};
-    ghost use Rattle.std.specs.Cmp.Lexicographic.{slice_cmp};
-    ghost use Rattle.std.specs.Ordering.{nat_cmp};
-    ghost use Rattle.std.specs.List.Sorted.{IsStrictlySortedBy};
+    ghost use Rattle.std.specs.Prelude.{◌≡◌, [], length, is_some, IfOk};
     ghost use Rattle.mrdt_model.specs.Spelled.{IsBytes};
-    ghost use Rattle.mrdt_set.specs.Members.{same_element, times_at};
-    ghost use Rattle.mrdt_set.specs.Set.{IsSetOp, times_after};
+    ghost use Rattle.mrdt_set.specs.Members.{times_at, AreInOrder, ChangesOnly};
+    ghost use Rattle.mrdt_set.specs.Set.{IsSetOp, IsAfter};
 
     /// Whether the element is in the set. It takes no memory.
     pub fn contains(&self, element: &[u8]) -> bool
@@ -146,8 +143,8 @@ impl Set {
 
     // The same set, but for the times of one element, which leaves where there are none.
     fn with_times(&self, element: &Bytes, times: Option<Times>) -> Result<Set, Memory>
-        ensures times { IfOk result (λ set. (k : List ℕ) → times_at set k ≡ (if same_element element.now k then times else times_at self.now k)) }
-        ensures sorted { IfOk result (λ set. IsStrictlySortedBy (slice_cmp nat_cmp) (keys_of set)) }
+        ensures times { IfOk result (ChangesOnly element.now times self.now) }
+        ensures sorted { IfOk result AreInOrder }
         ensures known { IsBytes element.now }
     {
         Ok(Set {
@@ -159,8 +156,8 @@ impl Set {
     // The set after an operation that has seen all.
     fn after(&self, op: &SetOp, time: Time) -> Result<Set, Memory>
         ensures known { IfOk result (λ _set. IsSetOp op.now) }
-        ensures times { IfOk result (λ set. (k : List ℕ) → times_at set k ≡ times_after op.now time k (times_at self.now k)) }
-        ensures sorted { IfOk result (λ set. IsStrictlySortedBy (slice_cmp nat_cmp) (keys_of set)) }
+        ensures times { IfOk result (IsAfter op.now time self.now) }
+        ensures sorted { IfOk result AreInOrder }
     {
         match op {
             SetOp::Add(element) => {
