@@ -1,7 +1,5 @@
-use Rattle.std.proofs.Common.{rules, ◌<◌, ◌^◌, ◌∙◌, ◌∷◌, refl, ap}
+use Rattle.std.proofs.Common.{rules, ◌<◌, ◌^◌, ◌∷◌, refl}
 use Rattle.mrdt_model.specs.Executions.{next_event}
-use Rattle.mrdt_set.specs.Members.{times_at}
-use Rattle.mrdt_set.specs.Set.{times_after}
 use Rattle.mrdt_set.proofs.Standing.{next-sound, set-found, applied-at}
 use Rattle.mrdt_set.proofs.set.SetMrdt.apply.Goals as goal
 
