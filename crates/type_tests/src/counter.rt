@@ -31,15 +31,15 @@ fn a_reset_takes_what_it_has_seen(rt: HostRuntime) -> Result<(), Fail> {
     Ok(())
 }
 
-// An Add that the reset has not seen stays beside the base's, which the other side has reset.
+// Adds that the other side's reset has not seen stay, and their sum is exact beyond 64 bits.
 #[test]
-fn adds_of_both_sides_are_summed(rt: HostRuntime) -> Result<(), Fail> {
-    let alloc = rt.alloc();
-    let base = after(&Counter::initial(alloc), &CounterOp::Add(5), at(1, 1))?;
-    let left = after(&base, &CounterOp::Add(i64::MIN), at(2, 1))?;
+fn a_reset_leaves_what_it_has_not_seen(rt: HostRuntime) -> Result<(), Fail> {
+    let base = after(&Counter::initial(rt.alloc()), &CounterOp::Add(5), at(1, 1))?;
+    let left = after(&base, &CounterOp::Reset, at(2, 1))?;
     let right = after(&base, &CounterOp::Add(i64::MIN), at(2, 2))?;
+    let right = after(&right, &CounterOp::Add(i64::MIN), at(3, 2))?;
     let both = Counter::merge(&base, &left, &right)?;
-    assert!(rt; both.value() == -18_446_744_073_709_551_611);
+    assert!(rt; both.value() == -18_446_744_073_709_551_616);
     Ok(())
 }
 
