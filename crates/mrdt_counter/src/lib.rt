@@ -7,6 +7,3 @@ pub mod sum;
 
 pub use counter::{Counter, CounterOp, CounterQuery};
 pub use sum::{Sum, SumOp};
-
-#[cfg(test)]
-mod tests;
