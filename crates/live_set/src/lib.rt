@@ -17,6 +17,3 @@ mod walk;
 pub use kept::Kept;
 pub use live::Live;
 pub use payload::{Payload, shared_text, whole_text};
-
-#[cfg(test)]
-mod tests;

@@ -1,11 +1,11 @@
 // What a live set holds at a time.
 ghost use Rattle.std.specs.Prelude.{◌≡◌, ◌↔◌, ◌++◌, [], List, ℕ, IsTrue, IfOk, OnOk, OnErr, IsErrOf};
 ghost use Rattle.mrdt_model.specs.Spelled.{AppendsPart};
-ghost use Rattle.branch_wire.specs.Fields.{field};
+ghost use Rattle.branch_wire.specs.Fields.{field, signed_number};
 ghost use Rattle.branch_wire.specs.Reading.{ReadsOneWay};
-ghost use Rattle.live_set.specs.Payloads.{IsNothing, nothing_spelling, IsShortText, nothing_way, text_way};
+ghost use Rattle.live_set.specs.Payloads.{IsNothing, nothing_spelling, IsAmount, IsShortText, nothing_way, amount_way, text_way};
 
-use branch_wire::{Cursor, put_bytes};
+use branch_wire::{Cursor, put_bytes, put_i64};
 use mrdt_model::{Bytes, Memory, Shared, Unread};
 use std::alloc::Global;
 
@@ -65,6 +65,30 @@ impl Payload for () {
     }
 
     ghost one_way = { nothing_way };
+}
+
+impl Payload for i64 {
+    ghost fits = { IsAmount };
+
+    ghost spelling = { signed_number };
+
+    fn copy(&self) -> Result<i64, Memory> {
+        Ok(*self)
+    }
+
+    fn same(&self, other: &i64) -> bool {
+        *self == *other
+    }
+
+    fn put(&self, out: &mut Vec<u8>) -> Result<(), Memory> {
+        put_i64(*self, out)
+    }
+
+    fn take(_alloc: Global, cursor: &mut Cursor<'_>) -> Result<i64, Unread> {
+        Ok(cursor.take_i64()?)
+    }
+
+    ghost one_way = { amount_way };
 }
 
 /// The text that is the whole of the bytes.

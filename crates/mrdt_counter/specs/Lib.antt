@@ -1,3 +1,6 @@
 pub mod Counter
-pub mod Sums
+pub mod Values
 pub mod CounterLaws
+pub mod Sum
+pub mod Sums
+pub mod SumLaws

@@ -1,27 +1,30 @@
 // The counter, its operations and its laws.
-ghost use Rattle.std.specs.Prelude.{◌≡◌, ◌+ℤ◌, ◌-ℤ◌};
-ghost use Rattle.std.specs.Int.{int_wrap, w128};
-ghost use Rattle.mrdt_counter.specs.Counter.{amount as amount_of, IsAmount};
+ghost use Rattle.std.specs.Prelude.{◌≡◌, ◌∷◌, [], IfOk};
+ghost use Rattle.live_set.specs.Payloads.{IsAmount};
+ghost use Rattle.live_set.specs.Entries.{kept_times, IsRising, MergesEntries};
+ghost use Rattle.mrdt_counter.specs.Counter.{sum_of};
 
-use branch_wire::{Cursor, put_i64, put_i128};
-use live_set::unit_reply;
+use branch_wire::{Cursor, put_i64};
+use live_set::{Kept, Live, unit_reply};
 use mrdt_model::{Memory, Mrdt, Time, Unread};
 use std::alloc::Global;
 use std::marker::Model;
 
-/// A number that operations add to, which contracts see as that number. It wraps at 128 bits, which fewer
-/// than 2^32 operations never reach.
+/// Amounts that operations add, of which a reset takes away those that it has seen. Contracts see the amounts that
+/// no reset has seen with the times of their operations, by rising time.
 #[derive(Drop)]
 pub struct Counter {
-    total: i128,
+    alloc: Global,
+    adds: Live<i64>,
 }
 
 impl Model for Counter {
-    ghost use Rattle.std.specs.Prelude.{ℤ};
+    ghost use Rattle.std.specs.Prelude.{List, ℤ};
+    ghost use Rattle.live_set.specs.declared.kept.Kept.{Kept};
 
-    ghost Value = { ℤ };
+    ghost Value = { List (Kept ℤ) };
 
-    ghost view = { λ c. c.total };
+    ghost view = { λ c. c.adds };
 }
 
 /// An operation of a counter.
@@ -29,53 +32,64 @@ impl Model for Counter {
 pub enum CounterOp {
     /// Adds an amount, which may be negative.
     Add(i64),
+    /// Takes away all amounts that it has seen.
+    Reset,
 }
 
-/// A query of a counter.
+/// A query of a counter or of a sum.
 #[derive(Clone, Copy, Debug, PartialEq, Eq)]
 pub enum CounterQuery {
-    /// The sum of the amounts added.
+    /// The sum of the amounts.
     Value,
 }
 
-impl CounterOp {
-    /// What the operation adds.
-    pub fn amount(&self) -> i64
-        ensures value { result ≡ amount_of self.now }
-        ensures known { IsAmount self.now }
-    {
-        match self {
-            CounterOp::Add(amount) => *amount,
-        }
+// The amount of an entry.
+fn amount_of(kept: &Kept<i64>) -> i64
+    ensures value { result ≡ kept.now.payload }
+    ensures in_range { IsAmount kept.now.payload }
+{
+    kept.payload
+}
+
+// The sum of the amounts of entries.
+fn sum_of(entries: &[Kept<i64>]) -> i128
+    ensures { result ≡ sum_of entries.now }
+{
+    let mut sum: i128 = 0;
+    for kept in entries {
+        sum += i128::from(amount_of(kept));
     }
+    sum
 }
 
 impl Counter {
-    /// The counter's number.
+    /// The sum of the amounts that no reset has seen, with no wrapping. It takes no memory.
     pub fn value(&self) -> i128
-        ensures { result ≡ self.now }
+        ensures { result ≡ sum_of self.now }
     {
-        self.total
+        sum_of(self.adds.items())
     }
 
-    /// The counter with an amount added.
-    pub fn added(&self, amount: i64) -> Counter
-        ensures { result ≡ int_wrap w128 (self.now +ℤ amount) }
+    // The counter with one amount more.
+    fn with_add(&self, amount: i64, time: Time) -> Result<Counter, Memory>
+        ensures merges { IfOk result (MergesEntries [] self.now (record { time = time; payload = amount } ∷ [])) }
+        ensures rising { IfOk result (λ counter. IsRising (kept_times counter)) }
     {
-        Counter {
-            total: self.total.wrapping_add(i128::from(amount)),
-        }
+        let mut added = Live::new(self.alloc);
+        added.add(time, amount)?;
+        Ok(Counter {
+            alloc: self.alloc,
+            adds: Live::merge(&Live::new(self.alloc), &self.adds, &added)?,
+        })
     }
 
-    /// What both sides have added to the base, and the base.
-    pub fn merged(base: &Counter, left: &Counter, right: &Counter) -> Counter
-        ensures { result ≡ int_wrap w128 ((left.now +ℤ right.now) -ℤ base.now) }
+    // The counter after a reset that has seen all. It takes no memory.
+    fn reset(&self) -> Counter
+        ensures { result ≡ [] }
     {
         Counter {
-            total: left
-                .total
-                .wrapping_add(right.total)
-                .wrapping_sub(base.total),
+            alloc: self.alloc,
+            adds: Live::new(self.alloc),
         }
     }
 }
@@ -94,51 +108,66 @@ impl Mrdt for Counter {
 
     ghost meaning = { counter_meaning };
 
-    fn initial(_alloc: Global) -> Counter {
-        Counter { total: 0 }
+    fn initial(alloc: Global) -> Counter {
+        Counter {
+            alloc,
+            adds: Live::new(alloc),
+        }
     }
 
     fn copy(&self) -> Result<Counter, Memory> {
-        Ok(Counter { total: self.total })
+        Ok(Counter {
+            alloc: self.alloc,
+            adds: self.adds.copy()?,
+        })
     }
 
     fn same(&self, other: &Counter) -> bool {
-        self.total == other.total
+        self.adds.same(&other.adds)
     }
 
-    fn apply(&self, op: &CounterOp, _time: Time) -> Result<(Counter, ()), Memory> {
-        Ok((self.added(op.amount()), ()))
+    fn apply(&self, op: &CounterOp, time: Time) -> Result<(Counter, ()), Memory> {
+        match op {
+            CounterOp::Add(amount) => Ok((self.with_add(*amount, time)?, ())),
+            CounterOp::Reset => Ok((self.reset(), ())),
+        }
     }
 
     fn merge(base: &Counter, left: &Counter, right: &Counter) -> Result<Counter, Memory> {
-        Ok(Counter::merged(base, left, right))
+        Ok(Counter {
+            alloc: left.alloc,
+            adds: Live::merge(&base.adds, &left.adds, &right.adds)?,
+        })
     }
 
     fn answer(&self, query: &CounterQuery) -> Result<i128, Memory> {
         match query {
-            CounterQuery::Value => Ok(self.total),
+            CounterQuery::Value => Ok(self.value()),
         }
     }
 
     fn put(&self, out: &mut Vec<u8>) -> Result<(), Memory> {
-        put_i128(self.total, out)
+        self.adds.put(out)
     }
 
-    fn get(_alloc: Global, bytes: &[u8]) -> Result<Counter, Unread> {
-        let mut cursor = Cursor::new(bytes);
-        let total = cursor.take_i128()?;
-        if cursor.is_at_end() {
-            Ok(Counter { total })
-        } else {
-            Err(Unread::NotCanonical)
-        }
+    fn get(alloc: Global, bytes: &[u8]) -> Result<Counter, Unread> {
+        Ok(Counter {
+            alloc,
+            adds: Live::get(alloc, bytes)?,
+        })
     }
 
     fn put_op(op: &CounterOp, out: &mut Vec<u8>) -> Result<(), Memory> {
-        put_i64(op.amount(), out)
+        match op {
+            CounterOp::Add(amount) => put_i64(*amount, out),
+            CounterOp::Reset => Ok(()),
+        }
     }
 
     fn get_op(_alloc: Global, bytes: &[u8]) -> Result<CounterOp, Unread> {
+        if bytes.is_empty() {
+            return Ok(CounterOp::Reset);
+        }
         let mut cursor = Cursor::new(bytes);
         let amount = cursor.take_i64()?;
         if cursor.is_at_end() {

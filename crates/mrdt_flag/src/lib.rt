@@ -4,6 +4,3 @@
 pub mod flag;
 
 pub use flag::{Flag, FlagOp, FlagQuery};
-
-#[cfg(test)]
-mod tests;

@@ -4,6 +4,3 @@
 pub mod log;
 
 pub use log::{Log, LogAnswer, LogOp, LogQuery};
-
-#[cfg(test)]
-mod tests;

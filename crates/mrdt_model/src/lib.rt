@@ -11,10 +11,7 @@ pub mod bytes;
 pub mod errors;
 pub mod listing;
 pub mod mrdt;
-pub mod shared;
-#[cfg(test)]
-mod tests;
-pub mod time;
+pub mod shared;pub mod time;
 
 pub use bytes::Bytes;
 pub use errors::{Memory, Unread};

@@ -11,6 +11,3 @@ mod spelling;
 
 pub use op::{QueueAnswer, QueueOp, QueueQuery, QueueReply};
 pub use queue::Queue;
-
-#[cfg(test)]
-mod tests;

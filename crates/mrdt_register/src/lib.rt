@@ -8,6 +8,3 @@ pub mod op;
 pub use lww::{Lww, LwwQuery};
 pub use multi::{Multi, MultiQuery};
 pub use op::RegisterOp;
-
-#[cfg(test)]
-mod tests;

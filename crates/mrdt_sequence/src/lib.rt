@@ -17,6 +17,3 @@ mod spelling;
 pub use node::Node;
 pub use op::{SequenceAnswer, SequenceOp, SequenceQuery};
 pub use sequence::Sequence;
-
-#[cfg(test)]
-mod tests;

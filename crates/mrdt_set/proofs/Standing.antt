@@ -1,5 +1,5 @@
 -- Sets that stand for executions, told by what they have at each element.
-use Rattle.std.proofs.Common.{◌≡◌, ℕ, Bool, true, false, cond, is_some, List, [], ◌∷◌, refl, ◌∙◌, ap, sym}
+use Rattle.std.proofs.Common.{◌≡◌, ℕ, Bool, true, false, cond, None, Some, is_some, List, [], ◌∷◌, refl, ◌∙◌, ap, sym}
 use Rattle.std.specs.Map.{keys_of}
 use Rattle.std.specs.List.Sorted.{IsStrictlySortedBy}
 use Rattle.mrdt_model.specs.declared.time.Time.{Time}
@@ -13,9 +13,9 @@ use Rattle.live_set.specs.UnitReply.{IsAnyReply, no_reply}
 use Rattle.live_set.proofs.Standing.{merged-live, live-next}
 use Rattle.mrdt_model.proofs.SameEvents.{own-times}
 use Rattle.mrdt_set.specs.declared.set.SetOp.{SetOp}
-use Rattle.mrdt_set.specs.declared.set.SetOp.TheVariants.{Add, Remove}
+use Rattle.mrdt_set.specs.declared.set.SetOp.TheVariants.{Add, Remove, Clear}
 use Rattle.mrdt_set.specs.Members.{Times, same_element, times_at, some_times, all_times, IsMergedAt}
-use Rattle.mrdt_set.specs.Set.{element_of, set_effect, times_after, IsSetOp, holds, set_of}
+use Rattle.mrdt_set.specs.Set.{set_effect, times_after, IsSetOp, holds, set_of}
 use Rattle.mrdt_model.proofs.Tables.{cmp, same_tables, same_bytes-sym}
 use Rattle.mrdt_set.specs.Lawful.{Events, times-set_of, element-times, set_of-sorted, holds-element}
 
@@ -46,25 +46,32 @@ next-sound x t op w time after known =
 pub set-found : (s : List (List ℕ × Times)) (x : Events) → Sound x → IsStrictlySortedBy cmp (keys_of s) → ((k : List ℕ) → times_at s k ≡ some_times (live_of (set_effect k) x)) → s ≡ set_of x
 set-found s x l sorted same = same_tables s (set_of x) sorted (set_of-sorted x) (λ k. same k ∙ sym (times-set_of k x l))
 
-effect_after : (b : Bool) (op : SetOp) (k : List ℕ) (t : Time) (live : Times) → same_element k (element_of op) ≡ b → live_after (set_effect k op) t live ≡ cond b (times_after op t) live
-effect_after true (Add j) k t live is = ap (λ b. live_after (cond b (replacing {V = Unit {0}} tt) apart) t live) is
-effect_after false (Add j) k t live is = ap (λ b. live_after (cond b (replacing {V = Unit {0}} tt) apart) t live) is
-effect_after true (Remove j) k t live is = ap (λ b. live_after (cond b removing apart) t live) is
-effect_after false (Remove j) k t live is = ap (λ b. live_after (cond b removing apart) t live) is
+added : (b c : Bool) (t : Time) (live : Times) → b ≡ c → cond b (Some (record { time = t; payload = tt } ∷ [])) (some_times live) ≡ some_times (live_after (cond c (replacing {V = Unit {0}} tt) apart) t live)
+added true true t live is = refl
+added true false t live is = cc
+added false true t live is = cc
+added false false t live is = refl
 
-some-cond : (b : Bool) (p q : Times) → cond b (some_times p) (some_times q) ≡ some_times (cond b p q)
-some-cond true p q = refl
-some-cond false p q = refl
+removed : (b c : Bool) (t : Time) (live : Times) → b ≡ c → cond b None (some_times live) ≡ some_times (live_after (cond c (removing {V = Unit {0}}) apart) t live)
+removed true true t live is = refl
+removed true false t live is = cc
+removed false true t live is = cc
+removed false false t live is = refl
+
+-- what an operation leaves of what is live of an element
+times-effect : (op : SetOp) (t : Time) (k : List ℕ) (live : Times) → times_after op t k (some_times live) ≡ some_times (live_after (set_effect k op) t live)
+times-effect (Add j) t k live = added (same_element j k) (same_element k j) t live (same_bytes-sym j k)
+times-effect (Remove j) t k live = removed (same_element j k) (same_element k j) t live (same_bytes-sym j k)
+times-effect Clear t k live = refl
 
 -- what an operation makes of what the set has at an element
-pub applied-at : (s made : List (List ℕ × Times)) (x : Events) (op : SetOp) (t : Time) (k : List ℕ) → Sound x → IsAfter x t → s ≡ set_of x → times_at made k ≡ cond (same_element (element_of op) k) (some_times (times_after op t)) (times_at s k)
+pub applied-at : (s made : List (List ℕ × Times)) (x : Events) (op : SetOp) (t : Time) (k : List ℕ) → Sound x → IsAfter x t → s ≡ set_of x → times_at made k ≡ times_after op t k (times_at s k)
     → times_at made k ≡ some_times (live_of (set_effect k) (next_event x t op tt ∷ x))
 applied-at s made x op t k l after is made_is =
     let before : times_at s k ≡ some_times (live_of (set_effect k) x) = ap (λ es. times_at es k) is ∙ times-set_of k x l in
     made_is
-    ∙ ap (λ o. cond (same_element (element_of op) k) (some_times (times_after op t)) o) before
-    ∙ some-cond (same_element (element_of op) k) (times_after op t) (live_of (set_effect k) x)
-    ∙ ap some_times (sym (effect_after (same_element (element_of op) k) op k t (live_of (set_effect k) x) (same_bytes-sym k (element_of op))))
+    ∙ ap (times_after op t k) before
+    ∙ times-effect op t k (live_of (set_effect k) x)
     ∙ ap some_times (sym (live-next (set_effect k) x t op tt (all_seen IsSetOp IsAnyReply x l) after))
 
 -- what a merge makes of what the three have at an element

@@ -1,5 +1,5 @@
 -- The elements of an execution, and what is live of each.
-use Rattle.std.proofs.Common.{◌≡◌, ◌≢◌, ℕ, Bool, true, false, not, cond, ◌&&◌, ◌||◌, None, Some, is_some, List, [], ◌∷◌, refl, ◌∙◌, ap, sym, subst, arith, ⊎_elim}
+use Rattle.std.proofs.Common.{◌≡◌, ◌≢◌, ℕ, Bool, true, false, not, cond, ◌&&◌, ◌||◌, Option, None, Some, is_some, List, [], ◌∷◌, refl, ◌∙◌, ap, sym, subst, arith, ⊎_elim}
 use Rattle.std.specs.List.{list_any, AllByRecursion}
 use Rattle.std.specs.Map.{keys_of}
 use Rattle.std.specs.List.Sorted.{IsStrictlySortedBy}
@@ -14,22 +14,36 @@ use Rattle.live_set.proofs.Lengths.{length-live, each-live}
 use Rattle.live_set.proofs.Standing.{live-rising}
 use Rattle.live_set.proofs.Holding.{holds-live}
 use Rattle.mrdt_set.specs.declared.set.SetOp.{SetOp}
-use Rattle.mrdt_set.specs.declared.set.SetOp.TheVariants.{Add, Remove}
+use Rattle.mrdt_set.specs.declared.set.SetOp.TheVariants.{Add, Remove, Clear}
 use Rattle.mrdt_set.specs.Members.{Times, same_element, times_at, some_times, all_times}
-use Rattle.mrdt_set.specs.Set.{element_of, set_effect, IsSetOp, holds, elements, members, set_of}
+use Rattle.mrdt_set.specs.Set.{element_of, set_effect, IsSetOp, holds, with_element, elements, members, set_of}
 use Rattle.mrdt_model.proofs.Tables.{cmp, insert-all, insert-sorted, insert-any, filter-all, filter-sorted, filter-any, keys-table, value-table}
 
 abbrev pub Events : Type 0
 Events = List (Event SetOp (Unit {0}))
 
+-- whether it is the element, where there is one
+is_named : List ℕ → Option (List ℕ) → Bool
+is_named q None = false
+is_named q (Some k) = same_element q k
+
+with-sorted : (o : Option (List ℕ)) (ks : List (List ℕ)) → IsStrictlySortedBy cmp ks → IsStrictlySortedBy cmp (with_element o ks)
+with-sorted None ks sorted = sorted
+with-sorted (Some k) ks sorted = insert-sorted k ks sorted
+
 pub elements-sorted : (x : Events) → IsStrictlySortedBy cmp (elements x)
 unfolding IsStrictlySortedBy
 elements-sorted [] = tt
-elements-sorted (e ∷ x) = insert-sorted (element_of e.operation) (elements x) (elements-sorted x)
+elements-sorted (e ∷ x) = with-sorted (element_of e.operation) (elements x) (elements-sorted x)
 
-elements-any : (q : List ℕ) (x : Events) → list_any (same_element q) (elements x) ≡ list_any (λ e. same_element q (element_of e.operation)) x
+with-any : (q : List ℕ) (o : Option (List ℕ)) (ks : List (List ℕ)) → list_any (same_element q) (with_element o ks) ≡ (is_named q o || list_any (same_element q) ks)
+unfolding is_named
+with-any q None ks = refl
+with-any q (Some k) ks = insert-any q k ks
+
+elements-any : (q : List ℕ) (x : Events) → list_any (same_element q) (elements x) ≡ list_any (λ e. is_named q (element_of e.operation)) x
 elements-any q [] = refl
-elements-any q (e ∷ x) = insert-any q (element_of e.operation) (elements x) ∙ ap (λ b. same_element q (element_of e.operation) || b) (elements-any q x)
+elements-any q (e ∷ x) = with-any q (element_of e.operation) (elements x) ∙ ap (λ b. is_named q (element_of e.operation) || b) (elements-any q x)
 
 any-more : (f g : Event SetOp (Unit {0}) → Bool) (x : Events) → ((e : Event SetOp (Unit {0})) → f e ≡ true → g e ≡ true) → list_any f x ≡ true → list_any g x ≡ true
 any-more f g [] more h = h
@@ -43,16 +57,18 @@ remove-puts : (b : Bool) → is_some (cond b (removing {V = Unit {0}}) (apart {V
 remove-puts true h = refl
 remove-puts false h = cc
 
-puts-same : (q : List ℕ) (op : SetOp) → is_some (set_effect q op).puts ≡ true → same_element q (element_of op) ≡ true
-puts-same q (Add k) h = add-puts (same_element q k) h
-puts-same q (Remove k) h = remove-puts (same_element q k) h
+puts-named : (q : List ℕ) (op : SetOp) → is_some (set_effect q op).puts ≡ true → is_named q (element_of op) ≡ true
+unfolding is_named
+puts-named q (Add k) h = add-puts (same_element q k) h
+puts-named q (Remove k) h = remove-puts (same_element q k) h
+puts-named q Clear h = cc
 
 -- an element that is held is one of the elements
 holds-any : (q : List ℕ) (x : Events) → holds x q ≡ true → list_any (same_element q) (elements x) ≡ true
 holds-any q x h =
     elements-any q x
-    ∙ any-more (λ e. is_some (set_effect q e.operation).puts && not (is_removed (set_effect q) x e.time)) (λ e. same_element q (element_of e.operation)) x
-    (λ e put. puts-same q e.operation (and_parts (is_some (set_effect q e.operation).puts) (not (is_removed (set_effect q) x e.time)) put).0) h
+    ∙ any-more (λ e. is_some (set_effect q e.operation).puts && not (is_removed (set_effect q) x e.time)) (λ e. is_named q (element_of e.operation)) x
+    (λ e put. puts-named q e.operation (and_parts (is_some (set_effect q e.operation).puts) (not (is_removed (set_effect q) x e.time)) put).0) h
 
 pub holds-element : (q : List ℕ) (x : Events) → IsWellFormed IsSetOp IsAnyReply x → holds x q ≡ has_any (live_of (set_effect q) x)
 holds-element q x w = holds-live (set_effect q) IsSetOp IsAnyReply x w
@@ -86,9 +102,14 @@ keys-set_of x = keys-table (λ k. live_of (set_effect k) x) (members x)
 pub set_of-sorted : (x : Events) → IsStrictlySortedBy cmp (keys_of (set_of x))
 set_of-sorted x = subst (IsStrictlySortedBy cmp) (sym (keys-set_of x)) (members-sorted x)
 
+with-bytes : (op : SetOp) (ks : List (List ℕ)) → IsSetOp op → AllByRecursion IsBytes ks → AllByRecursion IsBytes (with_element (element_of op) ks)
+with-bytes (Add k) ks known all = insert-all IsBytes k ks known all
+with-bytes (Remove k) ks known all = insert-all IsBytes k ks known all
+with-bytes Clear ks known all = all
+
 elements-bytes : (x : Events) → IsWellFormed IsSetOp IsAnyReply x → AllByRecursion IsBytes (elements x)
 elements-bytes [] w = tt
-elements-bytes (e ∷ x) w = insert-all IsBytes (element_of e.operation) (elements x) w.0.operation (elements-bytes x w.1)
+elements-bytes (e ∷ x) w = with-bytes e.operation (elements x) w.0.operation (elements-bytes x w.1)
 
 -- a member is bytes, and has live times
 pub record IsLively (x : Events) (k : List ℕ) : Type 0 where

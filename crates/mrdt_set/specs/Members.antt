@@ -1,5 +1,5 @@
 -- Elements with their live times, in byte order.
-use Rattle.std.specs.Prelude.{◌≡◌, ◌≢◌, ℕ, ◌<◌, ◌^◌, Bool, ◌⊎◌, Option, None, Some, List, [], ◌∷◌, ◌++◌, length, map}
+use Rattle.std.specs.Prelude.{◌≡◌, ◌≢◌, ℕ, ◌<◌, ◌^◌, Bool, if◌then◌else◌, ◌⊎◌, Option, None, Some, List, [], ◌∷◌, ◌++◌, length, map}
 use Rattle.std.specs.List.{AllByRecursion}
 use Rattle.std.specs.Map.{lookup, keys_of}
 use Rattle.std.specs.Ordering.{nat_cmp, is_eq}
@@ -26,6 +26,14 @@ same_element j k = is_eq (slice_cmp nat_cmp j k)
 abbrev pub times_at : List (List ℕ × Times) → List ℕ → Option Times
 times_at members k = lookup (same_element k) members
 
+-- the elements rise in byte order, each once
+abbrev pub AreInOrder : List (List ℕ × Times) → Type 0
+AreInOrder members = IsStrictlySortedBy (slice_cmp nat_cmp) (keys_of members)
+
+-- the new members have these times at one element, and what the old ones have at all others
+abbrev pub ChangesOnly : List ℕ → Option Times → List (List ℕ × Times) → List (List ℕ × Times) → Type 0
+ChangesOnly element times old new = (k : List ℕ) → times_at new k ≡ (if same_element element k then times else times_at old k)
+
 -- no times are none
 abbrev pub some_times : Times → Option Times
 some_times [] = None
@@ -41,9 +49,17 @@ pub record IsMergedAt (base left right merged : Option Times) : Type 0 where
   pub rising : IsRising (kept_times (all_times merged))
   pub merges : MergesEntries (all_times base) (all_times left) (all_times right) (all_times merged)
 
+-- so it is at each element
+abbrev pub AreMerged : List (List ℕ × Times) → List (List ℕ × Times) → List (List ℕ × Times) → List (List ℕ × Times) → Type 0
+AreMerged base left right merged = (k : List ℕ) → IsMergedAt (times_at base k) (times_at left k) (times_at right k) (times_at merged k)
+
 -- merged, or as before where the side has nothing
 abbrev pub IsMergedOr : Option Times → Option Times → Option Times → Option Times → Option Times → Option Times → Type 0
 IsMergedOr side old base left right new = ((side ≡ None) × (new ≡ old)) ⊎ IsMergedAt base left right new
+
+-- merged at the elements of the left side, and nothing at all others
+abbrev pub IsLeftMerged : List (List ℕ × Times) → List (List ℕ × Times) → List (List ℕ × Times) → List (List ℕ × Times) → Type 0
+IsLeftMerged base left right merged = (k : List ℕ) → IsMergedOr (times_at left k) None (times_at base k) (times_at left k) (times_at right k) (times_at merged k)
 
 -- an element, and behind it its times
 abbrev pub member_spelling : List ℕ × Times → List ℕ
@@ -59,7 +75,7 @@ IsMember e = IsBytes e.0 × (length e.0 < 2 ^ 64) × AreLive IsNothing e.1 × (e
 -- members of the grammar: few enough to be counted, and by rising element
 pub record AreMembers (members : List (List ℕ × Times)) : Type 0 where
   pub few : length members < 2 ^ 64
-  pub rising : IsStrictlySortedBy (slice_cmp nat_cmp) (keys_of members)
+  pub rising : AreInOrder members
   pub each : AllByRecursion IsMember members
 
 -- the bytes spell such members

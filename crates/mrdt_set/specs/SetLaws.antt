@@ -19,7 +19,7 @@ use Rattle.mrdt_model.proofs.SameEvents.{own-times}
 use Rattle.live_set.proofs.Unchanged.{left-unchanged, right-unchanged}
 use Rattle.live_set.proofs.AnyOrder.{live-alike, holds-alike}
 use Rattle.mrdt_set.specs.declared.set.SetOp.{SetOp}
-use Rattle.mrdt_set.specs.declared.set.SetOp.TheVariants.{Add, Remove}
+use Rattle.mrdt_set.specs.declared.set.SetOp.TheVariants.{Add, Remove, Clear}
 use Rattle.mrdt_set.specs.declared.set.SetQuery.{SetQuery}
 use Rattle.mrdt_set.specs.declared.set.SetQuery.TheVariants.{Contains, Members, Size}
 use Rattle.mrdt_set.specs.declared.set.SetAnswer.TheVariants.{IsIn, All, Count}
@@ -60,14 +60,20 @@ set_of-members x l short =
     record { few = bounds.few; rising = set_of-sorted x; each = each-member x (members x) l (members-lively x l) bounds.each }
 
 op-inside : (op : SetOp) → IsSetOp op → IsOpSpelling (op_spelling op)
-op-inside (Add x) known = (x, known, inl refl)
-op-inside (Remove x) known = (x, known, inr refl)
+op-inside (Add x) known = inl (x, known, inl refl)
+op-inside (Remove x) known = inl (x, known, inr refl)
+op-inside Clear known = inr refl
 
 one-op : (o p : SetOp) → op_spelling o ≡ op_spelling p → o ≡ p
 one-op (Add u) (Add v) is = let elements_are : u ≡ v = cc is in ap Add elements_are
 one-op (Add u) (Remove v) is = absurd (cc is)
+one-op (Add u) Clear is = absurd (cc is)
 one-op (Remove u) (Add v) is = absurd (cc is)
 one-op (Remove u) (Remove v) is = let elements_are : u ≡ v = cc is in ap Remove elements_are
+one-op (Remove u) Clear is = absurd (cc is)
+one-op Clear (Add v) is = absurd (cc is)
+one-op Clear (Remove v) is = absurd (cc is)
+one-op Clear Clear is = refl
 
 module _ (x : Events) (a b : Time → Bool) (l : IsLawful IsSetOp IsAnyReply no_reply x) (closed_a : IsClosed a x) (closed_b : IsClosed b x) where
   sound : (c : Time → Bool) → IsClosed c x → IsWellFormed IsSetOp IsAnyReply (restrict c x)

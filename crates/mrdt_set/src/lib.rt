@@ -1,4 +1,5 @@
-//! A set that merges: an element is in it where some Add of it has been seen by no Remove of it.
+//! A set that merges: an element is in it where some Add of it has been seen by no Remove of it and by no
+//! Clear.
 #![tactic(auto)]
 
 mod members;
@@ -8,6 +9,3 @@ mod spelled;
 mod table;
 
 pub use set::{Set, SetAnswer, SetOp, SetQuery};
-
-#[cfg(test)]
-mod tests;

@@ -1,16 +1,22 @@
 // The elements of sets, and their live times after operations and merges.
-ghost use Rattle.std.specs.Prelude.{◌≡◌, [], None, List, ℕ, IsTrue, IfOk, OnOk, if◌then◌else◌};
+ghost use Rattle.std.specs.Prelude.{◌≡◌, [], ◌∷◌, IsTrue, IfOk, OnOk};
 ghost use Rattle.std.specs.Option.{option_copied};
 ghost use Rattle.std.specs.Map.{keys_of};
-ghost use Rattle.std.specs.Cmp.Lexicographic.{slice_cmp};
-ghost use Rattle.std.specs.Ordering.{nat_cmp};
-ghost use Rattle.std.specs.List.Sorted.{IsStrictlySortedBy};
-ghost use Rattle.live_set.specs.Entries.{kept_times, IsRising, MergesEntries};
-ghost use Rattle.mrdt_set.specs.Members.{same_element, times_at, some_times, all_times, IsMergedAt, IsMergedOr};
+ghost use Rattle.live_set.specs.Entries.{kept_times, IsRising};
+ghost use Rattle.mrdt_set.specs.Members.{
+  times_at,
+  some_times,
+  all_times,
+  AreInOrder,
+  ChangesOnly,
+  IsMergedAt,
+  AreMerged,
+  IsLeftMerged,
+};
 
 use crate::table::{Table, Times};
 use live_set::Live;
-use mrdt_model::{Bytes, Listing, Memory, Shared};
+use mrdt_model::{Bytes, Listing, Memory, Shared, Time};
 use std::alloc::Global;
 
 // Copies of the elements, in order.
@@ -25,13 +31,13 @@ pub(crate) fn elements_in_order(alloc: Global, members: &Table) -> Result<Listin
 }
 
 // Sets the times of an element, which leaves where there are none.
-pub(crate) fn set_times(
+fn set_times(
     alloc: Global,
     members: &mut Table,
     element: &[u8],
     times: Option<Times>,
 ) -> Result<(), Memory>
-    ensures { OnOk result ((k : List ℕ) → times_at members.new k ≡ (if same_element element.now k then times else times_at members.old k)) }
+    ensures { OnOk result (ChangesOnly element.now times members.old members.new) }
 {
     match times {
         Some(times) => {
@@ -46,8 +52,33 @@ pub(crate) fn set_times(
     }
 }
 
+// The same members, but for the times of one element, which leaves where there are none.
+pub(crate) fn with_times(
+    alloc: Global,
+    members: &Table,
+    element: &[u8],
+    times: Option<Times>,
+) -> Result<Table, Memory>
+    ensures times { IfOk result (ChangesOnly element.now times members.now) }
+    ensures sorted { IfOk result AreInOrder }
+{
+    let mut table = members.copy()?;
+    set_times(alloc, &mut table, element, times)?;
+    let _size = table.size();
+    Ok(table)
+}
+
+// The times of an element that was added once.
+pub(crate) fn first_times(alloc: Global, time: Time) -> Result<Times, Memory>
+    ensures { IfOk result (λ times. times ≡ record { time = time; payload = tt } ∷ []) }
+{
+    let mut times = Live::new(alloc);
+    times.add(time, ())?;
+    Shared::new(alloc, times)
+}
+
 // New times, where there are some.
-pub(crate) fn some_new(alloc: Global, times: Live<()>) -> Result<Option<Times>, Memory>
+fn some_new(alloc: Global, times: Live<()>) -> Result<Option<Times>, Memory>
     ensures { IfOk result (λ shared. shared ≡ some_times times) }
 {
     if times.items().is_empty() {
@@ -103,7 +134,8 @@ fn merged_anew(
     left: Option<&Times>,
     right: Option<&Times>,
 ) -> Result<Option<Times>, Memory>
-    ensures { IfOk result (IsMergedAt (option_copied base.entry) (option_copied left.entry) (option_copied right.entry)) }
+    ensures { IfOk result (IsMergedAt (option_copied base.entry)
+        (option_copied left.entry) (option_copied right.entry)) }
 {
     let none = Live::new(alloc);
     let times = Live::merge(
@@ -122,7 +154,8 @@ fn merged_times(
     left: Option<&Times>,
     right: Option<&Times>,
 ) -> Result<Option<Times>, Memory>
-    ensures { IfOk result (IsMergedAt (option_copied base.entry) (option_copied left.entry) (option_copied right.entry)) }
+    ensures { IfOk result (IsMergedAt (option_copied base.entry)
+        (option_copied left.entry) (option_copied right.entry)) }
 {
     if have_same(base, left) {
         some_shared(right)
@@ -143,7 +176,8 @@ pub(crate) struct Sides<'a> {
 
 // The merged times of an element, where there are some.
 fn merged_at(alloc: Global, sides: Sides<'_>, element: &[u8]) -> Result<Option<Times>, Memory>
-    ensures { IfOk result (IsMergedAt (times_at sides.entry.base.now element.now) (times_at sides.entry.left.now element.now) (times_at sides.entry.right.now element.now)) }
+    ensures { IfOk result (IsMergedAt (times_at sides.entry.base.now element.now)
+        (times_at sides.entry.left.now element.now) (times_at sides.entry.right.now element.now)) }
 {
     merged_times(
         alloc,
@@ -155,7 +189,8 @@ fn merged_at(alloc: Global, sides: Sides<'_>, element: &[u8]) -> Result<Option<T
 
 // The merged times of the elements of the left side.
 fn merged_left(alloc: Global, sides: Sides<'_>) -> Result<Table, Memory>
-    ensures { IfOk result (λ merged. (k : List ℕ) → IsMergedOr (times_at sides.entry.left.now k) None (times_at sides.entry.base.now k) (times_at sides.entry.left.now k) (times_at sides.entry.right.now k) (times_at merged k)) }
+    ensures { IfOk result (IsLeftMerged sides.entry.base.now
+        sides.entry.left.now sides.entry.right.now) }
 {
     let mut merged = Table::new(alloc);
     for (element, _times) in sides.left.in_order().iter() {
@@ -168,8 +203,9 @@ fn merged_left(alloc: Global, sides: Sides<'_>) -> Result<Table, Memory>
 
 // Sets the merged times of the elements of the right side that the left side has not.
 fn merge_right(alloc: Global, merged: &mut Table, sides: Sides<'_>) -> Result<(), Memory>
-    requires { (k : List ℕ) → IsMergedOr (times_at sides.left.now k) None (times_at sides.base.now k) (times_at sides.left.now k) (times_at sides.right.now k) (times_at merged.old k) }
-    ensures { OnOk result ((k : List ℕ) → IsMergedAt (times_at sides.entry.base.now k) (times_at sides.entry.left.now k) (times_at sides.entry.right.now k) (times_at merged.new k)) }
+    requires { IsLeftMerged sides.base.now sides.left.now sides.right.now merged.old }
+    ensures { OnOk result (AreMerged sides.entry.base.now
+        sides.entry.left.now sides.entry.right.now merged.new) }
 {
     for (element, _times) in sides.right.in_order().iter() {
         let element = element.as_slice();
@@ -183,8 +219,9 @@ fn merge_right(alloc: Global, merged: &mut Table, sides: Sides<'_>) -> Result<()
 
 // The merged times of the elements of both sides.
 pub(crate) fn merged(alloc: Global, sides: Sides<'_>) -> Result<Table, Memory>
-    ensures merges { IfOk result (λ merged. (k : List ℕ) → IsMergedAt (times_at sides.entry.base.now k) (times_at sides.entry.left.now k) (times_at sides.entry.right.now k) (times_at merged k)) }
-    ensures sorted { IfOk result (λ merged. IsStrictlySortedBy (slice_cmp nat_cmp) (keys_of merged)) }
+    ensures merges { IfOk result (AreMerged sides.entry.base.now
+        sides.entry.left.now sides.entry.right.now) }
+    ensures sorted { IfOk result AreInOrder }
 {
     let mut merged = merged_left(alloc, sides)?;
     merge_right(alloc, &mut merged, sides)?;

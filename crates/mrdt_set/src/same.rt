@@ -9,7 +9,8 @@ use crate::table::{Table, Times};
 // Whether times are the same as others. Those whose spellings stand at the front of the same bytes are.
 fn same_times(times: &Times, others: &Times) -> bool
     ensures same { IsTrue result ↔ (times.now ≡ others.now) }
-    ensures spelled { (a b : List ℕ) → live_spelling nothing_spelling times.now ++ a ≡ live_spelling nothing_spelling others.now ++ b → times.now ≡ others.now }
+    ensures spelled { (a b : List ℕ) → live_spelling nothing_spelling times.now ++ a
+        ≡ live_spelling nothing_spelling others.now ++ b → times.now ≡ others.now }
 {
     let mine = times.get().items();
     let theirs = others.get().items();
@@ -20,7 +21,9 @@ fn same_times(times: &Times, others: &Times) -> bool
 // are.
 fn same_member(element: &[u8], times: &Times, other: &[u8], others: &Times) -> bool
     ensures same { IsTrue result ↔ ((element.now ≡ other.now) × (times.now ≡ others.now)) }
-    ensures spelled { (a b : List ℕ) → member_spelling (element.now, times.now) ++ a ≡ member_spelling (other.now, others.now) ++ b → (element.now ≡ other.now) × (times.now ≡ others.now) }
+    ensures spelled { (a b : List ℕ) → member_spelling (element.now, times.now) ++ a
+        ≡ member_spelling (other.now, others.now) ++ b
+        → (element.now ≡ other.now) × (times.now ≡ others.now) }
 {
     element == other && same_times(times, others)
 }

@@ -1,14 +1,16 @@
 // The set, its operations and its laws.
-ghost use Rattle.std.specs.Prelude.{◌≡◌, IfOk, OnOk, IsErrOf};
+ghost use Rattle.std.specs.Prelude.{◌≡◌, ◌++◌, ◌∷◌, IfOk, OnOk, OnErr, IsErrOf};
+ghost use Rattle.std.specs.Option.{option_copied};
+ghost use Rattle.mrdt_model.specs.Spelled.{AppendsPart};
 ghost use Rattle.mrdt_set.specs.declared.set.SetOp.{SetOp as SpecOp};
-ghost use Rattle.mrdt_set.specs.Set.{IsSetOp, op_spelling, IsOpSpelling};
+ghost use Rattle.mrdt_set.specs.Set.{IsSetOp, element_of, op_spelling, IsOpSpelling};
 
-use crate::members::{Sides, elements_in_order, merged, set_times, some_new};
+use crate::members::{Sides, elements_in_order, first_times, merged, with_times};
 use crate::same::same_tables;
 use crate::spelled::{put_members, take_members};
-use crate::table::Table;
+use crate::table::{Table, Times};
 use branch_wire::Cursor;
-use live_set::{Live, unit_reply, whole_text};
+use live_set::{unit_reply, whole_text};
 use mrdt_model::{Bytes, Listing, Memory, Mrdt, Time, Unread};
 use std::alloc::Global;
 use std::marker::Model;
@@ -17,6 +19,8 @@ const ADD: u8 = 1;
 
 const REMOVE: u8 = 2;
 
+const CLEAR: u8 = 3;
+
 /// An operation of a set.
 #[derive(Drop)]
 pub enum SetOp {
@@ -24,43 +28,29 @@ pub enum SetOp {
     Add(Bytes),
     /// Takes an element away where it has been seen.
     Remove(Bytes),
+    /// Takes all elements away where they have been seen.
+    Clear,
 }
 
 impl SetOp {
-    ghost use Rattle.std.specs.Prelude.{◌≡◌, IfOk};
-    ghost use Rattle.mrdt_set.specs.Set.{element_of, word_of, times_after};
-
-    /// The element that the operation adds or takes away.
-    pub fn element(&self) -> &Bytes
-        ensures { result.now ≡ element_of self.now }
+    /// The element that the operation adds or takes away. A Clear names none.
+    pub fn element(&self) -> Option<&Bytes>
+        ensures { option_copied result ≡ element_of self.now }
     {
         match self {
-            SetOp::Add(element) => element,
-            SetOp::Remove(element) => element,
+            SetOp::Add(element) | SetOp::Remove(element) => Some(element),
+            SetOp::Clear => None,
         }
     }
+}
 
-    // The byte that the operation's spelling begins with.
-    fn word(&self) -> u8
-        ensures { result ≡ word_of self.now }
-    {
-        match self {
-            SetOp::Add(_) => ADD,
-            SetOp::Remove(_) => REMOVE,
-        }
-    }
-
-    // The element's live times after the operation.
-    fn times(&self, alloc: Global, time: Time) -> Result<Live<()>, Memory>
-        ensures { IfOk result (λ times. times ≡ times_after self.now time) }
-    {
-        let mut times = Live::new(alloc);
-        match self {
-            SetOp::Add(_) => times.add(time, ())?,
-            SetOp::Remove(_) => (),
-        }
-        Ok(times)
-    }
+// Writes a byte, and behind it an element.
+fn put_word(word: u8, element: &[u8], out: &mut Vec<u8>) -> Result<(), Memory>
+    ensures ok { OnOk result (out.new.items ≡ out.old.items ++ word ∷ element.now) }
+    ensures err { OnErr result (AppendsPart out.old.items out.new.items (word ∷ element.now)) }
+{
+    out.push(word)?;
+    Ok(out.extend_from_slice(element)?)
 }
 
 // Reads an operation that is the whole of the bytes. What is outside the grammar is refused before any memory is
@@ -68,7 +58,8 @@ impl SetOp {
 fn get_op(alloc: Global, bytes: &[u8]) -> Result<SetOp, Unread>
     ensures spelled { IfOk result (λ op. op_spelling op ≡ bytes.now) }
     ensures known { IfOk result IsSetOp }
-    ensures equal { IfOk result (λ op. (other : SpecOp) → IsSetOp other → op_spelling other ≡ bytes.now → op ≡ other) }
+    ensures equal { IfOk result (λ op. (other : SpecOp) → IsSetOp other
+        → op_spelling other ≡ bytes.now → op ≡ other) }
     ensures inside { OnOk result (IsOpSpelling bytes.now) }
     ensures outside { IsErrOf result Unread.NotCanonical → ¬ IsOpSpelling bytes.now }
     ensures refused { ¬ IsOpSpelling bytes.now → IsErrOf result Unread.NotCanonical }
@@ -76,6 +67,7 @@ fn get_op(alloc: Global, bytes: &[u8]) -> Result<SetOp, Unread>
     match bytes.split_first() {
         Some((&ADD, rest)) => Ok(SetOp::Add(whole_text(alloc, rest)?)),
         Some((&REMOVE, rest)) => Ok(SetOp::Remove(whole_text(alloc, rest)?)),
+        Some((&CLEAR, [])) => Ok(SetOp::Clear),
         _ => Err(Unread::NotCanonical),
     }
 }
@@ -102,8 +94,8 @@ pub enum SetAnswer {
     Count(u64),
 }
 
-/// A set. Contracts see its elements, in byte order, each with the times of the Adds that no operation on it has
-/// seen.
+/// A set. Contracts see its elements, in byte order, each with the times of the Adds that no operation on it and no
+/// Clear has seen.
 #[derive(Drop)]
 pub struct Set {
     alloc: Global,
@@ -120,8 +112,10 @@ impl Model for Set {
 }
 
 impl Set {
-    ghost use Rattle.std.specs.Prelude.{◌≡◌, length, is_some, IfOk};
-    ghost use Rattle.mrdt_set.specs.Members.{times_at};
+    ghost use Rattle.std.specs.Prelude.{◌≡◌, [], length, is_some, IfOk};
+    ghost use Rattle.mrdt_model.specs.Spelled.{IsBytes};
+    ghost use Rattle.mrdt_set.specs.Members.{times_at, AreInOrder, ChangesOnly};
+    ghost use Rattle.mrdt_set.specs.Set.{IsSetOp, IsAfter};
 
     /// Whether the element is in the set. It takes no memory.
     pub fn contains(&self, element: &[u8]) -> bool
@@ -135,6 +129,44 @@ impl Set {
         ensures { result ≡ length self.now }
     {
         self.members.size() as u64
+    }
+
+    /// The set after a Clear that has seen all. It takes no memory, and looks at no element.
+    pub fn cleared(&self) -> Set
+        ensures { result ≡ [] }
+    {
+        Set {
+            alloc: self.alloc,
+            members: Table::new(self.alloc),
+        }
+    }
+
+    // The same set, but for the times of one element, which leaves where there are none.
+    fn with_times(&self, element: &Bytes, times: Option<Times>) -> Result<Set, Memory>
+        ensures times { IfOk result (ChangesOnly element.now times self.now) }
+        ensures sorted { IfOk result AreInOrder }
+        ensures known { IsBytes element.now }
+    {
+        Ok(Set {
+            alloc: self.alloc,
+            members: with_times(self.alloc, &self.members, element.as_slice(), times)?,
+        })
+    }
+
+    // The set after an operation that has seen all.
+    fn after(&self, op: &SetOp, time: Time) -> Result<Set, Memory>
+        ensures known { IfOk result (λ _set. IsSetOp op.now) }
+        ensures times { IfOk result (IsAfter op.now time self.now) }
+        ensures sorted { IfOk result AreInOrder }
+    {
+        match op {
+            SetOp::Add(element) => {
+                let times = first_times(self.alloc, time)?;
+                self.with_times(element, Some(times))
+            }
+            SetOp::Remove(element) => self.with_times(element, None),
+            SetOp::Clear => Ok(self.cleared()),
+        }
     }
 }
 
@@ -171,19 +203,7 @@ impl Mrdt for Set {
     }
 
     fn apply(&self, op: &SetOp, time: Time) -> Result<(Set, ()), Memory> {
-        let element = op.element().as_slice();
-        let mut members = self.members.copy()?;
-        let after = op.times(self.alloc, time)?;
-        let times = some_new(self.alloc, after)?;
-        set_times(self.alloc, &mut members, element, times)?;
-        let _size = members.size();
-        Ok((
-            Set {
-                alloc: self.alloc,
-                members,
-            },
-            (),
-        ))
+        Ok((self.after(op, time)?, ()))
     }
 
     fn merge(base: &Set, left: &Set, right: &Set) -> Result<Set, Memory> {
@@ -222,8 +242,11 @@ impl Mrdt for Set {
     }
 
     fn put_op(op: &SetOp, out: &mut Vec<u8>) -> Result<(), Memory> {
-        out.push(op.word())?;
-        Ok(out.extend_from_slice(op.element().as_slice())?)
+        match op {
+            SetOp::Add(element) => put_word(ADD, element.as_slice(), out),
+            SetOp::Remove(element) => put_word(REMOVE, element.as_slice(), out),
+            SetOp::Clear => put_word(CLEAR, &[], out),
+        }
     }
 
     fn get_op(alloc: Global, bytes: &[u8]) -> Result<SetOp, Unread> {

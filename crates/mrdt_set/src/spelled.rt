@@ -1,12 +1,24 @@
 // Members as bytes: a count, and that many elements with their times.
-ghost use Rattle.std.specs.Prelude.{◌≡◌, ◌≢◌, ◌++◌, ◌∷◌, ◌↔◌, [], List, ℕ, length, IsTrue, IfOk, OnOk, OnErr, IsErrOf};
+ghost use Rattle.std.specs.Prelude.{
+  ◌≡◌,
+  ◌++◌,
+  ◌∷◌,
+  ◌↔◌,
+  [],
+  List,
+  ℕ,
+  length,
+  IsTrue,
+  IfOk,
+  OnOk,
+  OnErr,
+  IsErrOf,
+};
 ghost use Rattle.std.specs.List.{flat_map};
 ghost use Rattle.std.specs.Map.{keys_of};
-ghost use Rattle.std.specs.Cmp.Lexicographic.{slice_cmp};
-ghost use Rattle.std.specs.Ordering.{nat_cmp};
-ghost use Rattle.std.specs.List.Sorted.{IsStrictlySortedBy};
 ghost use Rattle.mrdt_model.specs.Spelled.{AppendsPart};
-ghost use Rattle.mrdt_set.specs.Members.{Times as SpecTimes, member_spelling, set_spelling, IsMember};
+ghost use Rattle.mrdt_set.specs.Members.{Times as SpecTimes};
+ghost use Rattle.mrdt_set.specs.Members.{member_spelling, set_spelling, IsMember, AreInOrder};
 ghost use Rattle.mrdt_set.specs.Reading.{IsAbove, TakesMember, AreTaken, AreRising};
 
 use crate::table::{Table, Times};
@@ -18,8 +30,10 @@ use std::cmp::Ordering;
 
 // Writes an element, and its times.
 fn put_member(element: &[u8], times: &Times, out: &mut Vec<u8>) -> Result<(), Memory>
-    ensures ok { OnOk result (out.new.items ≡ out.old.items ++ member_spelling (element.now, times.now)) }
-    ensures err { OnErr result (AppendsPart out.old.items out.new.items (member_spelling (element.now, times.now))) }
+    ensures ok { OnOk result (out.new.items
+        ≡ out.old.items ++ member_spelling (element.now, times.now)) }
+    ensures err { OnErr result (AppendsPart out.old.items out.new.items
+        (member_spelling (element.now, times.now))) }
 {
     put_bytes(element, out)?;
     times.get().put(out)
@@ -28,7 +42,8 @@ fn put_member(element: &[u8], times: &Times, out: &mut Vec<u8>) -> Result<(), Me
 // Writes the count of the members, and the members in the order of their elements.
 pub(crate) fn put_members(members: &Table, out: &mut Vec<u8>) -> Result<(), Memory>
     ensures ok { OnOk result (out.new.items ≡ out.old.items ++ set_spelling members.now) }
-    ensures err { OnErr result (AppendsPart out.old.items out.new.items (set_spelling members.now)) }
+    ensures err { OnErr result (AppendsPart out.old.items out.new.items
+        (set_spelling members.now)) }
 {
     put_u64(members.size() as u64, out)?;
     for (element, times) in members.in_order().iter() {
@@ -51,7 +66,7 @@ fn is_above(element: &[u8], members: &Table) -> bool
 fn put_behind(members: &mut Table, element: Vec<u8>, times: Times) -> Result<(), Memory>
     requires { IsAbove element.items (keys_of members.old) }
     ensures entries { OnOk result (members.new ≡ members.old ++ (element.items, times) ∷ []) }
-    ensures sorted { OnOk result (IsStrictlySortedBy (slice_cmp nat_cmp) (keys_of members.new)) }
+    ensures sorted { OnOk result (AreInOrder members.new) }
 {
     members.put(element, times)?;
     let _size = members.size();
@@ -61,8 +76,10 @@ fn put_behind(members: &mut Table, element: Vec<u8>, times: Times) -> Result<(),
 // Takes a member whose element is above all others, and puts it behind them.
 fn take_member(alloc: Global, cursor: &mut Cursor<'_>, members: &mut Table) -> Result<(), Unread>
     ensures ok { OnOk result (TakesMember cursor.old members.old cursor.new members.new) }
-    ensures sorted { OnOk result (IsStrictlySortedBy (slice_cmp nat_cmp) (keys_of members.new)) }
-    ensures outside { IsErrOf result Unread.NotCanonical → (e : List ℕ × SpecTimes) (rest : List ℕ) → IsMember e → IsAbove e.0 (keys_of members.old) → cursor.old ≡ member_spelling e ++ rest → ⊥ }
+    ensures sorted { OnOk result (AreInOrder members.new) }
+    ensures outside { IsErrOf result Unread.NotCanonical → (e : List ℕ × SpecTimes) (rest : List ℕ)
+        → IsMember e → IsAbove e.0 (keys_of members.old)
+        → cursor.old ≡ member_spelling e ++ rest → ⊥ }
 {
     let element = cursor.take_bytes()?;
     let times = Live::take(alloc, cursor)?;
@@ -85,7 +102,9 @@ pub(crate) fn take_members(
     count: u64,
 ) -> Result<Table, Unread>
     ensures ok { IfOk result (AreTaken cursor.old count cursor.new) }
-    ensures outside { IsErrOf result Unread.NotCanonical → (es : List (List ℕ × SpecTimes)) (rest : List ℕ) → AreRising es → length es ≡ count → cursor.old ≡ flat_map member_spelling es ++ rest → ⊥ }
+    ensures outside { IsErrOf result Unread.NotCanonical
+        → (es : List (List ℕ × SpecTimes)) (rest : List ℕ) → AreRising es → length es ≡ count
+        → cursor.old ≡ flat_map member_spelling es ++ rest → ⊥ }
 {
     let mut members = Table::new(alloc);
     for _index in 0..count {

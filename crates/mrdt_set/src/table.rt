@@ -2,12 +2,11 @@
 ghost use Rattle.std.specs.Prelude.{◌≡◌, [], length, is_some, IfOk, OnOk};
 ghost use Rattle.std.specs.Option.{option_copied};
 ghost use Rattle.std.specs.BTreeMap.{insert_entry};
-ghost use Rattle.std.specs.Map.{keys_of, remove_entry};
+ghost use Rattle.std.specs.Map.{remove_entry};
 ghost use Rattle.std.specs.Cmp.Lexicographic.{slice_cmp};
 ghost use Rattle.std.specs.Ordering.{nat_cmp};
-ghost use Rattle.std.specs.List.Sorted.{IsStrictlySortedBy};
 ghost use Rattle.std.specs.Vec.{vec_items};
-ghost use Rattle.mrdt_set.specs.Members.{by_bytes, same_element, times_at};
+ghost use Rattle.mrdt_set.specs.Members.{by_bytes, same_element, times_at, AreInOrder};
 
 use live_set::Live;
 use mrdt_model::{Memory, Shared};
@@ -26,19 +25,15 @@ pub(crate) struct Table {
 
 impl Model for Table {
     ghost use Rattle.std.specs.Prelude.{List, ℕ};
-    ghost use Rattle.std.specs.Map.{keys_of};
-    ghost use Rattle.std.specs.Cmp.Lexicographic.{slice_cmp};
-    ghost use Rattle.std.specs.Ordering.{nat_cmp};
-    ghost use Rattle.std.specs.List.Sorted.{IsStrictlySortedBy};
     ghost use Rattle.live_set.specs.declared.kept.Kept.{Kept};
     ghost use Rattle.std.specs.Vec.{vec_items};
-    ghost use Rattle.mrdt_set.specs.Members.{by_bytes};
+    ghost use Rattle.mrdt_set.specs.Members.{by_bytes, AreInOrder};
 
     ghost Value = { List (List ℕ × List (Kept (Unit {0}))) };
 
     ghost view = { λ t. by_bytes vec_items t.entries.entries };
 
-    ghost invariant = { λ t. IsStrictlySortedBy (slice_cmp nat_cmp) (keys_of (by_bytes vec_items t.entries.entries)) };
+    ghost invariant = { λ t. AreInOrder (by_bytes vec_items t.entries.entries) };
 }
 
 impl Table {
@@ -54,7 +49,7 @@ impl Table {
     // How many elements there are.
     pub(crate) fn size(&self) -> usize
         ensures size { result ≡ length self.now }
-        ensures sorted { IsStrictlySortedBy (slice_cmp nat_cmp) (keys_of self.now) }
+        ensures sorted { AreInOrder self.now }
     {
         self.entries.len()
     }
@@ -91,7 +86,8 @@ impl Table {
 
     // Puts an element with its times, in place of those that it had.
     pub(crate) fn put(&mut self, element: Vec<u8>, times: Times) -> Result<(), Memory>
-        ensures { OnOk result (self.new ≡ insert_entry (slice_cmp nat_cmp) self.old element.items times) }
+        ensures { OnOk result (self.new
+            ≡ insert_entry (slice_cmp nat_cmp) self.old element.items times) }
     {
         self.entries.insert(element, times)?;
         Ok(())
@@ -100,7 +96,7 @@ impl Table {
     // Takes an element away.
     pub(crate) fn take_away(&mut self, element: &[u8])
         ensures entries { self.new ≡ remove_entry (same_element element.now) self.old }
-        ensures sorted { IsStrictlySortedBy (slice_cmp nat_cmp) (keys_of self.old) }
+        ensures sorted { AreInOrder self.old }
     {
         let _times = self.entries.remove(element);
     }

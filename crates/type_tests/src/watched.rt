@@ -1,5 +1,6 @@
 // Which values a merge of maps merges, told by a counter that refuses to be merged in vain.
-use crate::table::{add, after};
+use crate::steps::{after, at};
+use crate::table::add;
 use mrdt_counter::{Counter, CounterOp, CounterQuery};
 use mrdt_map::{Map, MapAnswer, MapQuery, OnKey};
 use mrdt_model::{Bytes, Memory, Mrdt, Time, Unread};
@@ -16,9 +17,10 @@ struct Watched {
 }
 
 impl Model for Watched {
-    ghost use Rattle.std.specs.Prelude.{ℤ};
+    ghost use Rattle.std.specs.Prelude.{List, ℤ};
+    ghost use Rattle.live_set.specs.declared.kept.Kept.{Kept};
 
-    ghost Value = { ℤ };
+    ghost Value = { List (Kept ℤ) };
 
     ghost view = { λ w. w.counter };
 }
@@ -108,7 +110,7 @@ fn one_more(alloc: Global, number: u16) -> Result<OnKey<CounterOp>, Memory> {
 fn filled(alloc: Global) -> Result<Map<Watched>, Memory> {
     let mut map = Map::initial(alloc);
     for number in 0..KEYS {
-        map = after(&map, &one_more(alloc, number)?, 1)?;
+        map = after(&map, &one_more(alloc, number)?, at(1, 0))?;
     }
     Ok(map)
 }
@@ -126,10 +128,10 @@ fn value(alloc: Global, map: &Map<Watched>, number: u16) -> Result<i128, Memory>
 fn only_what_both_sides_change_is_merged(rt: HostRuntime) -> Result<(), Fail> {
     let alloc = rt.alloc();
     let base = filled(alloc)?;
-    let left = after(&base, &one_more(alloc, 5)?, 2)?;
-    let left = after(&left, &one_more(alloc, 7)?, 3)?;
-    let right = after(&base, &one_more(alloc, 5)?, 2)?;
-    let right = after(&right, &one_more(alloc, 9)?, 3)?;
+    let left = after(&base, &one_more(alloc, 5)?, at(2, 1))?;
+    let left = after(&left, &one_more(alloc, 7)?, at(3, 1))?;
+    let right = after(&base, &one_more(alloc, 5)?, at(2, 2))?;
+    let right = after(&right, &one_more(alloc, 9)?, at(3, 2))?;
     assert!(rt; Map::merge(&base, &base, &right)?.same(&right));
     let both = Map::merge(&base, &left, &right)?;
     for (number, want) in [(5, 3), (7, 2), (9, 2), (11, 1)] {

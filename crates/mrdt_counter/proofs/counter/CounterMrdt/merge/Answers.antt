@@ -1,13 +1,12 @@
-use Rattle.std.proofs.Common.{◌∙◌, subst, sym, FitsSigned}
-use Rattle.std.proofs.lemmas.Int.{int_wrap_fits}
-use Rattle.std.specs.Int.{w128}
-use Rattle.mrdt_counter.specs.Sums.{total-union}
-use Rattle.mrdt_counter.proofs.Totals.{union-fits}
-use Rattle.mrdt_model.specs.Times.{either}
+use Rattle.std.proofs.Common.{◌∙◌}
+use Rattle.mrdt_model.proofs.SameEvents.{own-times}
+use Rattle.live_set.specs.UnitReply.{IsAnyReply}
+use Rattle.live_set.proofs.Standing.{merged-live}
+use Rattle.mrdt_counter.specs.Counter.{counter_effect, IsCounterOp}
 use Rattle.mrdt_counter.proofs.counter.CounterMrdt.merge.Goals as goal
 
 pub returns : goal.returns
 returns c x a b lawful closed_a closed_b base left right =
-    let union = total-union x a b in
-    let fits = subst (FitsSigned w128) (sym union) (union-fits x (either a b) lawful) in
-    rw (base, left, right) at c.merged.ensures ∙ int_wrap_fits w128 _ fits ∙ union
+    let live = c.in_ok-merge in
+    merged-live counter_effect x a b c.base.inside.adds c.left.inside.adds c.right.inside.adds live.field-0 (own-times IsCounterOp IsAnyReply x lawful.well_formed) closed_a closed_b
+    (c.base.view_is ∙ base) (c.left.view_is ∙ left) (c.right.view_is ∙ right) live.ensures.rising live.ensures.merges

@@ -1,6 +1,0 @@
-use Rattle.std.proofs.Common.{rules}
-use Rattle.std.proofs.lemmas.Int.{wraps}
-use Rattle.mrdt_counter.proofs.counter.Counter.merged.Goals as goal
-
-pub returns : goal.returns
-returns c = rw (← c.left.view_is, ← c.right.view_is, ← c.base.view_is) (search (rules, wraps))

@@ -1,0 +1,82 @@
+// Live sets.
+use crate::steps::at;
+use branch_wire::Cursor;
+use live_set::{Live, Payload, shared_text};
+use mrdt_model::{Bytes, Memory, Shared, Time};
+use std::alloc::Global;
+use std::test::Fail;
+
+// One time with the text `v`.
+const TEXT: &[u8] = b"\
+\x00\x00\x00\x00\x00\x00\x00\x01\
+\x00\x00\x00\x00\x00\x00\x00\x01\x00\x00\x00\x02\
+\x00\x00\x00\x00\x00\x00\x00\x01v";
+
+// The text `w` at that time, `v` at a later one, and no text.
+const OTHER_TEXT: &[u8] = b"\
+\x00\x00\x00\x00\x00\x00\x00\x01\
+\x00\x00\x00\x00\x00\x00\x00\x01\x00\x00\x00\x02\
+\x00\x00\x00\x00\x00\x00\x00\x01w";
+
+const LATER: &[u8] = b"\
+\x00\x00\x00\x00\x00\x00\x00\x01\
+\x00\x00\x00\x00\x00\x00\x00\x01\x00\x00\x00\x03\
+\x00\x00\x00\x00\x00\x00\x00\x01v";
+
+const NO_TEXT: &[u8] = b"\x00\x00\x00\x00\x00\x00\x00\x00";
+
+fn of_times(alloc: Global, times: &[Time]) -> Result<Live<()>, Memory> {
+    let mut live = Live::new(alloc);
+    for time in times {
+        live.add(*time, ())?;
+    }
+    Ok(live)
+}
+
+// What one side has dropped goes, what the other has put stays, and so does what both have.
+#[test]
+fn sides_are_merged(rt: HostRuntime) -> Result<(), Fail> {
+    let alloc = rt.alloc();
+    let base = of_times(alloc, &[at(1, 0), at(2, 0)])?;
+    let left = of_times(alloc, &[at(1, 0), at(2, 0), at(3, 1)])?;
+    let right = of_times(alloc, &[at(2, 0), at(3, 2)])?;
+    let want = of_times(alloc, &[at(2, 0), at(3, 1), at(3, 2)])?;
+    assert!(rt; Live::merge(&base, &left, &right)?.same(&want));
+    Ok(())
+}
+
+#[test]
+fn live_sets_are_spelled(rt: HostRuntime) -> Result<(), Fail> {
+    let alloc = rt.alloc();
+    let mut texts = Live::new(alloc);
+    let text = shared_text(alloc, b"v")?;
+    texts.add(at(1, 2), Payload::copy(&text)?)?;
+    let mut out = Vec::new(alloc);
+    texts.put(&mut out)?;
+    assert!(rt; out.as_slice() == TEXT);
+    let mut cursor = Cursor::new(TEXT);
+    let taken: Result<Live<Shared<Bytes>>, _> = Live::take(alloc, &mut cursor);
+    let Ok(taken) = taken else {
+        panic!(rt; "no text");
+    };
+    assert!(rt; cursor.is_at_end());
+    let mut copied = taken.copy()?;
+    assert!(rt; matches!(copied.items(), [kept] if kept.payload == text));
+    copied.drop_seen();
+    assert!(rt; copied.items().is_empty());
+    Ok(())
+}
+
+// Live sets are the same as themselves alone: times, payloads and their number tell them apart.
+#[test]
+fn live_sets_are_compared(rt: HostRuntime) {
+    let alloc = rt.alloc();
+    let texts = [TEXT, OTHER_TEXT, LATER, NO_TEXT];
+    for (index, bytes) in texts.iter().enumerate() {
+        let live: Live<Shared<Bytes>> = Live::get(alloc, bytes).expect(&rt, "a live set");
+        for (other_index, other_bytes) in texts.iter().enumerate() {
+            let other = Live::get(alloc, other_bytes).expect(&rt, "a live set");
+            assert!(rt; live.same(&other) == (index == other_index));
+        }
+    }
+}
