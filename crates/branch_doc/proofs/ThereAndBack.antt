@@ -39,7 +39,7 @@ use Rattle.mrdt_map.specs.declared.map.MapAnswer.TheVariants.{OnValue, OnKeys}
 use Rattle.branch_doc.specs.declared.plain.Kind.{Kind}
 use Rattle.branch_doc.specs.declared.plain.Kind.TheVariants as kind
 use Rattle.branch_doc.specs.declared.plain.PlainOp.{PlainOp}
-use Rattle.branch_doc.specs.declared.plain.PlainOp.TheVariants.{CounterAdd, FlagEnable, FlagDisable, LwwSet, MultiSet, SetAdd, SetRemove, LogAppend, QueueEnqueue, QueueDequeue}
+use Rattle.branch_doc.specs.declared.plain.PlainOp.TheVariants.{CounterAdd, CounterReset, FlagEnable, FlagDisable, LwwSet, MultiSet, SetAdd, SetRemove, SetClear, LogAppend, QueueEnqueue, QueueDequeue}
 use Rattle.branch_doc.specs.declared.plain.PlainQuery.{PlainQuery}
 use Rattle.branch_doc.specs.declared.plain.PlainQuery.TheVariants.{CounterValue, FlagIsOn, LwwGet, MultiValues, SetContains, SetMembers, SetSize, LogRead, LogLength, QueuePeek, QueueItems, QueueLength, Keys}
 use Rattle.branch_doc.specs.declared.plain.PlainReply.{PlainReply}
@@ -52,6 +52,7 @@ use Rattle.branch_doc.specs.Forms.{DocOp, DocQuery, DocReply, DocAnswer, on, doc
 -- the plain form of an operation
 abbrev counter_form : List ℕ → CounterOp → PlainOp
 counter_form key (counter_op.Add amount) = CounterAdd key amount
+counter_form key counter_op.Reset = CounterReset key
 
 abbrev flag_form : List ℕ → FlagOp → PlainOp
 flag_form key flag_op.Enable = FlagEnable key
@@ -66,6 +67,7 @@ multi_form key (register_op.Set payload) = MultiSet key payload
 abbrev set_form : List ℕ → SetOp → PlainOp
 set_form key (set_op.Add element) = SetAdd key element
 set_form key (set_op.Remove element) = SetRemove key element
+set_form key set_op.Clear = SetClear key
 
 abbrev log_form : List ℕ → LogOp → PlainOp
 log_form key (log_op.Append payload) = LogAppend key payload
@@ -85,18 +87,21 @@ op_form (Second (Second (Second (Second (Second (Second o)))))) = queue_form o.k
 
 pub op-there : (p : PlainOp) → op_form (doc_op p) ≡ p
 op-there (CounterAdd key amount) = refl
+op-there (CounterReset key) = refl
 op-there (FlagEnable key) = refl
 op-there (FlagDisable key) = refl
 op-there (LwwSet key payload) = refl
 op-there (MultiSet key payload) = refl
 op-there (SetAdd key element) = refl
 op-there (SetRemove key element) = refl
+op-there (SetClear key) = refl
 op-there (LogAppend key payload) = refl
 op-there (QueueEnqueue key payload) = refl
 op-there (QueueDequeue key) = refl
 
 counter-back : (key : List ℕ) (o : CounterOp) → doc_op (counter_form key o) ≡ at_counters (on key o)
 counter-back key (counter_op.Add amount) = refl
+counter-back key counter_op.Reset = refl
 
 flag-back : (key : List ℕ) (o : FlagOp) → doc_op (flag_form key o) ≡ at_flags (on key o)
 flag-back key flag_op.Enable = refl
@@ -111,6 +116,7 @@ multi-back key (register_op.Set payload) = refl
 set-back : (key : List ℕ) (o : SetOp) → doc_op (set_form key o) ≡ at_sets (on key o)
 set-back key (set_op.Add element) = refl
 set-back key (set_op.Remove element) = refl
+set-back key set_op.Clear = refl
 
 log-back : (key : List ℕ) (o : LogOp) → doc_op (log_form key o) ≡ at_logs (on key o)
 log-back key (log_op.Append payload) = refl

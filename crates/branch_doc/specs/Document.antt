@@ -20,7 +20,7 @@ Keyed V = List (List ℕ × V)
 -- the state of each kind's map
 abbrev pub DocState : Type 0
 DocState =
-    Keyed ℤ × (Keyed (List (Kept (Unit {0}))) × (Keyed (Option (Kept (List ℕ))) × (Keyed (List (Kept (List ℕ)))
+    Keyed (List (Kept ℤ)) × (Keyed (List (Kept (Unit {0}))) × (Keyed (Option (Kept (List ℕ))) × (Keyed (List (Kept (List ℕ)))
     × (Keyed (Keyed (List (Kept (Unit {0})))) × (Keyed (List (Kept (List ℕ))) × Keyed (List (Kept (List ℕ))))))))
 
 abbrev pub document : Meaning DocState DocOp DocReply DocQuery DocAnswer

@@ -43,7 +43,7 @@ use Rattle.mrdt_map.specs.declared.map.MapAnswer.TheVariants.{OnValue, OnKeys}
 use Rattle.branch_doc.specs.declared.plain.Kind.{Kind}
 use Rattle.branch_doc.specs.declared.plain.Kind.TheVariants as kind
 use Rattle.branch_doc.specs.declared.plain.PlainOp.{PlainOp}
-use Rattle.branch_doc.specs.declared.plain.PlainOp.TheVariants.{CounterAdd, FlagEnable, FlagDisable, LwwSet, MultiSet, SetAdd, SetRemove, LogAppend, QueueEnqueue, QueueDequeue}
+use Rattle.branch_doc.specs.declared.plain.PlainOp.TheVariants.{CounterAdd, CounterReset, FlagEnable, FlagDisable, LwwSet, MultiSet, SetAdd, SetRemove, SetClear, LogAppend, QueueEnqueue, QueueDequeue}
 use Rattle.branch_doc.specs.declared.plain.PlainQuery.{PlainQuery}
 use Rattle.branch_doc.specs.declared.plain.PlainQuery.TheVariants.{CounterValue, FlagIsOn, LwwGet, MultiValues, SetContains, SetMembers, SetSize, LogRead, LogLength, QueuePeek, QueueItems, QueueLength, Keys}
 use Rattle.branch_doc.specs.declared.plain.PlainReply.{PlainReply}
@@ -71,12 +71,14 @@ on key operation = record { key = key; operation = operation }
 -- the operation that a plain form stands for
 abbrev pub doc_op : PlainOp → DocOp
 doc_op (CounterAdd key amount) = at_counters (on key (counter_op.Add amount))
+doc_op (CounterReset key) = at_counters (on key counter_op.Reset)
 doc_op (FlagEnable key) = at_flags (on key flag_op.Enable)
 doc_op (FlagDisable key) = at_flags (on key flag_op.Disable)
 doc_op (LwwSet key payload) = at_last_writes (on key (register_op.Set payload))
 doc_op (MultiSet key payload) = at_multis (on key (register_op.Set payload))
 doc_op (SetAdd key element) = at_sets (on key (set_op.Add element))
 doc_op (SetRemove key element) = at_sets (on key (set_op.Remove element))
+doc_op (SetClear key) = at_sets (on key set_op.Clear)
 doc_op (LogAppend key payload) = at_logs (on key (log_op.Append payload))
 doc_op (QueueEnqueue key payload) = at_queues (on key (queue_op.Enqueue payload))
 doc_op (QueueDequeue key) = at_queues (on key queue_op.Dequeue)

@@ -14,6 +14,7 @@ impl PlainOp {
                 key: key.copy()?,
                 amount: *amount,
             },
+            PlainOp::CounterReset { key } => PlainOp::CounterReset { key: key.copy()? },
             PlainOp::FlagEnable { key } => PlainOp::FlagEnable { key: key.copy()? },
             PlainOp::FlagDisable { key } => PlainOp::FlagDisable { key: key.copy()? },
             PlainOp::LwwSet { key, payload } => PlainOp::LwwSet {
@@ -32,6 +33,7 @@ impl PlainOp {
                 key: key.copy()?,
                 element: element.copy()?,
             },
+            PlainOp::SetClear { key } => PlainOp::SetClear { key: key.copy()? },
             PlainOp::LogAppend { key, payload } => PlainOp::LogAppend {
                 key: key.copy()?,
                 payload: payload.copy()?,

@@ -31,12 +31,14 @@ pub fn op(plain: PlainOp) -> DocOp
 {
     match plain {
         PlainOp::CounterAdd { key, amount } => Side::First(on(key, CounterOp::Add(amount))),
+        PlainOp::CounterReset { key } => Side::First(on(key, CounterOp::Reset)),
         PlainOp::FlagEnable { key } => of_flags(on(key, FlagOp::Enable)),
         PlainOp::FlagDisable { key } => of_flags(on(key, FlagOp::Disable)),
         PlainOp::LwwSet { key, payload } => of_last_writes(on(key, RegisterOp::Set(payload))),
         PlainOp::MultiSet { key, payload } => of_multis(on(key, RegisterOp::Set(payload))),
         PlainOp::SetAdd { key, element } => of_sets(on(key, SetOp::Add(element))),
         PlainOp::SetRemove { key, element } => of_sets(on(key, SetOp::Remove(element))),
+        PlainOp::SetClear { key } => of_sets(on(key, SetOp::Clear)),
         PlainOp::LogAppend { key, payload } => of_logs(on(key, LogOp::Append(payload))),
         PlainOp::QueueEnqueue { key, payload } => of_queues(on(key, QueueOp::Enqueue(payload))),
         PlainOp::QueueDequeue { key } => of_queues(on(key, QueueOp::Dequeue)),

@@ -26,6 +26,8 @@ pub enum Kind {
 pub enum PlainOp {
     /// Adds an amount to a counter.
     CounterAdd { key: Bytes, amount: i64 },
+    /// Takes away all amounts of a counter that have been seen.
+    CounterReset { key: Bytes },
     /// Turns a flag on.
     FlagEnable { key: Bytes },
     /// Turns a flag off where it has been seen on.
@@ -38,6 +40,8 @@ pub enum PlainOp {
     SetAdd { key: Bytes, element: Bytes },
     /// Takes an element out of a set where it has been seen.
     SetRemove { key: Bytes, element: Bytes },
+    /// Takes all elements out of a set where they have been seen.
+    SetClear { key: Bytes },
     /// Appends a payload to a log.
     LogAppend { key: Bytes, payload: Bytes },
     /// Puts a payload behind all others of a queue.

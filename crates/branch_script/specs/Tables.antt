@@ -3,7 +3,7 @@ use Rattle.std.specs.Prelude.{ℕ, ℤ, bytes_eq, codes, Option, Some, None, Res
 use Rattle.branch_doc.specs.declared.plain.Kind.{Kind}
 use Rattle.branch_doc.specs.declared.plain.Kind.TheVariants.{Counter, Flag, Lww, Multi, Set, Log, Queue}
 use Rattle.branch_doc.specs.declared.plain.PlainOp.{PlainOp}
-use Rattle.branch_doc.specs.declared.plain.PlainOp.TheVariants.{CounterAdd, FlagEnable, FlagDisable, LwwSet, MultiSet, SetAdd, SetRemove, LogAppend, QueueEnqueue, QueueDequeue}
+use Rattle.branch_doc.specs.declared.plain.PlainOp.TheVariants.{CounterAdd, CounterReset, FlagEnable, FlagDisable, LwwSet, MultiSet, SetAdd, SetRemove, SetClear, LogAppend, QueueEnqueue, QueueDequeue}
 use Rattle.branch_doc.specs.declared.plain.PlainQuery.{PlainQuery}
 use Rattle.branch_doc.specs.declared.plain.PlainQuery.TheVariants.{CounterValue, FlagIsOn, LwwGet, MultiValues, SetContains, SetMembers, SetSize, LogRead, LogLength, QueuePeek, QueueItems, QueueLength}
 use Rattle.branch_script.specs.declared.step.LineRefused.{LineRefused}
@@ -28,11 +28,11 @@ counter_add key (Some amount) = Ok (CounterAdd key amount)
 
 -- the operations on the value of a kind at a key that take no word
 abbrev pub operations_at_key : Kind → List ℕ → List (List ℕ × PlainOp)
-operations_at_key Counter key = []
+operations_at_key Counter key = (codes "reset", CounterReset key) ∷ []
 operations_at_key Flag key = (codes "enable", FlagEnable key) ∷ (codes "disable", FlagDisable key) ∷ []
 operations_at_key Lww key = []
 operations_at_key Multi key = []
-operations_at_key Set key = []
+operations_at_key Set key = (codes "clear", SetClear key) ∷ []
 operations_at_key Log key = []
 operations_at_key Queue key = (codes "dequeue", QueueDequeue key) ∷ []
 

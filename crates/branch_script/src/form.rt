@@ -12,6 +12,7 @@ use branch_names::Name;
 use mrdt_model::Bytes;
 use std::alloc::Global;
 
+// `look SESSION BRANCH`, `fork NEW BRANCH` or `merge SESSION BRANCH`.
 fn three_words(verb: &[u8], first: &[u8], second: &[u8]) -> Result<Step, LineRefused>
     ensures { result ≡ three_words verb.now first.now second.now }
 {
@@ -32,6 +33,7 @@ fn three_words(verb: &[u8], first: &[u8], second: &[u8]) -> Result<Step, LineRef
     }
 }
 
+// `ask BRANCH KIND keys`.
 fn four_words(verb: &[u8], branch: &[u8], kind: &[u8], query: &[u8]) -> Result<Step, LineRefused>
     ensures { result ≡ four_words verb.now branch.now kind.now query.now }
 {
@@ -47,6 +49,7 @@ fn four_words(verb: &[u8], branch: &[u8], kind: &[u8], query: &[u8]) -> Result<S
     })
 }
 
+// `do SESSION KIND KEY OPERATION`.
 fn do_at_key(
     alloc: Global,
     session: &[u8],
@@ -65,6 +68,7 @@ fn do_at_key(
     Ok(Step::Do { session, op })
 }
 
+// `ask BRANCH KIND KEY QUERY`.
 fn ask_at_key(
     alloc: Global,
     branch: &[u8],
@@ -83,6 +87,7 @@ fn ask_at_key(
     Ok(Step::Ask { branch, query })
 }
 
+// `do SESSION KIND KEY OPERATION WORD`. A bad name is refused before a bad number.
 fn do_with_word(
     alloc: Global,
     session: &[u8],
@@ -103,6 +108,7 @@ fn do_with_word(
     Ok(Step::Do { session, op: op? })
 }
 
+// `ask BRANCH KIND KEY QUERY WORD`.
 fn ask_with_word(
     alloc: Global,
     branch: &[u8],
@@ -123,6 +129,7 @@ fn ask_with_word(
     Ok(Step::Ask { branch, query })
 }
 
+// An operation or a query at a key that takes no word.
 fn five_words(
     alloc: Global,
     verb: &[u8],
@@ -141,6 +148,7 @@ fn five_words(
     }
 }
 
+// An operation or a query at a key that takes a word.
 fn six_words(
     alloc: Global,
     verb: &[u8],

@@ -47,8 +47,10 @@ pub fn operation_at_key(kind: Kind, operation: &[u8], key: Bytes) -> Option<Plai
     ensures { result ≡ behind operation.now (operations_at_key kind key) }
 {
     match kind {
+        Kind::Counter if is(operation, b"reset") => Some(PlainOp::CounterReset { key }),
         Kind::Flag if is(operation, b"enable") => Some(PlainOp::FlagEnable { key }),
         Kind::Flag if is(operation, b"disable") => Some(PlainOp::FlagDisable { key }),
+        Kind::Set if is(operation, b"clear") => Some(PlainOp::SetClear { key }),
         Kind::Queue if is(operation, b"dequeue") => Some(PlainOp::QueueDequeue { key }),
         _ => None,
     }

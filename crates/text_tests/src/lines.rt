@@ -4,13 +4,19 @@ use branch_script::{LineRefused, Step, read_line};
 
 #[test]
 fn lines_that_are_refused(rt: HostRuntime) {
-    let rows: [(&[u8], LineRefused); 12] = [
+    let rows: [(&[u8], LineRefused); 18] = [
         (b"look", LineRefused::Syntax),
         (b"look a  main", LineRefused::Syntax),
         (b"look a main ", LineRefused::Syntax),
         (b"fork m\xc3 main", LineRefused::Syntax),
         (b"ask main set s remove w", LineRefused::Syntax),
         (b"do A register r set w", LineRefused::Syntax),
+        (b"do a counter c reset 1", LineRefused::Syntax),
+        (b"do a counter c  reset", LineRefused::Syntax),
+        (b"do a flag f reset", LineRefused::Syntax),
+        (b"do a set s clear w", LineRefused::Syntax),
+        (b"do a set s  clear", LineRefused::Syntax),
+        (b"do a counter c clear", LineRefused::Syntax),
         (b"look A main", LineRefused::BadName),
         (b"ask Main set keys", LineRefused::BadName),
         (b"do A counter c add 01", LineRefused::BadName),
@@ -40,13 +46,15 @@ fn verb(step: &Option<Step>) -> &'static [u8] {
 
 #[test]
 fn lines_that_are_read(rt: HostRuntime) {
-    let rows: [(&[u8], &[u8]); 8] = [
+    let rows: [(&[u8], &[u8]); 10] = [
         (b"", b""),
         (b"# look a main", b""),
         (b"look a_1 main", b"look"),
         (b"fork l main", b"fork"),
         (b"merge a r", b"merge"),
         (b"do a queue Q dequeue", b"do"),
+        (b"do a counter c reset", b"do"),
+        (b"do a set s clear", b"do"),
         (b"do b multi m set #x", b"do"),
         (b"ask main counter keys", b"ask"),
     ];
