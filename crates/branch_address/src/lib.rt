@@ -6,6 +6,3 @@
 mod address;
 
 pub use address::{Address, Sha256Address, WeakAddress};
-
-#[cfg(test)]
-mod tests;

@@ -5,14 +5,32 @@ ghost use Rattle.branch_io.specs.Causes.{HasCause};
 ghost use Rattle.branch_disk.specs.Edge.{FromPlace, OnFile};
 
 use crate::{Disk, DiskFailed, Part};
-use std::fs::{OpenFile, OpenOptions};
+use std::fs::{File, OpenFile, OpenOptions};
 use std::io;
 use std::io::{Read, Seek, SeekFrom, Write};
 use std::path::Path;
 use std::rt::Files;
 
+/// A file of which one open at a time can have the lock.
+pub trait LockFile {
+    /// Takes the lock, for as long as the file is open, and waits for nobody. It fails where another open of the
+    /// file has the lock, in this program or in another one.
+    fn take_lock(&self) -> io::Result<()>;
+}
+
+impl LockFile for File {
+    fn take_lock(&self) -> io::Result<()> {
+        self.try_lock()?;
+        Ok(())
+    }
+}
+
 /// A disk over the files PATH`.objects` and PATH`.heads`. Both are opened, or made empty, at its first call. It
 /// counts each error, a write that takes nothing and a file that ends early among them.
+///
+/// One disk at a time can have the files: the first call opens the heads and takes their lock, before it makes the
+/// objects and before anything is read or written, and the lock is kept until the disk is dropped. While another
+/// disk has it, also one of another program, each call fails and leaves both files as they are.
 ///
 /// A sync is the system's `fsync` of that file. Where a file is empty at the first call, it may just have been made:
 /// then the folder of both is synced first, so that their names are there after a crash.
@@ -119,12 +137,18 @@ fn sync_folder<R: Files>(rt: &R, name: &str) -> io::Result<()> {
     how.open(rt, folder)?.sync_all()
 }
 
-// Opens both files, and syncs their folder where one of them is empty, as a new one is.
-fn open_both<R: Files>(rt: &R, path: &String) -> io::Result<Opened<R::File>> {
-    let name = name_of(path, ".objects")?;
+// Opens the heads and takes their lock, and then opens the objects. Syncs the folder of both where one of them is
+// empty, as a new one is.
+fn open_both<R: Files>(rt: &R, path: &String) -> io::Result<Opened<R::File>>
+where
+    R::File: LockFile,
+{
+    let name = name_of(path, ".heads")?;
+    let heads = open(rt, name.as_str())?;
+    heads.take_lock()?;
     let mut files = Opened {
-        objects: open(rt, name.as_str())?,
-        heads: open(rt, name_of(path, ".heads")?.as_str())?,
+        objects: open(rt, name_of(path, ".objects")?.as_str())?,
+        heads,
     };
     if length_of(&mut files.objects)? == 0 || length_of(&mut files.heads)? == 0 {
         sync_folder(rt, name.as_str())?;
@@ -134,6 +158,8 @@ fn open_both<R: Files>(rt: &R, path: &String) -> io::Result<Opened<R::File>> {
 
 // Opens both files where they are not open yet.
 fn ready<R: Files>(rt: &R, path: &String, files: &mut Option<Opened<R::File>>) -> io::Result<()>
+where
+    R::File: LockFile,
     ensures open { OnOk result (IsSome files.new) }
     ensures same { IsSome files.old → files.new ≡ files.old }
 {
@@ -143,7 +169,10 @@ fn ready<R: Files>(rt: &R, path: &String, files: &mut Option<Opened<R::File>>) -
     Ok(())
 }
 
-impl<R: Files + Drop> FileDisk<R> {
+impl<R: Files + Drop> FileDisk<R>
+where
+    R::File: LockFile,
+{
     /// The disk over the files with this path and the endings `.objects` and `.heads`. No fault is counted yet.
     pub fn new(rt: R, path: String) -> FileDisk<R>
         ensures { ⟦<FileDisk<R> as Disk>⟧.faults result ≡ 0 }
@@ -172,7 +201,10 @@ fn counted<T: Drop>(faults: &mut u64, done: io::Result<T>) -> Result<T, DiskFail
     }
 }
 
-impl<R: Files + Drop> Disk for FileDisk<R> {
+impl<R: Files + Drop> Disk for FileDisk<R>
+where
+    R::File: LockFile,
+{
     ghost contents = { λ _. None };
 
     ghost may_leave = { λ _ _. ⊥ };

@@ -15,14 +15,10 @@ pub mod laws;
 mod memory;
 mod part;
 mod patch;
-#[cfg(test)]
-mod shaky;
-#[cfg(test)]
-mod tests;
 mod whole;
 
 pub use disk::{Disk, DiskFailed};
-pub use file::FileDisk;
+pub use file::{FileDisk, LockFile};
 pub use fill::Fill;
 pub use memory::MemoryDisk;
 pub use part::Part;

@@ -5,8 +5,6 @@
 pub mod graph;
 pub mod laws;
 mod parents;
-#[cfg(test)]
-mod tests;
 mod waiting;
 mod walk;
 

@@ -10,8 +10,6 @@ mod memory;
 mod sink;
 mod source;
 mod standard;
-#[cfg(test)]
-mod tests;
 
 pub use faults::Faults;
 pub use memory::{MemorySink, MemorySource};

@@ -7,7 +7,7 @@ use Rattle.std.proofs.lemmas.List.Folds.{concat-append}
 use Rattle.mrdt_model.specs.Executions.{Event}
 use Rattle.mrdt_model.specs.Laws.{KeepsLaws}
 use Rattle.branch_names.specs.Heads.{head_of}
-use Rattle.branch_wire.specs.Fields.{number, short_number, field}
+use Rattle.branch_wire.specs.Fields.{number, short_number, field, version}
 use Rattle.branch_wire.specs.Objects.{action_field, CommitFields, commit_body, commit_object, value_object}
 use Rattle.branch_wire.specs.StoredObjects.{Stored, header, file_of, same, fresh}
 use Rattle.branch_wire.proofs.Numbers.{length-number, length-short_number, length-field}
@@ -182,7 +182,7 @@ module _ {S O R Q A : Type 0} (fixed : Fixed S O R Q A) where
         )
       where
         length-header : length header ≡ 16
-        length-header = omega (arith, length-append (codes "MRDTOBJS") (short_number 1 ++ short_number 0), length-append (short_number 1) (short_number 0), length-short_number 1, length-short_number 0)
+        length-header = omega (arith, length-append (codes "MRDTOBJS") (short_number version ++ short_number 0), length-append (short_number version) (short_number 0), length-short_number version, length-short_number 0)
 
     pub short : KeepsLaws fixed.meaning → length (fixed.meaning.spelling_of []) ≤ 2 ^ 32 → (moves : List (Move O R)) → IsFullyValid fixed moves → length (objects_text fixed moves) < 2 ^ 63
     short laws modest moves valid =

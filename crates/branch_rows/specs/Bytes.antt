@@ -29,7 +29,7 @@ root = 2 ∷ eight 53 ++ zeros 8 ++ zeros 4 ++ zeros 8 ++ address_of 113 ++ 0 �
 
 -- the header of the objects
 abbrev pub letters : List ℕ
-letters = codes "MRDTOBJS" ++ 0 ∷ 0 ∷ 0 ∷ 1 ∷ zeros 4
+letters = codes "MRDTOBJS" ++ 0 ∷ 0 ∷ 0 ∷ 2 ∷ zeros 4
 
 -- the object of the document in which the counter `hits` is 5
 abbrev pub hits_value : List ℕ

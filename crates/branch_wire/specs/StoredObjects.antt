@@ -2,15 +2,15 @@
 use Rattle.std.specs.Prelude.{◌≡◌, ℕ, Bool, List, [], ◌∷◌, ◌++◌, length, take, Option, Some, None, ◌&&◌, not, if◌then◌else◌, nat_eq, codes}
 use Rattle.std.specs.List.{concat, list_any, find}
 use Rattle.std.specs.Cmp.Lexicographic.{pointwise}
-use Rattle.branch_wire.specs.Fields.{short_number}
+use Rattle.branch_wire.specs.Fields.{short_number, version}
 
 -- the stored objects, in the order in which they were stored
 abbrev pub Stored : Type 0
 Stored = List (List ℕ)
 
--- the letters, the version 1, and four bytes 0
+-- the letters, the version, and four bytes 0
 abbrev pub header : List ℕ
-header = codes "MRDTOBJS" ++ (short_number 1 ++ short_number 0)
+header = codes "MRDTOBJS" ++ (short_number version ++ short_number 0)
 
 -- the bytes of the file
 abbrev pub file_of : Stored → List ℕ

@@ -7,13 +7,11 @@ ghost use Rattle.branch_wire.specs.StoredObjects.{header};
 
 use branch_address::Address;
 use branch_objects_codec::{Action, Object, put_value};
-use branch_wire::put_u32;
+use branch_wire::{VERSION, put_u32};
 use mrdt_model::{Listing, Memory, Mrdt};
 use std::alloc::Global;
 
 const LETTERS: &[u8] = b"MRDTOBJS";
-
-const VERSION: u32 = 1;
 
 // The bytes of the objects file of a new store: its header, the object of the first value, and that of the root
 // commit.

@@ -13,8 +13,6 @@ pub mod laws;
 mod names;
 mod reading;
 mod record;
-#[cfg(test)]
-mod tests;
 
 pub use journal::{AppendRefused, Journal};
 pub use reading::{ReadAllRefused, Stop, read_all};

@@ -4,8 +4,6 @@
 
 mod chunk;
 pub mod chunks;
-#[cfg(test)]
-mod tests;
 
 pub use chunk::Entry;
 pub use chunks::Chunks;

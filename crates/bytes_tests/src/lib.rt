@@ -1,0 +1,16 @@
+//! Tests of the crates of bytes and of commits: fields, streams, addresses, objects, lists in chunks, and graphs. They
+//! stand in a crate of their own, since a crate with tests is proved twice.
+#![tactic(auto)]
+
+#[cfg(test)]
+mod addresses;
+#[cfg(test)]
+mod chunks;
+#[cfg(test)]
+mod codec;
+#[cfg(test)]
+mod graphs;
+#[cfg(test)]
+mod streams;
+#[cfg(test)]
+mod wire;
