@@ -43,13 +43,21 @@ pub fn compare_sum(
 }
 
 /// Whether a run wrote the lines that are wanted.
-pub fn compare_bytes(alloc: Global, line: usize, found: &[u8], wanted: &[u8]) -> Result<(), Failure> {
+pub fn compare_bytes(
+    alloc: Global,
+    line: usize,
+    found: &[u8],
+    wanted: &[u8],
+) -> Result<(), Failure> {
     if found == wanted {
         return Ok(());
     }
     let found = shown(alloc, found)?;
     let wanted = shown(alloc, wanted)?;
-    Err(difference(line, first_other_line(alloc, found.as_str(), wanted.as_str())?))
+    Err(difference(
+        line,
+        first_other_line(alloc, found.as_str(), wanted.as_str())?,
+    ))
 }
 
 // A text as it is shown: what is no text is told so.

@@ -36,7 +36,13 @@ impl Folder {
     }
 
     /// From a place on some bytes of a file become these.
-    pub fn change(&mut self, line: usize, file: &str, place: u64, new: &[u8]) -> Result<(), Failure> {
+    pub fn change(
+        &mut self,
+        line: usize,
+        file: &str,
+        place: u64,
+        new: &[u8],
+    ) -> Result<(), Failure> {
         let mut bytes = self.bytes(file).to_vec(self.alloc)?;
         let room = (bytes.len() as u64).saturating_sub(place);
         if room < new.len() as u64 {

@@ -61,7 +61,10 @@ fn name_of(file: &str) -> &str {
 }
 
 // Runs the case in a file, writes what came of it, and says whether it passes.
-fn run_file<R: Files + AllocGlobal + Print + Threads + Wait + Sync>(rt: &R, file: &str) -> io::Result<bool> {
+fn run_file<R: Files + AllocGlobal + Print + Threads + Wait + Sync>(
+    rt: &R,
+    file: &str,
+) -> io::Result<bool> {
     let text = fs::read_to_string(rt, file)?;
     let name = name_of(file);
     match try_case(rt, rt.alloc(), text.as_str()) {
@@ -83,9 +86,15 @@ fn run_file<R: Files + AllocGlobal + Print + Threads + Wait + Sync>(rt: &R, file
 }
 
 // Runs all cases, and says whether each passes.
-fn run_all<R: Env + Files + AllocGlobal + Clone + Drop + Print + Threads + Wait + Sync>(rt: &R) -> io::Result<bool> {
+fn run_all<R: Env + Files + AllocGlobal + Clone + Drop + Print + Threads + Wait + Sync>(
+    rt: &R,
+) -> io::Result<bool> {
     let words = arguments(rt)?;
-    let files = if words.is_empty() { all_cases(rt)? } else { words };
+    let files = if words.is_empty() {
+        all_cases(rt)?
+    } else {
+        words
+    };
     let mut all = true;
     for file in &files {
         all = run_file(rt, file.as_str())? && all;

@@ -48,7 +48,11 @@ struct Player {
 }
 
 /// Plays the steps of a case, up to the first that is not as it wants.
-pub fn play<R: Threads + Wait + Sync>(rt: &R, alloc: Global, steps: &[Step]) -> Result<(), Failure> {
+pub fn play<R: Threads + Wait + Sync>(
+    rt: &R,
+    alloc: Global,
+    steps: &[Step],
+) -> Result<(), Failure> {
     let mut player = Player {
         alloc,
         folder: Folder::new(alloc),
@@ -66,16 +70,31 @@ pub fn play<R: Threads + Wait + Sync>(rt: &R, alloc: Global, steps: &[Step]) -> 
 
 impl Player {
     // One step.
-    fn step<R: Threads + Wait + Sync>(&mut self, rt: &R, line: usize, what: &What) -> Result<(), Failure> {
+    fn step<R: Threads + Wait + Sync>(
+        &mut self,
+        rt: &R,
+        line: usize,
+        what: &What,
+    ) -> Result<(), Failure> {
         match what {
             What::Run(of) => self.run(rt, line, of),
             What::Holds { file, sum } => self.look_at(line, file.as_str(), sum),
-            What::Stop { store, calls, fill, to } => self.stop(line, store.as_str(), *calls, *fill, to.as_str()),
+            What::Stop {
+                store,
+                calls,
+                fill,
+                to,
+            } => self.stop(line, store.as_str(), *calls, *fill, to.as_str()),
             What::Copy { from, to } => self.copy(from.as_str(), to.as_str()),
-            What::Put { file, bytes } => Ok(self.folder.put(file.as_str(), bytes.as_slice().to_vec(self.alloc)?)?),
+            What::Put { file, bytes } => Ok(
+                self.folder
+                    .put(file.as_str(), bytes.as_slice().to_vec(self.alloc)?)?,
+            ),
             What::Append { file, bytes } => Ok(self.folder.append(file.as_str(), bytes)?),
             What::Cut { file, length } => self.folder.cut(line, file.as_str(), *length),
-            What::Change { file, place, bytes } => self.folder.change(line, file.as_str(), *place, bytes),
+            What::Change { file, place, bytes } => self
+                .folder
+                .change(line, file.as_str(), *place, bytes),
         }
     }
 
@@ -89,12 +108,20 @@ impl Player {
     // The files of a store become those of another one.
     fn copy(&mut self, from: &str, to: &str) -> Result<(), Failure> {
         let (from, to) = (Names::of(self.alloc, from)?, Names::of(self.alloc, to)?);
-        self.folder.copy(from.objects.as_str(), to.objects.as_str())?;
+        self.folder
+            .copy(from.objects.as_str(), to.objects.as_str())?;
         Ok(self.folder.copy(from.heads.as_str(), to.heads.as_str())?)
     }
 
     // The files of a store become what a stop leaves of another one's last run.
-    fn stop(&mut self, line: usize, store: &str, calls: u64, fill: Fill, to: &str) -> Result<(), Failure> {
+    fn stop(
+        &mut self,
+        line: usize,
+        store: &str,
+        calls: u64,
+        fill: Fill,
+        to: &str,
+    ) -> Result<(), Failure> {
         let image = match self.disks.get(store) {
             None => return Err(malformed(line, "no run of this store comes before")),
             Some(used) if used.calls < calls => {
@@ -118,7 +145,9 @@ impl Player {
     fn no_others(&self, line: usize) -> Result<(), Failure> {
         match self.folder.other_than(&self.looked_at) {
             Some(file) if !self.looked_at.is_empty() => {
-                let how = format!(in self.alloc; "{file} is there too, and the case does not list it")?;
+                let how = format!(in self.alloc;
+                    "{file} is there too, and the case does not list it"
+                )?;
                 Err(difference(line, how))
             }
             _ => Ok(()),
@@ -137,7 +166,12 @@ impl Player {
     }
 
     // A run of the program, and what it wrote and left.
-    fn run<R: Threads + Wait + Sync>(&mut self, rt: &R, line: usize, of: &Run) -> Result<(), Failure> {
+    fn run<R: Threads + Wait + Sync>(
+        &mut self,
+        rt: &R,
+        line: usize,
+        of: &Run,
+    ) -> Result<(), Failure> {
         let names = Names::of(self.alloc, of.store.as_str())?;
         let disk = disk_of(
             self.alloc,
@@ -157,7 +191,10 @@ impl Player {
         match &of.output {
             Output::Bytes(wanted) => compare_bytes(alloc, line, &ended.text, wanted)?,
             Output::Kept { name: _, sum: None } => {}
-            Output::Kept { name, sum: Some(sum) } => {
+            Output::Kept {
+                name,
+                sum: Some(sum),
+            } => {
                 compare_sum(alloc, line, name.as_str(), &ended.text, sum)?;
             }
         }
@@ -165,7 +202,13 @@ impl Player {
             compare_number(alloc, line, "the status", ended.status as u64, status)?;
         }
         if let Some(calls) = of.calls {
-            compare_number(alloc, line, "the number of calls of the disk", ended.calls, calls)?;
+            compare_number(
+                alloc,
+                line,
+                "the number of calls of the disk",
+                ended.calls,
+                calls,
+            )?;
         }
         match of.failing.disk.iter().max() {
             Some(last) if ended.calls < *last => Err(malformed(line, "the run makes fewer calls")),
@@ -175,7 +218,12 @@ impl Player {
 
     // The files, the disk and the stream that a run left are kept.
     fn keep(&mut self, of: &Run, ended: Ended) -> Result<(), Failure> {
-        let Ended { status: _, text, calls, disk } = ended;
+        let Ended {
+            status: _,
+            text,
+            calls,
+            disk,
+        } = ended;
         let mut disk = disk;
         if let Output::Kept { name, sum: _ } = &of.output {
             self.kept.insert(name.clone()?, text)?;

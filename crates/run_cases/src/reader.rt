@@ -211,12 +211,7 @@ fn keep_input(run: &mut Run, line: usize, name: String) -> Result<(), Failure> {
 }
 
 // The output is kept under a name.
-fn keep_output(
-    run: &mut Run,
-    line: usize,
-    name: String,
-    sum: Option<Sum>,
-) -> Result<(), Failure> {
+fn keep_output(run: &mut Run, line: usize, name: String, sum: Option<Sum>) -> Result<(), Failure> {
     match &run.output {
         Output::Bytes(output) if output.is_empty() => {
             run.output = Output::Kept { name, sum };
@@ -237,12 +232,7 @@ fn read_status(run: &mut Run, line: usize, word: &str) -> Result<(), Failure> {
 }
 
 // The calls that fail, of the disk, the source or the sink.
-fn read_failing(
-    run: &mut Run,
-    line: usize,
-    of: &str,
-    calls: Vec<u64>,
-) -> Result<(), Failure> {
+fn read_failing(run: &mut Run, line: usize, of: &str, calls: Vec<u64>) -> Result<(), Failure> {
     match of {
         "disk" => run.failing.disk = calls,
         "source" => run.failing.source = calls,

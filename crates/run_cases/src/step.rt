@@ -13,7 +13,10 @@ pub struct Step {
 #[derive(Drop)]
 pub enum What {
     /// A file gets these bytes.
-    Put { file: String, bytes: Vec<u8> },
+    Put {
+        file: String,
+        bytes: Vec<u8>,
+    },
     /// From a place on some bytes of a file become these.
     Change {
         file: String,
@@ -21,11 +24,20 @@ pub enum What {
         bytes: Vec<u8>,
     },
     /// A file keeps so many bytes.
-    Cut { file: String, length: u64 },
+    Cut {
+        file: String,
+        length: u64,
+    },
     /// Bytes come behind a file.
-    Append { file: String, bytes: Vec<u8> },
+    Append {
+        file: String,
+        bytes: Vec<u8>,
+    },
     /// Both files of a store become those of another one.
-    Copy { from: String, to: String },
+    Copy {
+        from: String,
+        to: String,
+    },
     /// What a stop leaves of a store's last run becomes the files of another store.
     Stop {
         store: String,
@@ -36,7 +48,10 @@ pub enum What {
     /// The program runs.
     Run(Run),
     /// A file has so many bytes, of this hash.
-    Holds { file: String, sum: Sum },
+    Holds {
+        file: String,
+        sum: Sum,
+    },
 }
 
 /// The length of some bytes and their hash.

@@ -81,7 +81,7 @@ pub fn fill(line: usize, word: &str) -> Result<Fill, Failure> {
         "old" => Ok(Fill::Old),
         "new" => Ok(Fill::New),
         _ => match <[u8; 1] as FromHex>::from_hex(word) {
-            Ok([byte]) => Ok(Fill::Byte(byte)),
+            Ok(bytes) => Ok(Fill::Byte(bytes[0])),
             Err(_) => Err(malformed(line, "`old`, `new` or a byte is wanted")),
         },
     }
