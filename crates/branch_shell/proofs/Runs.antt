@@ -94,8 +94,11 @@ module _ (address : List ℕ → List ℕ) {D : Type 0} (disk : Ghosts D)
           Consumes-nil l,
           w.1,
           record {
-            wrote = (refl, wrote_map Ran_so (SaysRefused document address told) (SaysTogether address told clients) (SaysRefused document address told)
-                (says_ran disk.may_leave address told clients new) (λ whole is. is) status w.0 w.2);
+            wrote = (
+              refl,
+              wrote_map Ran_so (SaysRefused document address told) (SaysTogether address told clients) (SaysRefused document address told)
+                  (says_ran disk.may_leave address told clients new) (λ whole is. is) status w.0 w.2,
+            );
             leaves = record {
               ran = λ done. subst (λ (s : Status). WroteOnce Ran_so (SaysRefused document address told) s w.0) done w.2;
               crashes = crashes;
@@ -108,48 +111,68 @@ module _ (address : List ℕ → List ℕ) {D : Type 0} (disk : Ghosts D)
   pub help_ran : (old : D) (text : List ℕ) (status : Status) (l g0 g1 : Option (List ℕ)) (before now : ℕ) → Says text Done status g0 g1 before now
       → Exchanges l l g0 g1 (Ran disk address Help old old l status)
   help_ran old text status l g0 g1 before now says =
-      let given = text_given text status g0 g1 before now says in
-      ([], given.0, Consumes-nil l, given.1, record {
-        wrote = refl;
-        leaves = refl;
-        refused = λ refused. absurd {A = LeavesAsBefore disk old old} (help_goes text status g0 g1 before now says refused);
-      })
+      let given = text_given text status g0 g1 before now says in (
+        [],
+        given.0,
+        Consumes-nil l,
+        given.1,
+        record {
+          wrote = refl;
+          leaves = refl;
+          refused = λ refused. absurd {A = LeavesAsBefore disk old old} (help_goes text status g0 g1 before now says refused);
+        },
+      )
 
   -- for want of memory to read the words
   pub memory_ran : (old : D) (l g : Option (List ℕ)) (command : Said) → Exchanges l l g g (Ran disk address command old old l Memory)
   memory_ran old l g (Init n) =
-      let same = untouched address disk counts_now only_now old in
-      ([], [], Consumes-nil l, Appends-nil g, record {
-        wrote = (refl, refl);
-        leaves = record {
-          any_moment = λ empty. weakened disk.moment disk.left_since old old (disk.may_leave old) (ReadsAsNoneOrEmpty document address (AreLimits n))
-              same (λ c was. empty_reads document address (AreLimits n) c (empty c was));
-          made = λ done. absurd (cc);
-          kept = λ files told full. same;
-        };
-        refused = λ refused. same;
-      })
+      let same = untouched address disk counts_now only_now old in (
+        [],
+        [],
+        Consumes-nil l,
+        Appends-nil g,
+        record {
+          wrote = (refl, refl);
+          leaves = record {
+            any_moment = λ empty. weakened disk.moment disk.left_since old old (disk.may_leave old) (ReadsAsNoneOrEmpty document address (AreLimits n))
+                same (λ c was. empty_reads document address (AreLimits n) c (empty c was));
+            made = λ done. absurd (cc);
+            kept = λ files told full. same;
+          };
+          refused = λ refused. same;
+        },
+      )
   memory_ran old l g Script =
       ([], [], Consumes-nil l, Appends-nil g, script_refused address disk counts_now only_now old old l Memory [] (untouched address disk counts_now only_now old) refl)
   memory_ran old l g Check =
-      let same = untouched address disk counts_now only_now old in
-      ([], [], Consumes-nil l, Appends-nil g, record {
-        wrote = (refl, refl);
-        leaves = record { any_moment = same; keeps = λ done. absurd (cc) };
-        refused = λ refused. same;
-      })
+      let same = untouched address disk counts_now only_now old in (
+        [],
+        [],
+        Consumes-nil l,
+        Appends-nil g,
+        record {
+          wrote = (refl, refl);
+          leaves = record { any_moment = same; keeps = λ done. absurd (cc) };
+          refused = λ refused. same;
+        },
+      )
   memory_ran old l g (Generate work) =
       ([], [], Consumes-nil l, Appends-nil g, work_refused address disk counts_now only_now work l old old Memory [] (untouched address disk counts_now only_now old) refl)
   memory_ran old l g (Clients clients) =
-      let same = untouched address disk counts_now only_now old in
-      ([], [], Consumes-nil l, Appends-nil g, record {
-        wrote = (refl, refl);
-        leaves = record {
-          ran = λ done. absurd (cc);
-          crashes = λ store holds c left. (store.history, ([], append-nil store.history), holds.images c left);
-          none = λ files told none. same;
-        };
-        refused = λ refused. same;
-      })
+      let same = untouched address disk counts_now only_now old in (
+        [],
+        [],
+        Consumes-nil l,
+        Appends-nil g,
+        record {
+          wrote = (refl, refl);
+          leaves = record {
+            ran = λ done. absurd (cc);
+            crashes = λ store holds c left. (store.history, ([], append-nil store.history), holds.images c left);
+            none = λ files told none. same;
+          };
+          refused = λ refused. same;
+        },
+      )
   memory_ran old l g Help =
       ([], [], Consumes-nil l, Appends-nil g, record { wrote = refl; leaves = refl; refused = λ refused. untouched address disk counts_now only_now old })

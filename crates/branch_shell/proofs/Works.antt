@@ -103,9 +103,12 @@ module _ (address : List ℕ → List ℕ) where
 
       pub work_opened : Ran disk address (Generate work) old new left status [] text
       work_opened = record {
-        wrote = (refl, wrote_map (λ whole. whole ≡ work_text address found (drawn_lines work)) (λ whole. ⊥)
-            (SaysWork address (disk.contents old) work) (SaysRefused document address (disk.contents old))
-            (λ whole so. (found, is, so)) (λ whole no. absurd no) status text w);
+        wrote = (
+          refl,
+          wrote_map (λ whole. whole ≡ work_text address found (drawn_lines work)) (λ whole. ⊥)
+              (SaysWork address (disk.contents old) work) (SaysRefused document address (disk.contents old))
+              (λ whole so. (found, is, so)) (λ whole no. absurd no) status text w,
+        );
         leaves = record {
           over = work_over;
           none = λ files says none. absurd {A = LeavesAsBefore disk old new}
@@ -130,9 +133,12 @@ module _ (address : List ℕ → List ℕ) where
 
       pub work_refused : Ran disk address (Generate work) old new left status [] text
       work_refused = record {
-        wrote = (refl, wrote_map (λ whole. ⊥) (SaysRefused document address (disk.contents old))
-            (SaysWork address (disk.contents old) work) (SaysRefused document address (disk.contents old))
-            (λ whole no. absurd no) (λ whole says. says) status text w);
+        wrote = (
+          refl,
+          wrote_map (λ whole. ⊥) (SaysRefused document address (disk.contents old))
+              (SaysWork address (disk.contents old) work) (SaysRefused document address (disk.contents old))
+              (λ whole no. absurd no) (λ whole says. says) status text w,
+        );
         leaves = record { over = work_unopened; none = λ files says none. all };
         refused = λ refused. all;
       }

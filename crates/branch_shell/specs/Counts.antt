@@ -21,7 +21,7 @@ SinkFailed before now =
     Rose before.sink now.sink
     × (((now.source ≡ before.source) × (now.disk ≡ before.disk))
     ⊎ ((Rose before.source now.source × (now.disk ≡ before.disk))
-        ⊎ ((now.source ≡ before.source) × Rose before.disk now.disk)))
+    ⊎ ((now.source ≡ before.source) × Rose before.disk now.disk)))
 
 -- only the fault that the status tells raised its count, but that the sink may fail to finish
 -- behind another fault

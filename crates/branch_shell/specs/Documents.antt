@@ -18,8 +18,10 @@ script_text address store lines = text_of (fixed_of address store) store.history
 
 -- the store after lines
 abbrev pub store_after : (List ℕ → List ℕ) → DocStore → List (List ℕ) → DocStore
-store_after address store lines = record { limits = store.limits;
-    history = after_lines (fixed_of address store) store.history lines }
+store_after address store lines = record {
+  limits = store.limits;
+  history = after_lines (fixed_of address store) store.history lines;
+}
 
 -- a reply in front of others, if it is one: an empty line and a comment have none
 abbrev pub with_reply : List ℕ → List (List ℕ) → List (List ℕ)

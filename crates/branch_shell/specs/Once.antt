@@ -34,4 +34,4 @@ Answers success refusal status given_old given_new = (text : List ℕ)
 abbrev pub Says : List ℕ → Status → Status → Option (List ℕ) → Option (List ℕ) → ℕ → ℕ → Type 0
 Says text status result given_old given_new before now =
     ((result ≡ status) × Appends given_old given_new text × (now ≡ before))
-        ⊎ ((result ≡ WriteFault) × GivesPart given_old given_new text × Rose before now)
+    ⊎ ((result ≡ WriteFault) × GivesPart given_old given_new text × Rose before now)

@@ -53,4 +53,4 @@ abbrev pub Exchanges : Option (List ℕ) → Option (List ℕ) → Option (List 
     → (List ℕ → List ℕ → Type 0) → Type 0
 Exchanges left_old left_new given_old given_new P =
     (input : List ℕ) × (text : List ℕ) × Consumes left_old left_new input
-        × Appends given_old given_new text × P input text
+    × Appends given_old given_new text × P input text

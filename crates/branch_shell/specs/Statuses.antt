@@ -63,7 +63,7 @@ abbrev pub ScriptWrote : (List ℕ → List ℕ) → Option Files → Option (Li
 ScriptWrote address told left status input text =
     ((input ≡ []) × WroteOnce (λ whole. ⊥) (SaysRefused document address told) status text)
     ⊎ ((store : DocStore) × IsOpenedAs document address told store × (length input ≤ 2 ^ 32)
-        × WroteOver address store left status input text)
+    × WroteOver address store left status input text)
 
 -- What a command wrote of the input that it read, by the status that it ended with. The text of
 -- help is left open.
@@ -105,7 +105,7 @@ abbrev pub HoldsAnswered : (List ℕ → List ℕ) → DocStore → Option (List
     → Type 0
 HoldsAnswered address store left input text c =
     (lines : List (List ℕ)) × WereRead left input lines
-        × ReadsAfterSome (fixed_of address store) (begins store.history) lines text c
+    × ReadsAfterSome (fixed_of address store) (begins store.history) lines text c
     × IsFirstPart (script_text address store (but_last lines)) text
 
 -- What a crash leaves of a script's disk: at each moment the store after some of the lines that

@@ -40,8 +40,8 @@ abbrev pub TellsLines : {D : Type 0} → (D → Files → Type 0) → (D → ℕ
     → Option (List ℕ) → Type 0
 TellsLines may_leave moment left_since address lines old new given_old given_new =
     (limits : Limits) (p : Play) → IsAt may_leave (doc_fixed address limits) old p
-        → Tells may_leave moment left_since lines old new given_old given_new
-        (doc_fixed address limits) p
+    → Tells may_leave moment left_since lines old new given_old given_new
+    (doc_fixed address limits) p
 
 -- of the reply at which telling stopped: a first part, where the sink failed; else nothing
 abbrev pub IsPartGiven : Status → List ℕ → List ℕ → Type 0
@@ -69,8 +69,8 @@ abbrev pub StopsLines : {D : Type 0} → (D → Files → Type 0) → (D → ℕ
     → Option (List ℕ) → Status → Type 0
 StopsLines may_leave moment left_since address lines old new given_old given_new status =
     (limits : Limits) (p : Play) → IsAt may_leave (doc_fixed address limits) old p
-        → Stops may_leave moment left_since lines old new given_old given_new status
-        (doc_fixed address limits) p
+    → Stops may_leave moment left_since lines old new given_old given_new status
+    (doc_fixed address limits) p
 
 -- the whole lines of the bytes were told, and this is left behind them
 pub record TellsWhole {D : Type 0} (may_leave : D → Files → Type 0) (moment : D → ℕ)
@@ -122,7 +122,7 @@ abbrev pub CountsLines : {D : Type 0} → (D → Files → Type 0) → (List ℕ
 CountsLines may_leave address lines old before after =
     (limits : Limits) (p : Play) → IsAt may_leave (doc_fixed address limits) old p
     → (replies : List (List ℕ)) → before ≡ summary_of replies
-        → after ≡ summary_of (replies ++ replies_from (doc_fixed address limits) p lines)
+    → after ≡ summary_of (replies ++ replies_from (doc_fixed address limits) p lines)
 
 -- at each moment a crash left the history after some of the lines, from a play on
 abbrev pub LeavesSome : {D : Type 0} → (D → Files → Type 0) → (D → ℕ) → (D → ℕ → Files → Type 0)
@@ -130,4 +130,4 @@ abbrev pub LeavesSome : {D : Type 0} → (D → Files → Type 0) → (D → ℕ
 LeavesSome may_leave moment left_since address lines old new =
     (limits : Limits) (p : Play) → IsAt may_leave (doc_fixed address limits) old p
     → LeavesOnly moment left_since old.core.disk new.core.disk
-        (ReadsAfterSome (doc_fixed address limits) p lines [])
+    (ReadsAfterSome (doc_fixed address limits) p lines [])

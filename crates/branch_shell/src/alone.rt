@@ -21,13 +21,10 @@ use std::alloc::Global;
 
 // The command that the words say, if it needs no threads.
 fn read_alone(alloc: Global, words: &[String]) -> Result<Command, CommandRefused>
-    ensures read {
-        IfOk result (λ command. (said : Said)
-        × (command_alone (map string_bytes words.now) ≡ Some said) × Means said command)
-    }
-    ensures usage {
-        result ≡ Err CommandRefused.Usage → command_alone (map string_bytes words.now) ≡ None
-    }
+    ensures read { IfOk result (λ command. (said : Said)
+        × (command_alone (map string_bytes words.now) ≡ Some said) × Means said command) }
+    ensures usage { result ≡ Err CommandRefused.Usage
+        → command_alone (map string_bytes words.now) ≡ None }
 {
     match read_command(alloc, words) {
         Ok(Command::Clients { .. }) => Err(CommandRefused::Usage),
@@ -58,40 +55,34 @@ pub fn run_alone<S: Source, K: Sink, D: Disk + Drop, A: Address>(
     disk: D,
 ) -> (Status, D)
     ensures usage { result.0 ≡ Status.Usage → command_alone (map string_bytes words.now) ≡ None }
-    ensures unsaid {
-        command_alone (map string_bytes words.now) ≡ None
+    ensures unsaid { command_alone (map string_bytes words.now) ≡ None
         → ((result.0 ≡ Status.Usage) ⊎ (result.0 ≡ Status.Memory)) × (source.new ≡ source.old)
-        × (sink.new ≡ sink.old) × (result.1 ≡ disk)
-    }
-    ensures help {
-        command_alone (map string_bytes words.now) ≡ Some SaidHelp
+        × (sink.new ≡ sink.old) × (result.1 ≡ disk) }
+    ensures help { command_alone (map string_bytes words.now) ≡ Some SaidHelp
         → ((result.0 ≡ Status.Done) ⊎ ((result.0 ≡ Status.WriteFault) ⊎ (result.0 ≡ Status.Memory)))
-        × (source.new ≡ source.old) × (result.1 ≡ disk)
-    }
+        × (source.new ≡ source.old) × (result.1 ≡ disk) }
     // What was written of the input that was read, and what a crash leaves.
-    ensures ran {
-        (command : Said) → command_alone (map string_bytes words.now) ≡ Some command
+    ensures ran { (command : Said) → command_alone (map string_bytes words.now) ≡ Some command
         → Exchanges (S.left source.old) (S.left source.new) (K.given sink.old) (K.given sink.new)
-        (Ran D.Disk A.address command disk result.1 (S.left source.new) result.0)
-    }
-    ensures reason {
-        HasReason (record { source = S.faults source.old; sink = K.faults sink.old;
-        disk = D.faults disk }) (record { source = S.faults source.new; sink = K.faults sink.new;
-        disk = D.faults result.1 }) result.0
-    }
+        (Ran D.Disk A.address command disk result.1 (S.left source.new) result.0) }
+    ensures reason { HasReason
+        (record { source = S.faults source.old; sink = K.faults sink.old; disk = D.faults disk })
+        (record {
+          source = S.faults source.new;
+          sink = K.faults sink.new;
+          disk = D.faults result.1;
+        }) result.0 }
     // Where the sink fails behind a fault, all that such a fault leaves was given.
-    ensures behind_source {
-        (command : Said) → command_alone (map string_bytes words.now) ≡ Some command
-        → result.0 ≡ Status.WriteFault → (S.faults source.new ≡ S.faults source.old)
+    ensures behind_source { (command : Said)
+        → command_alone (map string_bytes words.now) ≡ Some command → result.0 ≡ Status.WriteFault
+        → (S.faults source.new ≡ S.faults source.old)
         ⊎ Exchanges (S.left source.old) (S.left source.new) (K.given sink.old) (K.given sink.new)
-        (Wrote A.address command (D.contents disk) (S.left source.new) Status.ReadFault)
-    }
-    ensures behind_disk {
-        (command : Said) → command_alone (map string_bytes words.now) ≡ Some command
-        → result.0 ≡ Status.WriteFault → (D.faults result.1 ≡ D.faults disk)
+        (Wrote A.address command (D.contents disk) (S.left source.new) Status.ReadFault) }
+    ensures behind_disk { (command : Said)
+        → command_alone (map string_bytes words.now) ≡ Some command → result.0 ≡ Status.WriteFault
+        → (D.faults result.1 ≡ D.faults disk)
         ⊎ Exchanges (S.left source.old) (S.left source.new) (K.given sink.old) (K.given sink.new)
-        (Wrote A.address command (D.contents disk) (S.left source.new) Status.DiskFault)
-    }
+        (Wrote A.address command (D.contents disk) (S.left source.new) Status.DiskFault) }
 {
     match read_alone(alloc, words) {
         Ok(Command::Init(limits)) => run_init::<Doc, K, D, A>(alloc, limits, sink, disk),

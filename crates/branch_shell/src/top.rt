@@ -23,15 +23,15 @@ use std::thread::Threads;
 
 // The clients that the words say, if they say some.
 fn read_clients(alloc: Global, words: &[String]) -> Result<Option<ClientWork>, Memory>
-    ensures some {
-        IfOk result (λ clients. IfSome clients (λ work. command_of (map string_bytes words.now)
-        ≡ Some (SaidClients (record { count = work.count;
-        work = record { steps = work.steps; number = work.number } }))))
-    }
-    ensures none {
-        IfOk result (λ clients. IfNone clients (command_alone (map string_bytes words.now)
-        ≡ command_of (map string_bytes words.now)))
-    }
+    ensures some { IfOk result (λ clients.
+        IfSome clients (λ work. command_of (map string_bytes words.now)
+        ≡ Some (SaidClients (record {
+          count = work.count;
+          work = record { steps = work.steps; number = work.number };
+        })))) }
+    ensures none { IfOk result (λ clients.
+        IfNone clients (command_alone (map string_bytes words.now)
+        ≡ command_of (map string_bytes words.now))) }
 {
     match read_command(alloc, words) {
         Ok(
@@ -85,40 +85,33 @@ pub fn run<S: Source, K: Sink, D: Disk + Drop + Send, A: Address + Send, R: Thre
     disk: D,
 ) -> (Status, D)
     ensures usage { result.0 ≡ Status.Usage → command_of (map string_bytes words.now) ≡ None }
-    ensures unsaid {
-        command_of (map string_bytes words.now) ≡ None
+    ensures unsaid { command_of (map string_bytes words.now) ≡ None
         → ((result.0 ≡ Status.Usage) ⊎ (result.0 ≡ Status.Memory)) × (source.new ≡ source.old)
-        × (sink.new ≡ sink.old) × (result.1 ≡ disk)
-    }
-    ensures help {
-        command_of (map string_bytes words.now) ≡ Some SaidHelp
+        × (sink.new ≡ sink.old) × (result.1 ≡ disk) }
+    ensures help { command_of (map string_bytes words.now) ≡ Some SaidHelp
         → ((result.0 ≡ Status.Done) ⊎ ((result.0 ≡ Status.WriteFault) ⊎ (result.0 ≡ Status.Memory)))
-        × (source.new ≡ source.old) × (result.1 ≡ disk)
-    }
+        × (source.new ≡ source.old) × (result.1 ≡ disk) }
     // What was written of the input that was read, and what a crash leaves.
-    ensures ran {
-        (command : Said) → command_of (map string_bytes words.now) ≡ Some command
+    ensures ran { (command : Said) → command_of (map string_bytes words.now) ≡ Some command
         → Exchanges (S.left source.old) (S.left source.new) (K.given sink.old) (K.given sink.new)
-        (Ran D.Disk A.address command disk result.1 (S.left source.new) result.0)
-    }
-    ensures reason {
-        HasReason (record { source = S.faults source.old; sink = K.faults sink.old;
-        disk = D.faults disk }) (record { source = S.faults source.new; sink = K.faults sink.new;
-        disk = D.faults result.1 }) result.0
-    }
+        (Ran D.Disk A.address command disk result.1 (S.left source.new) result.0) }
+    ensures reason { HasReason
+        (record { source = S.faults source.old; sink = K.faults sink.old; disk = D.faults disk })
+        (record {
+          source = S.faults source.new;
+          sink = K.faults sink.new;
+          disk = D.faults result.1;
+        }) result.0 }
     // Where the sink fails behind a fault, all that such a fault leaves was given.
-    ensures behind_source {
-        (command : Said) → command_of (map string_bytes words.now) ≡ Some command
-        → result.0 ≡ Status.WriteFault → (S.faults source.new ≡ S.faults source.old)
+    ensures behind_source { (command : Said)
+        → command_of (map string_bytes words.now) ≡ Some command → result.0 ≡ Status.WriteFault
+        → (S.faults source.new ≡ S.faults source.old)
         ⊎ Exchanges (S.left source.old) (S.left source.new) (K.given sink.old) (K.given sink.new)
-        (Wrote A.address command (D.contents disk) (S.left source.new) Status.ReadFault)
-    }
-    ensures behind_disk {
-        (command : Said) → command_of (map string_bytes words.now) ≡ Some command
+        (Wrote A.address command (D.contents disk) (S.left source.new) Status.ReadFault) }
+    ensures behind_disk { (command : Said) → command_of (map string_bytes words.now) ≡ Some command
         → result.0 ≡ Status.WriteFault → (D.faults result.1 ≡ D.faults disk)
         ⊎ Exchanges (S.left source.old) (S.left source.new) (K.given sink.old) (K.given sink.new)
-        (Wrote A.address command (D.contents disk) (S.left source.new) Status.DiskFault)
-    }
+        (Wrote A.address command (D.contents disk) (S.left source.new) Status.DiskFault) }
 {
     match read_clients(alloc, words) {
         Ok(Some(work)) => run_together::<K, D, A, R>(rt, alloc, work, sink, disk),
