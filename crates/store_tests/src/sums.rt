@@ -1,6 +1,6 @@
-// Counters on branches, up to the limits.
+// Sums on branches, up to the limits.
 use branch_names::{Limits, Name};
-use mrdt_counter::{Counter, CounterOp, CounterQuery};
+use mrdt_counter::{CounterQuery, Sum, SumOp};
 use mrdt_model::Time;
 use std::alloc::Global;
 use std::process::Abort;
@@ -41,12 +41,12 @@ fn limited(
 // Adds to the newest value of a branch.
 fn add(
     rt: &impl Abort,
-    core: &mut Versions<Counter>,
+    core: &mut Versions<Sum>,
     branch: &Name,
     amount: i64,
 ) -> Result<Landed<()>, Refused> {
     let seen = core.look(branch).expect(rt, "a branch");
-    match seen.prepare(CounterOp::Add(amount)) {
+    match seen.prepare(SumOp::Add(amount)) {
         Ok(prepared) => core
             .land(prepared, ADDRESS)
             .map_err(|refusal| Refused::Land(refusal)),
@@ -55,10 +55,10 @@ fn add(
 }
 
 // Adds twice to what was seen of `main`, and says what became of the second addition.
-fn add_late(rt: &impl Abort, core: &mut Versions<Counter>) -> Result<Landed<()>, LandRefused> {
+fn add_late(rt: &impl Abort, core: &mut Versions<Sum>) -> Result<Landed<()>, LandRefused> {
     let seen = core.look(&Name::main()).expect(rt, "main");
-    let first = seen.prepare(CounterOp::Add(1)).expect(rt, "a first");
-    let second = seen.prepare(CounterOp::Add(3)).expect(rt, "a second");
+    let first = seen.prepare(SumOp::Add(1)).expect(rt, "a first");
+    let second = seen.prepare(SumOp::Add(3)).expect(rt, "a second");
     let _landed = core.land(first, ADDRESS).expect(rt, "landed");
     core.land(second, ADDRESS)
 }
@@ -85,7 +85,7 @@ fn refused_after(rt: &impl Abort, alloc: Global, limits: Limits, adds: u32) -> O
 // Merges one branch into another, as they stand; nothing where there is nothing to merge.
 fn merge(
     rt: &impl Abort,
-    core: &mut Versions<Counter>,
+    core: &mut Versions<Sum>,
     into: &Name,
     from: &Name,
 ) -> Result<Option<Landed<()>>, Refused> {
@@ -165,7 +165,7 @@ fn a_late_addition_is_stale(rt: HostRuntime) -> Result<(), Fail> {
 
 #[test]
 fn names_are_taken_and_unknown(rt: HostRuntime) -> Result<(), Fail> {
-    let mut core: Versions<Counter> = Versions::fresh(rt.alloc(), Limits::default(), ADDRESS)?;
+    let mut core: Versions<Sum> = Versions::fresh(rt.alloc(), Limits::default(), ADDRESS)?;
     let (main, left) = (Name::main(), name(&rt, b"left"));
     let unknown = core.fork(main, &left).err();
     assert_eq!(rt; unknown, Some(ForkRefused::UnknownBranch { name: left }));
@@ -181,38 +181,38 @@ fn names_are_taken_and_unknown(rt: HostRuntime) -> Result<(), Fail> {
 #[test]
 fn limits_are_met(rt: HostRuntime) -> Result<(), Fail> {
     let alloc = rt.alloc();
-    let full = refused_after(&rt, alloc, limited(&rt, 9, 2, 9, 36, 9), 1);
+    let full = refused_after(&rt, alloc, limited(&rt, 9, 2, 9, 24, 9), 1);
     assert_eq!(rt;
         full,
         Some(Refused::Land(LandRefused::FullCommits { count: 2 }))
     );
-    let full = refused_after(&rt, alloc, limited(&rt, 9, 9, 9, 36, 1), 1);
+    let full = refused_after(&rt, alloc, limited(&rt, 9, 9, 9, 24, 1), 1);
     assert_eq!(rt;
         full,
         Some(Refused::Land(LandRefused::FullMoves { count: 1 }))
     );
-    let exhausted = refused_after(&rt, alloc, limited(&rt, 2, 9, 9, 56, 9), 2);
+    let exhausted = refused_after(&rt, alloc, limited(&rt, 2, 9, 9, 24, 9), 2);
     assert_eq!(rt;
         exhausted,
         Some(Refused::Prepare(PrepareRefused::Exhausted { clock: 2 }))
     );
-    let large = refused_after(&rt, alloc, limited(&rt, 9, 9, 9, 35, 9), 0);
+    let large = refused_after(&rt, alloc, limited(&rt, 9, 9, 9, 23, 9), 0);
     assert_eq!(rt;
         large,
-        Some(Refused::Prepare(PrepareRefused::ValueTooLarge { length: 36 }))
+        Some(Refused::Prepare(PrepareRefused::ValueTooLarge { length: 24 }))
     );
 
     let (main, left) = (Name::main(), name(&rt, b"left"));
-    let mut core: Versions<Counter> = Versions::fresh(
+    let mut core: Versions<Sum> = Versions::fresh(
         alloc,
-        limited(&rt, 9, 9, 1, 36, 9),
+        limited(&rt, 9, 9, 1, 24, 9),
         ADDRESS,
     )?;
     let full = core.fork(left, &main).err();
     assert_eq!(rt; full, Some(ForkRefused::FullBranches { count: 1 }));
-    let mut core: Versions<Counter> = Versions::fresh(
+    let mut core: Versions<Sum> = Versions::fresh(
         alloc,
-        limited(&rt, 9, 9, 3, 36, 1),
+        limited(&rt, 9, 9, 3, 24, 1),
         ADDRESS,
     )?;
     let _forked = core.fork(left, &main)?;
@@ -274,7 +274,7 @@ fn commit_of(landed: &Landed<()>) -> Option<u32> {
 // Lands an addition on each of two branches.
 fn add_to_both(
     rt: &impl Abort,
-    core: &mut Versions<Counter>,
+    core: &mut Versions<Sum>,
     left: &Name,
     right: &Name,
     amounts: [i64; 2],
@@ -288,7 +288,7 @@ fn add_to_both(
 // Merges each of two branches into the other, as both stood at first; a new branch keeps where the left one stood.
 fn merge_both(
     rt: &impl Abort,
-    core: &mut Versions<Counter>,
+    core: &mut Versions<Sum>,
     left: &Name,
     right: &Name,
     stood: Name,
@@ -303,7 +303,7 @@ fn merge_both(
 }
 
 // A core with two branches beside `main`, both at its head.
-fn with_two_branches(rt: &impl Abort, alloc: Global, left: Name, right: Name) -> Versions<Counter> {
+fn with_two_branches(rt: &impl Abort, alloc: Global, left: Name, right: Name) -> Versions<Sum> {
     let mut core = Versions::fresh(alloc, Limits::default(), ADDRESS).expect(rt, "a core");
     let _forked = core.fork(left, &Name::main()).expect(rt, "a new name");
     let _forked = core.fork(right, &Name::main()).expect(rt, "a new name");
