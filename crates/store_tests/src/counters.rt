@@ -177,29 +177,29 @@ fn names_are_taken_and_unknown(rt: HostRuntime) -> Result<(), Fail> {
     Ok(())
 }
 
-// A counter's value has 16 bytes, and an addition 8.
+// A counter's value has 8 bytes and 20 for each addition, and an addition 8.
 #[test]
 fn limits_are_met(rt: HostRuntime) -> Result<(), Fail> {
     let alloc = rt.alloc();
-    let full = refused_after(&rt, alloc, limited(&rt, 9, 2, 9, 24, 9), 1);
+    let full = refused_after(&rt, alloc, limited(&rt, 9, 2, 9, 56, 9), 1);
     assert_eq!(rt;
         full,
         Some(Refused::Land(LandRefused::FullCommits { count: 2 }))
     );
-    let full = refused_after(&rt, alloc, limited(&rt, 9, 9, 9, 24, 1), 1);
+    let full = refused_after(&rt, alloc, limited(&rt, 9, 9, 9, 56, 1), 1);
     assert_eq!(rt;
         full,
         Some(Refused::Land(LandRefused::FullMoves { count: 1 }))
     );
-    let exhausted = refused_after(&rt, alloc, limited(&rt, 2, 9, 9, 24, 9), 2);
+    let exhausted = refused_after(&rt, alloc, limited(&rt, 2, 9, 9, 76, 9), 2);
     assert_eq!(rt;
         exhausted,
         Some(Refused::Prepare(PrepareRefused::Exhausted { clock: 2 }))
     );
-    let large = refused_after(&rt, alloc, limited(&rt, 9, 9, 9, 23, 9), 0);
+    let large = refused_after(&rt, alloc, limited(&rt, 9, 9, 9, 35, 9), 0);
     assert_eq!(rt;
         large,
-        Some(Refused::Prepare(PrepareRefused::ValueTooLarge { length: 24 }))
+        Some(Refused::Prepare(PrepareRefused::ValueTooLarge { length: 36 }))
     );
 
     let (main, left) = (Name::main(), name(&rt, b"left"));
@@ -254,12 +254,6 @@ fn two_branches_merge(rt: HostRuntime) -> Result<(), Fail> {
         })
     );
     Ok(())
-}
-
-// The letter `t` and a number.
-fn numbered(rt: &impl Abort, alloc: Global, number: u32) -> Name {
-    let text = format!(in alloc; "t{number}").expect(rt, "memory");
-    name(rt, text.as_bytes())
 }
 
 // The commit of an operation or a merge that landed.
@@ -323,23 +317,5 @@ fn criss_cross_merges_have_a_base(rt: HostRuntime) -> Result<(), Fail> {
     let landed = merge(&rt, &mut core, &left, &right).expect(&rt, "a merge");
     assert_eq!(rt; landed.and_then(|landed| commit_of(&landed)), Some(7));
     assert_eq!(rt; core.look(&left)?.value().value(), 1111);
-    Ok(())
-}
-
-#[test]
-fn five_hundred_criss_cross_merges(rt: HostRuntime) -> Result<(), Fail> {
-    let (left, right) = (name(&rt, b"p"), name(&rt, b"q"));
-    let mut core = with_two_branches(&rt, rt.alloc(), left, right);
-    for round in 0..500 {
-        let last = 4 * round;
-        let added = add_to_both(&rt, &mut core, &left, &right, [1, 1]);
-        assert_eq!(rt; added, [Some(last + 1), Some(last + 2)]);
-        let stood = numbered(&rt, rt.alloc(), round);
-        let landed = merge_both(&rt, &mut core, &left, &right, stood);
-        assert_eq!(rt; landed, [Some(last + 3), Some(last + 4)]);
-    }
-    let landed = merge(&rt, &mut core, &left, &right).expect(&rt, "a merge");
-    assert_eq!(rt; landed.and_then(|landed| commit_of(&landed)), Some(2001));
-    assert_eq!(rt; core.look(&left)?.value().value(), 1000);
     Ok(())
 }
