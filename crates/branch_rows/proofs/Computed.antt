@@ -1,5 +1,6 @@
 -- The rows, computed from the definitions.
 use Rattle.std.proofs.Common.{refl}
+use Rattle.mrdt_model.specs.Times.{is_earlier}
 use Rattle.branch_wire.specs.Fields.{number, short_number, signed_number, wide_number, wide_signed_number}
 use Rattle.branch_graph.specs.Graph.{reaches}
 use Rattle.branch_history.specs.Commits.{visible}
@@ -23,7 +24,7 @@ unfolding full_turn turn operation_refusal commit_refusal collision_refusal new_
 two_values in_range = (refl, refl)
 
 pub two_commits : RefusesTwoCommits
-unfolding full_turn turn operation_refusal commit_refusal collision_refusal new_objects objects_of pairs_of store_of visible reaches number short_number signed_number wide_number wide_signed_number
+unfolding is_earlier full_turn turn operation_refusal commit_refusal collision_refusal new_objects objects_of pairs_of store_of visible reaches number short_number signed_number wide_number wide_signed_number
 two_commits in_range = (refl, refl)
 
 pub maps : WritesMaps

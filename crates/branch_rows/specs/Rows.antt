@@ -55,25 +55,25 @@ WritesFreshStore =
 abbrev pub WritesOneOperation : Type 0
 WritesOneOperation =
     (limits : Limits) → (objects_text (store limits) hits ≡ letters ++ fresh_value ++ root ++ hits_value ++ hits_commit)
-    × (end_of (store limits) hits ≡ 472)
+    × (end_of (store limits) hits ≡ 484)
     × (history_text (store limits) hits ≡ 1 ∷ (header_fields limits ++ hits_record))
 
--- on `main`, by one that sees its operation, the operation again: another value of as many bytes
+-- on the other branch, by one that sees the root, the operation: the amount has another time, in a value of as many bytes
 abbrev pub RefusesTwoValues : Type 0
 RefusesTwoValues =
     (in_range : AreInRange 1000 1000 1000 1000 1000)
-    → let t = full_turn (store (thousands in_range)) two_branches (Land 0 1 letter) in
-    (t.outcome ≡ Refused (Collision (address_of 146) (letter_value 1) (letter_value 2))) × (t.made ≡ [])
+    → let t = full_turn (store (thousands in_range)) two_branches (Land 1 0 letter) in
+    (t.outcome ≡ Refused (Collision (address_of 158) (letter_value 0) (letter_value 1))) × (t.made ≡ [])
 
--- on the other branch, by one that sees the root, the operation: the value that is stored, and another commit of as many bytes
+-- on `main`, by one that sees its operation, the operation again: a longer value, and another commit of as many bytes
 abbrev pub RefusesTwoCommits : Type 0
 RefusesTwoCommits =
     (in_range : AreInRange 1000 1000 1000 1000 1000)
-    → let t = full_turn (store (thousands in_range)) two_branches (Land 1 0 letter) in
-    (t.outcome ≡ Refused (Collision (address_of 129) (letter_commit 0) (letter_commit 1))) × (t.made ≡ [])
+    → let t = full_turn (store (thousands in_range)) two_branches (Land 0 1 letter) in
+    (t.outcome ≡ Refused (Collision (address_of 129) (letter_commit 62 158 1) (letter_commit 129 178 2))) × (t.made ≡ [])
 
 -- a store of the map of counters
 abbrev pub WritesMaps : Type 0
 WritesMaps =
     (limits : Limits) → let maps = fix (map_meaning counter_meaning) limits weak_address in
-    (end_of maps [] ≡ 95) × (end_of maps (move.Operation 0 (adds (codes "hits") 5) tt ∷ []) ≡ 278)
+    (end_of maps [] ≡ 95) × (end_of maps (move.Operation 0 (adds (codes "hits") 5) tt ∷ []) ≡ 290)

@@ -6,7 +6,7 @@ pub fn writes_fresh_store()
     ensures { WritesFreshStore }
 {}
 
-/// After an operation that adds 5 to the counter `hits`, the store has 472 bytes of objects and 128 of heads before
+/// After an operation that adds 5 to the counter `hits`, the store has 484 bytes of objects and 128 of heads before
 /// the gate, and these they are.
 pub fn writes_one_operation()
     ensures { WritesOneOperation }
@@ -17,12 +17,12 @@ pub fn refuses_two_values()
     ensures { RefusesTwoValues }
 {}
 
-/// There a second commit of as many bytes is refused too, though its value is stored already.
+/// There a second commit of as many bytes is refused too, though its value is longer.
 pub fn refuses_two_commits()
     ensures { RefusesTwoCommits }
 {}
 
-/// A store of a map of counters has 95 bytes of objects when it is fresh, and 278 after an operation that adds 5 to
+/// A store of a map of counters has 95 bytes of objects when it is fresh, and 290 after an operation that adds 5 to
 /// `hits`.
 pub fn writes_maps()
     ensures { WritesMaps }

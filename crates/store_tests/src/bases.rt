@@ -1,19 +1,18 @@
 // Two branches merged criss-cross, two and three that merge in turn, a memo, and nodes that share chunks.
-ghost use Rattle.std.specs.Prelude.{◌≡◌, ◌+◌, ◌<◌, ◌≤◌, ◌⊎◌, All, IsTrue, false, length};
+ghost use Rattle.std.specs.Prelude.{◌≡◌, ◌+◌, ◌<◌, ◌≤◌, All, false, length};
 ghost use Rattle.branch_graph.specs.Graph.{maximal_common};
 ghost use Rattle.virtual_base.specs.Memos.{IsMemoOf, KeepsList};
-ghost use Rattle.virtual_base.specs.Nodes.{AreParents};
 
-use virtual_base::{Memo, Nodes, base, base_kept};
 use branch_graph::PushRefused;
 use counted_steps::Steps;
-use mrdt_counter::Counter;
+use mrdt_counter::Sum;
 use mrdt_model::{Listing, Memory, Mrdt};
 use std::alloc::Global;
 use std::marker::Brand;
 use std::process::Abort;
 use std::sync::ledger::{Blank, Ledger};
 use std::test::Fail;
+use virtual_base::{Memo, Nodes, base, base_kept};
 
 fn crosses_threads<T: Send + Sync>(_value: &T) {}
 
@@ -23,7 +22,7 @@ fn address_of(number: u32) -> [u8; 32] {
 }
 
 // Puts a commit behind the others.
-fn pushed(rt: &impl Abort, nodes: &mut Nodes<Counter>, value: Counter, parents: &[u32]) -> u32 {
+fn pushed(rt: &impl Abort, nodes: &mut Nodes<Sum>, value: Sum, parents: &[u32]) -> u32 {
     let count = nodes.count();
     assert!(rt; parents.iter().all(|parent| *parent < count));
     nodes
@@ -32,37 +31,37 @@ fn pushed(rt: &impl Abort, nodes: &mut Nodes<Counter>, value: Counter, parents: 
 }
 
 // A commit that adds to the value of another.
-fn add(rt: &impl Abort, nodes: &mut Nodes<Counter>, parent: u32, amount: i64) -> u32 {
+fn add(rt: &impl Abort, nodes: &mut Nodes<Sum>, parent: u32, amount: i64) -> u32 {
     assert!(rt; parent < nodes.count());
     let value = nodes.value(parent).added(amount);
     pushed(rt, nodes, value, &[parent])
 }
 
 // A commit that merges two.
-fn merge(rt: &impl Abort, nodes: &mut Nodes<Counter>, left: u32, right: u32) -> u32 {
+fn merge(rt: &impl Abort, nodes: &mut Nodes<Sum>, left: u32, right: u32) -> u32 {
     assert!(rt; left < nodes.count());
     assert!(rt; right < nodes.count());
     let over = base(nodes, &[left], &[right]).expect(rt, "memory");
-    let value = Counter::merged(&over, nodes.value(left), nodes.value(right));
+    let value = Sum::merged(&over, nodes.value(left), nodes.value(right));
     pushed(rt, nodes, value, &[left, right])
 }
 
 // The value of a commit.
-fn value_at(rt: &impl Abort, nodes: &Nodes<Counter>, number: u32) -> i128 {
+fn value_at(rt: &impl Abort, nodes: &Nodes<Sum>, number: u32) -> i128 {
     assert!(rt; number < nodes.count());
     nodes.value(number).value()
 }
 
 // Whether a commit has the address of a number.
-fn is_addressed(rt: &impl Abort, nodes: &Nodes<Counter>, number: u32, other: u32) -> bool {
+fn is_addressed(rt: &impl Abort, nodes: &Nodes<Sum>, number: u32, other: u32) -> bool {
     assert!(rt; number < nodes.count());
     nodes.address(number).as_slice() == address_of(other).as_slice()
 }
 
 // Commit 0, one commit on each of two branches, two merges of these, and one commit on each merge.
-fn criss_cross(rt: &impl Abort, alloc: Global) -> Nodes<Counter> {
+fn criss_cross(rt: &impl Abort, alloc: Global) -> Nodes<Sum> {
     let mut nodes = Nodes::new(alloc, 8);
-    let root = pushed(rt, &mut nodes, Counter::initial(alloc), &[]);
+    let root = pushed(rt, &mut nodes, Sum::initial(alloc), &[]);
     let one = add(rt, &mut nodes, root, 1);
     let two = add(rt, &mut nodes, root, 10);
     let three = merge(rt, &mut nodes, one, two);
@@ -73,9 +72,9 @@ fn criss_cross(rt: &impl Abort, alloc: Global) -> Nodes<Counter> {
 }
 
 // A line of commits.
-fn chain(rt: &impl Abort, alloc: Global, count: u32) -> Nodes<Counter> {
+fn chain(rt: &impl Abort, alloc: Global, count: u32) -> Nodes<Sum> {
     let mut nodes = Nodes::new(alloc, 5000);
-    let _root = pushed(rt, &mut nodes, Counter::initial(alloc), &[]);
+    let _root = pushed(rt, &mut nodes, Sum::initial(alloc), &[]);
     for number in 1..count {
         let _number = add(rt, &mut nodes, number - 1, 1);
     }
@@ -99,7 +98,7 @@ fn criss_cross_merges_have_a_virtual_base(rt: HostRuntime) -> Result<(), Fail> {
 fn three_branches_merge_crosswise(rt: HostRuntime) -> Result<(), Fail> {
     let alloc = rt.alloc();
     let mut nodes = Nodes::new(alloc, 1000);
-    let root = pushed(&rt, &mut nodes, Counter::initial(alloc), &[]);
+    let root = pushed(&rt, &mut nodes, Sum::initial(alloc), &[]);
     let mut heads = [root, root, root];
     for _ in 0..30 {
         let one = add(&rt, &mut nodes, heads[0], 1);
@@ -116,75 +115,18 @@ fn three_branches_merge_crosswise(rt: HostRuntime) -> Result<(), Fail> {
     Ok(())
 }
 
-// Whether the fold of a list takes no merge: it has one commit at most, or two that are the parents of a commit.
-fn is_whole_at_once<T: Mrdt>(nodes: &Nodes<T>, list: &[u32]) -> bool
-    ensures { IsTrue result → (length list.now ≤ 1) ⊎ AreParents nodes.now.graph.commits list.now }
-{
-    match list {
-        [one, other] => nodes.merge_of(*one, *other).is_some(),
-        _ => list.len() <= 1,
-    }
-}
-
-// The base of two commits where it takes no step.
-fn base_at_once<T: Mrdt, L: Ledger>(
-    nodes: &Nodes<T>,
-    left: u32,
-    right: u32,
-    steps: &mut Steps<L>,
-) -> Result<Option<T>, Memory>
-    requires left { left < length nodes.now.graph.commits }
-    requires right { right < length nodes.now.graph.commits }
-    ensures { steps.new ≡ steps.old }
-{
-    let mut memo = Memo::new(nodes.alloc(), 4)?;
-    let bases = nodes.bases(&[left], &[right])?;
-    if !is_whole_at_once(nodes, &bases) {
-        return Ok(None);
-    }
-    let base = base_kept(nodes, &[left], &[right], &mut memo, steps)?;
-    Ok(Some(base))
-}
-
-// The same, in a ledger of its own.
-fn base_in_ledger<T: Mrdt, L: Ledger>(
-    nodes: &Nodes<T>,
-    left: u32,
-    right: u32,
-    blank: Blank,
-) -> Result<Option<T>, Memory>
-    requires name { blank.name ≡ L.name }
-    requires parts { blank.parts ≡ L.parts }
-    requires some { 0 < blank.parts }
-    requires left { left < length nodes.now.graph.commits }
-    requires right { right < length nodes.now.graph.commits }
-{
-    base_at_once(nodes, left, right, &mut Steps::<L>::none(blank))
-}
-
-// A commit that merges two whose base takes no step.
-fn merge_at_once(rt: &impl Abort, nodes: &mut Nodes<Counter>, left: u32, right: u32) -> u32 {
-    assert!(rt; left < nodes.count());
-    assert!(rt; right < nodes.count());
-    let over = base_in_ledger::<Counter, Brand>(nodes, left, right, Blank::new(1))
-        .expect(rt, "memory")
-        .expect(rt, "a base at once");
-    let value = Counter::merged(&over, nodes.value(left), nodes.value(right));
-    pushed(rt, nodes, value, &[left, right])
-}
-
 #[test]
 fn two_branches_merge_criss_cross_in_turn(rt: HostRuntime) -> Result<(), Fail> {
     let alloc = rt.alloc();
     let mut nodes = Nodes::new(alloc, 1000);
-    let root = pushed(&rt, &mut nodes, Counter::initial(alloc), &[]);
+    let root = pushed(&rt, &mut nodes, Sum::initial(alloc), &[]);
     let mut heads = [root, root];
     for _ in 0..200 {
         let one = add(&rt, &mut nodes, heads[0], 1);
         let two = add(&rt, &mut nodes, heads[1], 1000);
         heads = [
-            merge_at_once(&rt, &mut nodes, one, two),
-            merge_at_once(&rt, &mut nodes, two, one),
+            merge(&rt, &mut nodes, one, two),
+            merge(&rt, &mut nodes, two, one),
         ];
     }
     assert!(rt; value_at(&rt, &nodes, heads[0]) == 200200);
@@ -240,25 +182,19 @@ fn a_memo_keeps_the_fold_of_two_bases(rt: HostRuntime) -> Result<(), Fail> {
     let list = Listing::from_vec(vec![in alloc; 1, 2]?);
     assert!(rt; !memo.holds(&list));
     assert!(rt; nodes.count() == 7);
-    let (first, second) = base_twice::<Counter, Brand>(
-        &nodes,
-        &[5],
-        &[6],
-        &mut memo,
-        Blank::new(1),
-    )?;
+    let (first, second) = base_twice::<Sum, Brand>(&nodes, &[5], &[6], &mut memo, Blank::new(1))?;
     assert!(rt; first.value() == 11 && second.value() == 11);
-    assert!(rt; memo.holds(&list));
+    assert!(rt; memo.holds(&list) && memo.count() == 1);
     Ok(())
 }
 
 // The nodes with one commit more on another, beside these, in at most 2,052 steps.
 fn with_one_more<L: Ledger>(
-    nodes: &Nodes<Counter>,
+    nodes: &Nodes<Sum>,
     parent: u32,
     address: [u8; 32],
     blank: Blank,
-) -> Result<Nodes<Counter>, PushRefused>
+) -> Result<Nodes<Sum>, PushRefused>
     requires name { blank.name ≡ L.name }
     requires parts { blank.parts ≡ L.parts }
     requires some { 0 < blank.parts }
@@ -272,12 +208,12 @@ fn with_one_more<L: Ledger>(
 
 // The same, with a count of steps.
 fn with_counted<L: Ledger>(
-    nodes: &Nodes<Counter>,
-    value: Counter,
+    nodes: &Nodes<Sum>,
+    value: Sum,
     parent: u32,
     address: [u8; 32],
     steps: &mut Steps<L>,
-) -> Result<Nodes<Counter>, PushRefused>
+) -> Result<Nodes<Sum>, PushRefused>
     requires there { parent < length nodes.now.graph.commits }
     requires few { length nodes.now.graph.commits < 3072 }
     ensures steps { steps.new ≤ steps.old + 2052 }
@@ -309,7 +245,7 @@ fn a_copy_grows_alone_and_a_limit_holds(rt: HostRuntime) -> Result<(), Fail> {
     let seven = add(&rt, &mut copy, 6, 10000);
     assert!(rt; seven == 7 && nodes.count() == 7);
     assert_eq!(rt;
-        copy.push(Counter::initial(alloc), &[], [0; 32]),
+        copy.push(Sum::initial(alloc), &[], [0; 32]),
         Err(PushRefused::Full { count: 8 })
     );
     assert!(rt; value_at(&rt, &copy, 7) == 11011 && is_addressed(&rt, &copy, 7, 7));
