@@ -177,29 +177,29 @@ fn names_are_taken_and_unknown(rt: HostRuntime) -> Result<(), Fail> {
     Ok(())
 }
 
-// A counter's value has 8 bytes and 20 for each addition, and an addition 8.
+// A counter's value has 16 bytes, and an addition 8.
 #[test]
 fn limits_are_met(rt: HostRuntime) -> Result<(), Fail> {
     let alloc = rt.alloc();
-    let full = refused_after(&rt, alloc, limited(&rt, 9, 2, 9, 56, 9), 1);
+    let full = refused_after(&rt, alloc, limited(&rt, 9, 2, 9, 24, 9), 1);
     assert_eq!(rt;
         full,
         Some(Refused::Land(LandRefused::FullCommits { count: 2 }))
     );
-    let full = refused_after(&rt, alloc, limited(&rt, 9, 9, 9, 56, 1), 1);
+    let full = refused_after(&rt, alloc, limited(&rt, 9, 9, 9, 24, 1), 1);
     assert_eq!(rt;
         full,
         Some(Refused::Land(LandRefused::FullMoves { count: 1 }))
     );
-    let exhausted = refused_after(&rt, alloc, limited(&rt, 2, 9, 9, 76, 9), 2);
+    let exhausted = refused_after(&rt, alloc, limited(&rt, 2, 9, 9, 24, 9), 2);
     assert_eq!(rt;
         exhausted,
         Some(Refused::Prepare(PrepareRefused::Exhausted { clock: 2 }))
     );
-    let large = refused_after(&rt, alloc, limited(&rt, 9, 9, 9, 35, 9), 0);
+    let large = refused_after(&rt, alloc, limited(&rt, 9, 9, 9, 23, 9), 0);
     assert_eq!(rt;
         large,
-        Some(Refused::Prepare(PrepareRefused::ValueTooLarge { length: 36 }))
+        Some(Refused::Prepare(PrepareRefused::ValueTooLarge { length: 24 }))
     );
 
     let (main, left) = (Name::main(), name(&rt, b"left"));
