@@ -203,18 +203,10 @@ fn limits_are_met(rt: HostRuntime) -> Result<(), Fail> {
     );
 
     let (main, left) = (Name::main(), name(&rt, b"left"));
-    let mut core: Versions<Sum> = Versions::fresh(
-        alloc,
-        limited(&rt, 9, 9, 1, 24, 9),
-        ADDRESS,
-    )?;
+    let mut core: Versions<Sum> = Versions::fresh(alloc, limited(&rt, 9, 9, 1, 24, 9), ADDRESS)?;
     let full = core.fork(left, &main).err();
     assert_eq!(rt; full, Some(ForkRefused::FullBranches { count: 1 }));
-    let mut core: Versions<Sum> = Versions::fresh(
-        alloc,
-        limited(&rt, 9, 9, 3, 24, 1),
-        ADDRESS,
-    )?;
+    let mut core: Versions<Sum> = Versions::fresh(alloc, limited(&rt, 9, 9, 3, 24, 1), ADDRESS)?;
     let _forked = core.fork(left, &main)?;
     let full = core.fork(name(&rt, b"right"), &main).err();
     assert_eq!(rt; full, Some(ForkRefused::FullMoves { count: 1 }));
