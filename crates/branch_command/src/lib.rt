@@ -5,8 +5,6 @@ pub mod command;
 pub mod laws;
 mod limits;
 mod table;
-#[cfg(test)]
-mod tests;
 mod work;
 
 pub use command::{Command, CommandRefused, read_command};

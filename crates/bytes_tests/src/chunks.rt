@@ -1,9 +1,9 @@
 // A few thousand cards, found by their numbers and their keys, and lists that go on apart.
 ghost use Rattle.std.specs.Prelude.{◌≡◌, ◌+◌, ◌<◌, ◌≤◌, length, IfOk};
 
-use shared_chunks::{Chunks, Entry};
 use counted_steps::Steps;
 use mrdt_model::Memory;
+use shared_chunks::{Chunks, Entry};
 use std::alloc::Global;
 use std::marker::Brand;
 use std::process::Abort;

@@ -1,4 +1,6 @@
-use branch_wire::laws::{fields_are_read_in_one_way, fields_have_lengths, lists_are_read_in_one_way};
+use branch_wire::laws::{
+    fields_are_read_in_one_way, fields_have_lengths, lists_are_read_in_one_way,
+};
 use branch_wire::{Cursor, Short, put_bytes, put_i64, put_i128, put_time, put_u32, put_u64};
 use mrdt_model::Time;
 

@@ -1,7 +1,7 @@
 // A journal over a disk in memory: its bytes, what crashes leave of it, calls that fail, and damaged files.
-use heads_journal::{AppendRefused, Journal, ReadAllRefused, Record, Stop, read_all};
 use branch_disk::{Disk, DiskFailed, Fill, MemoryDisk, Part, read_whole};
 use branch_names::{Limits, Name};
+use heads_journal::{AppendRefused, Journal, ReadAllRefused, Record, Stop, read_all};
 use std::alloc::Global;
 use std::process::Abort;
 use std::test::Fail;

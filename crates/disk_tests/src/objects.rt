@@ -4,11 +4,11 @@ ghost use Rattle.object_store.specs.Images.{AllBegin};
 ghost use Rattle.branch_wire.specs.StoredObjects.{file_of};
 ghost use Rattle.object_store.specs.Stored.{IsFile};
 
-use object_store::{Objects, PutRefused, StageRefused};
 use branch_address::{Address, Sha256Address, WeakAddress};
 use branch_disk::{Disk, MemoryDisk, Part, read_whole};
 use branch_objects_codec::{Action, Object};
 use mrdt_model::{Bytes, Listing, Memory};
+use object_store::{Objects, PutRefused, StageRefused};
 use std::alloc::Global;
 
 const HEADER: &[u8] = b"MRDTOBJS\x00\x00\x00\x02\x00\x00\x00\x00";

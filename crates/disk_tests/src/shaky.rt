@@ -135,7 +135,10 @@ impl<'a> Files for &'a Shaky {
     fn open_file(&self, _how: &OpenOptions, path: &str) -> io::Result<ShakyFile<'a>> {
         let asked = self.asked(path);
         asked.opened.set(asked.opened.get().saturating_add(1));
-        Ok(ShakyFile { files: *self, asked })
+        Ok(ShakyFile {
+            files: *self,
+            asked,
+        })
     }
 
     fn open_dir(&self, _path: &str) -> io::Result<ShakyFile<'a>> {

@@ -11,7 +11,8 @@ pub mod bytes;
 pub mod errors;
 pub mod listing;
 pub mod mrdt;
-pub mod shared;pub mod time;
+pub mod shared;
+pub mod time;
 
 pub use bytes::Bytes;
 pub use errors::{Memory, Unread};

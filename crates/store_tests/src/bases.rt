@@ -3,7 +3,6 @@ ghost use Rattle.std.specs.Prelude.{◌≡◌, ◌+◌, ◌<◌, ◌≤◌, All,
 ghost use Rattle.branch_graph.specs.Graph.{maximal_common};
 ghost use Rattle.virtual_base.specs.Memos.{IsMemoOf, KeepsList};
 
-use virtual_base::{Memo, Nodes, base, base_kept};
 use branch_graph::PushRefused;
 use counted_steps::Steps;
 use mrdt_counter::Sum;
@@ -13,6 +12,7 @@ use std::marker::Brand;
 use std::process::Abort;
 use std::sync::ledger::{Blank, Ledger};
 use std::test::Fail;
+use virtual_base::{Memo, Nodes, base, base_kept};
 
 fn crosses_threads<T: Send + Sync>(_value: &T) {}
 
@@ -182,13 +182,7 @@ fn a_memo_keeps_the_fold_of_two_bases(rt: HostRuntime) -> Result<(), Fail> {
     let list = Listing::from_vec(vec![in alloc; 1, 2]?);
     assert!(rt; !memo.holds(&list));
     assert!(rt; nodes.count() == 7);
-    let (first, second) = base_twice::<Sum, Brand>(
-        &nodes,
-        &[5],
-        &[6],
-        &mut memo,
-        Blank::new(1),
-    )?;
+    let (first, second) = base_twice::<Sum, Brand>(&nodes, &[5], &[6], &mut memo, Blank::new(1))?;
     assert!(rt; first.value() == 11 && second.value() == 11);
     assert!(rt; memo.holds(&list) && memo.count() == 1);
     Ok(())

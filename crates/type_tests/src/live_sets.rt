@@ -49,22 +49,19 @@ fn sides_are_merged(rt: HostRuntime) -> Result<(), Fail> {
 fn live_sets_are_spelled(rt: HostRuntime) -> Result<(), Fail> {
     let alloc = rt.alloc();
     let mut texts = Live::new(alloc);
-    let text = shared_text(alloc, b"v")?;
-    texts.add(at(1, 2), Payload::copy(&text)?)?;
+    texts.add(at(1, 2), Payload::copy(&shared_text(alloc, b"v")?)?)?;
     let mut out = Vec::new(alloc);
     texts.put(&mut out)?;
     assert!(rt; out.as_slice() == TEXT);
-    let mut cursor = Cursor::new(TEXT);
-    let taken: Result<Live<Shared<Bytes>>, _> = Live::take(alloc, &mut cursor);
-    let Ok(taken) = taken else {
-        panic!(rt; "no text");
-    };
-    assert!(rt; cursor.is_at_end());
-    let mut copied = taken.copy()?;
-    assert!(rt; matches!(copied.items(), [kept] if kept.payload == text));
-    copied.drop_seen();
-    assert!(rt; copied.items().is_empty());
+    texts.drop_seen();
+    assert!(rt; texts.items().is_empty());
     Ok(())
+}
+
+fn takes_all(alloc: Global, bytes: &[u8]) -> bool {
+    let mut cursor = Cursor::new(bytes);
+    let taken: Result<Live<Shared<Bytes>>, _> = Live::take(alloc, &mut cursor);
+    taken.is_ok() && cursor.is_at_end()
 }
 
 // Live sets are the same as themselves alone: times, payloads and their number tell them apart.
@@ -78,5 +75,6 @@ fn live_sets_are_compared(rt: HostRuntime) {
             let other = Live::get(alloc, other_bytes).expect(&rt, "a live set");
             assert!(rt; live.same(&other) == (index == other_index));
         }
+        assert!(rt; takes_all(alloc, bytes));
     }
 }

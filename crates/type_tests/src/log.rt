@@ -1,5 +1,5 @@
 // Logs.
-use crate::steps::{after, at, listed, op_spelled, spelled};
+use crate::steps::{after, are_listed, at, is_op_spelled, is_op_spelling, is_spelled, is_spelling};
 use mrdt_log::{Log, LogAnswer, LogOp, LogQuery};
 use mrdt_model::{Bytes, Memory, Mrdt};
 use std::alloc::Global;
@@ -21,10 +21,10 @@ fn append(alloc: Global, payload: &[u8]) -> Result<LogOp, Memory> {
     Ok(LogOp::Append(Bytes::from_slice(alloc, payload)?))
 }
 
-fn read(alloc: Global, log: &Log) -> Result<Vec<u8>, Memory> {
-    match log.answer(&LogQuery::Read)? {
-        LogAnswer::OnEntries(entries) => listed(alloc, entries.as_slice()),
-        LogAnswer::OnLength(_) => Ok(Vec::new(alloc)),
+fn has_entries(alloc: Global, log: &Log, want: &[u8]) -> bool {
+    match log.answer(&LogQuery::Read) {
+        Ok(LogAnswer::OnEntries(entries)) => are_listed(alloc, entries.as_slice(), want),
+        _ => false,
     }
 }
 
@@ -35,25 +35,18 @@ fn both_appends_are_read_newest_first(rt: HostRuntime) -> Result<(), Fail> {
     let left = after(&base, &append(alloc, b"u")?, at(1, 1))?;
     let right = after(&base, &append(alloc, b"v")?, at(1, 2))?;
     let both = Log::merge(&base, &left, &right)?.copy()?;
-    assert!(rt; read(alloc, &both)?.as_slice() == NEWEST_FIRST);
+    assert!(rt; has_entries(alloc, &both, NEWEST_FIRST));
     assert!(rt; matches!(both.answer(&LogQuery::Length), Ok(LogAnswer::OnLength(2))));
-    assert!(rt; both.length() == 2 && both.same(&both) && !both.same(&left));
-    assert!(rt; spelled(alloc, &both)?.as_slice() == BOTH);
+    assert!(rt; both.length() == 2 && !both.same(&left) && is_spelled(alloc, &both, BOTH));
     Ok(())
 }
 
 #[test]
 fn logs_are_read(rt: HostRuntime) -> Result<(), Fail> {
     let alloc = rt.alloc();
-    let Ok(log) = Log::get(alloc, BOTH) else {
-        panic!(rt; "no log");
-    };
-    assert!(rt; read(alloc, &log)?.as_slice() == NEWEST_FIRST);
-    assert!(rt; op_spelled::<Log>(alloc, &append(alloc, b"uv")?)?.as_slice() == b"uv".as_slice());
-    let Ok(op) = Log::get_op(alloc, b"uv") else {
-        panic!(rt; "no append");
-    };
+    assert!(rt; is_spelling::<Log>(alloc, BOTH) && is_op_spelling::<Log>(alloc, b"uv"));
+    let op = append(alloc, b"uv")?;
+    assert!(rt; is_op_spelled::<Log>(alloc, &op, b"uv"));
     assert!(rt; op.payload().as_slice() == b"uv".as_slice());
-    assert!(rt; Log::get_reply(alloc, b"") == Ok(()));
     Ok(())
 }

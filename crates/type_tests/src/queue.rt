@@ -1,7 +1,10 @@
 // Queues.
-use crate::steps::{after, at, listed, op_spelled, reply_spelled, spelled, step};
+use crate::steps::{
+    after, are_listed, at, does_reply, is_op_spelled, is_op_spelling, is_reply_spelling,
+    is_spelled, is_spelling,
+};
 use mrdt_model::{Bytes, Memory, Mrdt};
-use mrdt_queue::{Queue, QueueAnswer, QueueOp, QueueQuery, QueueReply};
+use mrdt_queue::{Queue, QueueAnswer, QueueOp, QueueQuery};
 use std::alloc::Global;
 use std::test::Fail;
 
@@ -20,6 +23,14 @@ const X_AND_Y: &[u8] = b"\
 // The reply that `x` at 1.0 was taken.
 const TOOK_X: &[u8] = b"\x01\x00\x00\x00\x00\x00\x00\x00\x01\x00\x00\x00\x00x";
 
+// A queue of two, one in its front and one in its back.
+const TWO: &[u8] = b"\
+\x00\x00\x00\x00\x00\x00\x00\x02\
+\x00\x00\x00\x00\x00\x00\x00\x02\x00\x00\x00\x00\
+\x00\x00\x00\x00\x00\x00\x00\x01y\
+\x00\x00\x00\x00\x00\x00\x00\x04\x00\x00\x00\x00\
+\x00\x00\x00\x00\x00\x00\x00\x01z";
+
 fn enqueue(alloc: Global, payload: &[u8]) -> Result<QueueOp, Memory> {
     Ok(QueueOp::Enqueue(Bytes::from_slice(alloc, payload)?))
 }
@@ -30,10 +41,10 @@ fn two(alloc: Global) -> Result<Queue, Memory> {
     after(&one, &enqueue(alloc, b"y")?, at(2, 0))
 }
 
-fn items(alloc: Global, queue: &Queue) -> Result<Vec<u8>, Memory> {
-    match queue.answer(&QueueQuery::Items)? {
-        QueueAnswer::OnItems(entries) => listed(alloc, entries.as_slice()),
-        _ => Ok(Vec::new(alloc)),
+fn has_items(alloc: Global, queue: &Queue, want: &[u8]) -> bool {
+    match queue.answer(&QueueQuery::Items) {
+        Ok(QueueAnswer::OnItems(entries)) => are_listed(alloc, entries.as_slice(), want),
+        _ => false,
     }
 }
 
@@ -49,21 +60,18 @@ fn is_first(queue: &Queue, payload: &[u8]) -> bool {
 fn both_sides_dequeue_the_same(rt: HostRuntime) -> Result<(), Fail> {
     let alloc = rt.alloc();
     let base = two(alloc)?;
-    assert!(rt; base.length() == 2 && is_first(&base, b"x"));
-    assert!(rt; items(alloc, &base)?.as_slice() == X_AND_Y);
-    let (left, took) = step(&base, &QueueOp::Dequeue, at(3, 0))?;
-    assert!(rt; reply_spelled::<Queue>(alloc, &took)?.as_slice() == TOOK_X);
-    let (right, took) = step(&base, &QueueOp::Dequeue, at(3, 1))?;
-    assert!(rt; reply_spelled::<Queue>(alloc, &took)?.as_slice() == TOOK_X);
+    assert!(rt; is_first(&base, b"x") && has_items(alloc, &base, X_AND_Y));
+    assert!(rt; does_reply(alloc, &base, &QueueOp::Dequeue, TOOK_X));
+    let left = after(&base, &QueueOp::Dequeue, at(3, 0))?;
+    let right = after(&base, &QueueOp::Dequeue, at(3, 1))?;
     let both = Queue::merge(&base, &left, &right)?.copy()?;
-    assert!(rt; items(alloc, &both)?.as_slice() == Y);
+    assert!(rt; has_items(alloc, &both, Y) && is_spelled(alloc, &both, ONE));
     assert!(rt;
         matches!(
             both.answer(&QueueQuery::Length),
             Ok(QueueAnswer::OnLength(1))
         )
     );
-    assert!(rt; spelled(alloc, &both)?.as_slice() == ONE);
     Ok(())
 }
 
@@ -73,28 +81,26 @@ fn queues_are_compared(rt: HostRuntime) -> Result<(), Fail> {
     let alloc = rt.alloc();
     let one = after(&two(alloc)?, &QueueOp::Dequeue, at(3, 0))?;
     let split = after(&one, &enqueue(alloc, b"z")?, at(4, 0))?;
-    let Ok(whole) = Queue::get(alloc, &spelled(alloc, &split)?) else {
+    assert!(rt; split.length() == 2 && is_spelled(alloc, &split, TWO) && !split.same(&one));
+    let Ok(whole) = Queue::get(alloc, TWO) else {
         panic!(rt; "no queue");
     };
-    assert!(rt; split.same(&whole) && whole.same(&split));
-    let other = after(&one, &enqueue(alloc, b"w")?, at(4, 0))?;
-    assert!(rt; !split.same(&other) && !split.same(&one));
+    assert!(rt; split.same(&whole));
     Ok(())
 }
 
 #[test]
-fn operations_and_replies_of_queues_are_spelled(rt: HostRuntime) -> Result<(), Fail> {
+fn queues_are_read(rt: HostRuntime) -> Result<(), Fail> {
     let alloc = rt.alloc();
-    assert!(rt;
-        op_spelled::<Queue>(alloc, &enqueue(alloc, b"x")?)?.as_slice() == b"\x01x".as_slice()
-    );
-    assert!(rt; op_spelled::<Queue>(alloc, &QueueOp::Dequeue)?.as_slice() == b"\x02".as_slice());
-    assert!(rt; matches!(Queue::get_op(alloc, b"\x01x"), Ok(QueueOp::Enqueue(_))));
-    assert!(rt; matches!(Queue::get_op(alloc, b"\x02"), Ok(QueueOp::Dequeue)));
-    assert!(rt; matches!(Queue::get_reply(alloc, b""), Ok(QueueReply::Enqueued)));
-    assert!(rt; matches!(Queue::get_reply(alloc, b"\x00"), Ok(QueueReply::Nothing)));
-    assert!(rt; matches!(Queue::get_reply(alloc, TOOK_X), Ok(QueueReply::Took(_))));
-    let (_, nothing) = step(&Queue::initial(alloc), &QueueOp::Dequeue, at(1, 0))?;
-    assert!(rt; matches!(&nothing, QueueReply::Nothing));
+    assert!(rt; is_spelling::<Queue>(alloc, ONE));
+    assert!(rt; is_op_spelled::<Queue>(alloc, &enqueue(alloc, b"x")?, b"\x01x"));
+    assert!(rt; is_op_spelled::<Queue>(alloc, &QueueOp::Dequeue, b"\x02"));
+    for bytes in [b"\x01x".as_slice(), b"\x02"] {
+        assert!(rt; is_op_spelling::<Queue>(alloc, bytes));
+    }
+    for bytes in [b"".as_slice(), b"\x00", TOOK_X] {
+        assert!(rt; is_reply_spelling::<Queue>(alloc, bytes));
+    }
+    assert!(rt; does_reply(alloc, &Queue::initial(alloc), &QueueOp::Dequeue, b"\x00"));
     Ok(())
 }

@@ -1,5 +1,5 @@
 // Registers of the last write and of all writes.
-use crate::steps::{after, at, joined, op_spelled, spelled};
+use crate::steps::{after, are_joined, at, is_op_spelled, is_op_spelling, is_spelled, is_spelling};
 use mrdt_model::{Bytes, Memory, Mrdt};
 use mrdt_register::{Lww, LwwQuery, Multi, MultiQuery, RegisterOp};
 use std::alloc::Global;
@@ -23,10 +23,10 @@ fn write(alloc: Global, payload: &[u8]) -> Result<RegisterOp, Memory> {
     Ok(RegisterOp::Set(Bytes::from_slice(alloc, payload)?))
 }
 
-// Two branches write `u` at 1.1 and `v` at 1.2, and merge.
-fn merged<M: Mrdt>(base: &M, u: &M::Op, v: &M::Op) -> Result<M, Memory> {
-    let left = after(base, u, at(1, 1))?;
-    let right = after(base, v, at(1, 2))?;
+// One side does an operation at 1.1, the other one at 1.2, and they merge.
+fn merged<M: Mrdt>(base: &M, mine: &M::Op, other: &M::Op) -> Result<M, Memory> {
+    let left = after(base, mine, at(1, 1))?;
+    let right = after(base, other, at(1, 2))?;
     M::merge(base, &left, &right)?.copy()
 }
 
@@ -42,21 +42,18 @@ fn the_write_of_the_greatest_time_is_read(rt: HostRuntime) -> Result<(), Fail> {
     let alloc = rt.alloc();
     let fresh = Lww::initial(alloc);
     assert!(rt; matches!(fresh.answer(&LwwQuery::Get), Ok(None)));
-    assert!(rt; spelled(alloc, &fresh)?.as_slice() == b"\x00".as_slice());
     let both = merged(&fresh, &write(alloc, b"u")?, &write(alloc, b"v")?)?;
-    assert!(rt; is_last(&both, b"v"));
-    assert!(rt; spelled(alloc, &both)?.as_slice() == LAST);
-    let Ok(read) = Lww::get(alloc, LAST) else {
-        panic!(rt; "no register");
-    };
-    assert!(rt; read.same(&both) && !read.same(&fresh));
-    assert!(rt; op_spelled::<Lww>(alloc, &write(alloc, b"uv")?)?.as_slice() == b"uv".as_slice());
-    assert!(rt; Lww::get_op(alloc, b"uv").is_ok() && Lww::get_reply(alloc, b"") == Ok(()));
+    assert!(rt; is_last(&both, b"v") && is_spelled(alloc, &both, LAST) && !both.same(&fresh));
+    assert!(rt; is_spelling::<Lww>(alloc, LAST) && is_spelling::<Lww>(alloc, b"\x00"));
+    assert!(rt; is_op_spelling::<Lww>(alloc, b"uv"));
     Ok(())
 }
 
-fn values(alloc: Global, multi: &Multi) -> Result<Vec<u8>, Memory> {
-    joined(alloc, multi.answer(&MultiQuery::Values)?.as_slice())
+fn has_values(alloc: Global, multi: &Multi, want: &[u8]) -> bool {
+    match multi.answer(&MultiQuery::Values) {
+        Ok(values) => are_joined(alloc, values.as_slice(), want),
+        Err(_) => false,
+    }
 }
 
 #[test]
@@ -64,19 +61,20 @@ fn both_values_stay_until_they_are_seen(rt: HostRuntime) -> Result<(), Fail> {
     let alloc = rt.alloc();
     let fresh = Multi::initial(alloc);
     let both = merged(&fresh, &write(alloc, b"u")?, &write(alloc, b"v")?)?;
-    assert!(rt; values(alloc, &both)?.as_slice() == b"u,v,".as_slice());
-    assert!(rt; spelled(alloc, &both)?.as_slice() == BOTH);
-    let Ok(read) = Multi::get(alloc, BOTH) else {
-        panic!(rt; "no register");
-    };
-    assert!(rt; read.same(&both) && !read.same(&fresh));
+    assert!(rt; has_values(alloc, &both, b"u,v,") && is_spelled(alloc, &both, BOTH));
     let next = after(&both, &write(alloc, b"w")?, at(3, 1))?;
-    assert!(rt; values(alloc, &next)?.as_slice() == b"w,".as_slice());
-    assert!(rt; op_spelled::<Multi>(alloc, &write(alloc, b"uv")?)?.as_slice() == b"uv".as_slice());
-    let Ok(op) = Multi::get_op(alloc, b"uv") else {
-        panic!(rt; "no write");
-    };
+    assert!(rt; has_values(alloc, &next, b"w,") && !next.same(&both));
+    Ok(())
+}
+
+#[test]
+fn writes_are_read(rt: HostRuntime) -> Result<(), Fail> {
+    let alloc = rt.alloc();
+    assert!(rt; is_spelling::<Multi>(alloc, BOTH) && is_op_spelling::<Multi>(alloc, b"uv"));
+    let op = write(alloc, b"uv")?;
+    assert!(rt;
+        is_op_spelled::<Multi>(alloc, &op, b"uv") && is_op_spelled::<Lww>(alloc, &op, b"uv")
+    );
     assert!(rt; op.payload().as_slice() == b"uv".as_slice());
-    assert!(rt; Multi::get_reply(alloc, b"") == Ok(()));
     Ok(())
 }

@@ -1,5 +1,5 @@
 // Sets.
-use crate::steps::{after, at, joined, op_spelled, spelled};
+use crate::steps::{after, are_joined, at, is_op_spelled, is_op_spelling, is_spelled, is_spelling};
 use mrdt_model::{Bytes, Memory, Mrdt};
 use mrdt_set::{Set, SetAnswer, SetOp, SetQuery};
 use std::alloc::Global;
@@ -20,11 +20,19 @@ fn remove(alloc: Global, element: &[u8]) -> Result<SetOp, Memory> {
     Ok(SetOp::Remove(Bytes::from_slice(alloc, element)?))
 }
 
-fn members(alloc: Global, set: &Set) -> Result<Vec<u8>, Memory> {
-    match set.answer(&SetQuery::Members)? {
-        SetAnswer::All(all) => joined(alloc, all.as_slice()),
-        _ => Ok(Vec::new(alloc)),
+// Whether these are the members, each with a comma behind it.
+fn has_members(alloc: Global, set: &Set, want: &[u8]) -> bool {
+    match set.answer(&SetQuery::Members) {
+        Ok(SetAnswer::All(all)) => are_joined(alloc, all.as_slice(), want),
+        _ => false,
     }
+}
+
+// The set after it was told to add `x` and `y`, and to forget what it then had.
+fn cleared(alloc: Global, set: &Set) -> Result<Set, Memory> {
+    let one = after(set, &add(alloc, b"x")?, at(1, 2))?;
+    let two = after(&one, &add(alloc, b"y")?, at(2, 2))?;
+    after(&two, &SetOp::Clear, at(3, 2))
 }
 
 // One side adds `x`. The other adds `x` and `y`, and clears what it has seen: `x` stays.
@@ -33,19 +41,15 @@ fn a_clear_takes_what_it_has_seen(rt: HostRuntime) -> Result<(), Fail> {
     let alloc = rt.alloc();
     let base = Set::initial(alloc);
     let left = after(&base, &add(alloc, b"x")?, at(1, 1))?;
-    let right = after(&base, &add(alloc, b"x")?, at(1, 2))?;
-    let right = after(&right, &add(alloc, b"y")?, at(2, 2))?;
-    assert!(rt; members(alloc, &right)?.as_slice() == b"x,y,".as_slice());
-    let right = after(&right, &SetOp::Clear, at(3, 2))?;
-    assert_eq!(rt; right.size(), 0);
-    assert!(rt; right.same(&left.cleared()));
+    let right = cleared(alloc, &base)?;
+    assert!(rt; right.size() == 0 && right.same(&left.cleared()));
     let both = Set::merge(&base, &left, &right)?.copy()?;
-    assert!(rt; members(alloc, &both)?.as_slice() == b"x,".as_slice());
-    assert!(rt; both.same(&left) && spelled(alloc, &both)?.as_slice() == ONE);
+    assert!(rt; has_members(alloc, &both, b"x,"));
+    assert!(rt; both.same(&left) && is_spelled(alloc, &both, ONE));
     Ok(())
 }
 
-// Both sides add `x`. Merged, one side removes it again, having seen its own Add alone: it stays.
+// Both sides add `x`, and merge. One side then removes its own Add alone: `x` stays.
 #[test]
 fn a_remove_takes_what_it_has_seen(rt: HostRuntime) -> Result<(), Fail> {
     let alloc = rt.alloc();
@@ -65,17 +69,13 @@ fn a_remove_takes_what_it_has_seen(rt: HostRuntime) -> Result<(), Fail> {
 #[test]
 fn sets_are_read(rt: HostRuntime) -> Result<(), Fail> {
     let alloc = rt.alloc();
-    let Ok(one) = Set::get(alloc, ONE) else {
-        panic!(rt; "no set");
-    };
-    assert!(rt; one.contains(b"x") && !one.contains(b"y"));
-    assert!(rt; op_spelled::<Set>(alloc, &add(alloc, b"xy")?)?.as_slice() == b"\x01xy".as_slice());
-    assert!(rt; op_spelled::<Set>(alloc, &remove(alloc, b"")?)?.as_slice() == b"\x02".as_slice());
-    assert!(rt; op_spelled::<Set>(alloc, &SetOp::Clear)?.as_slice() == b"\x03".as_slice());
-    assert!(rt; matches!(Set::get_op(alloc, b"\x01xy"), Ok(SetOp::Add(_))));
-    assert!(rt; matches!(Set::get_op(alloc, b"\x02"), Ok(SetOp::Remove(_))));
-    assert!(rt; matches!(Set::get_op(alloc, b"\x03"), Ok(SetOp::Clear)));
-    assert!(rt; Set::get_op(alloc, b"\x03x").is_err());
-    assert!(rt; Set::get_reply(alloc, b"") == Ok(()));
+    assert!(rt; is_spelling::<Set>(alloc, ONE));
+    assert!(rt; is_op_spelled::<Set>(alloc, &add(alloc, b"xy")?, b"\x01xy"));
+    assert!(rt; is_op_spelled::<Set>(alloc, &remove(alloc, b"")?, b"\x02"));
+    assert!(rt; is_op_spelled::<Set>(alloc, &SetOp::Clear, b"\x03"));
+    for bytes in [b"\x01xy".as_slice(), b"\x02", b"\x03"] {
+        assert!(rt; is_op_spelling::<Set>(alloc, bytes));
+    }
+    assert!(rt; !is_op_spelling::<Set>(alloc, b"\x03x"));
     Ok(())
 }

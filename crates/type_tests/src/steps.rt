@@ -8,33 +8,61 @@ pub(crate) fn at(clock: u64, origin: u32) -> Time {
     Time { clock, origin }
 }
 
-// The value after an operation, and the reply.
-pub(crate) fn step<M: Mrdt>(state: &M, op: &M::Op, time: Time) -> Result<(M, M::Reply), Memory> {
-    state.apply(op, time)
-}
-
 // The value after an operation.
 pub(crate) fn after<M: Mrdt>(state: &M, op: &M::Op, time: Time) -> Result<M, Memory> {
-    let (next, _) = step(state, op, time)?;
+    let (next, _) = state.apply(op, time)?;
     Ok(next)
 }
 
-pub(crate) fn spelled<M: Mrdt>(alloc: Global, state: &M) -> Result<Vec<u8>, Memory> {
+// Whether the value is spelled by these bytes.
+pub(crate) fn is_spelled<M: Mrdt>(alloc: Global, state: &M, bytes: &[u8]) -> bool {
     let mut out = Vec::new(alloc);
-    state.put(&mut out)?;
-    Ok(out)
+    state.put(&mut out).is_ok() && out.as_slice() == bytes
 }
 
-pub(crate) fn op_spelled<M: Mrdt>(alloc: Global, op: &M::Op) -> Result<Vec<u8>, Memory> {
-    let mut out = Vec::new(alloc);
-    M::put_op(op, &mut out)?;
-    Ok(out)
+// Whether these bytes are read, and the value that they say is spelled by them.
+pub(crate) fn is_spelling<M: Mrdt>(alloc: Global, bytes: &[u8]) -> bool {
+    match M::get(alloc, bytes) {
+        Ok(state) => is_spelled(alloc, &state, bytes),
+        Err(_) => false,
+    }
 }
 
-pub(crate) fn reply_spelled<M: Mrdt>(alloc: Global, reply: &M::Reply) -> Result<Vec<u8>, Memory> {
+// Whether the operation is spelled by these bytes.
+pub(crate) fn is_op_spelled<M: Mrdt>(alloc: Global, op: &M::Op, bytes: &[u8]) -> bool {
     let mut out = Vec::new(alloc);
-    M::put_reply(reply, &mut out)?;
-    Ok(out)
+    M::put_op(op, &mut out).is_ok() && out.as_slice() == bytes
+}
+
+// Whether these bytes are read as an operation, and it is spelled by them.
+pub(crate) fn is_op_spelling<M: Mrdt>(alloc: Global, bytes: &[u8]) -> bool {
+    match M::get_op(alloc, bytes) {
+        Ok(op) => is_op_spelled::<M>(alloc, &op, bytes),
+        Err(_) => false,
+    }
+}
+
+// Whether the reply is spelled by these bytes.
+pub(crate) fn is_reply_spelled<M: Mrdt>(alloc: Global, reply: &M::Reply, bytes: &[u8]) -> bool {
+    let mut out = Vec::new(alloc);
+    M::put_reply(reply, &mut out).is_ok() && out.as_slice() == bytes
+}
+
+// Whether these bytes are read as a reply, and it is spelled by them.
+pub(crate) fn is_reply_spelling<M: Mrdt>(alloc: Global, bytes: &[u8]) -> bool {
+    match M::get_reply(alloc, bytes) {
+        Ok(reply) => is_reply_spelled::<M>(alloc, &reply, bytes),
+        Err(_) => false,
+    }
+}
+
+// Whether the value replies what is spelled by these bytes.
+pub(crate) fn does_reply<M: Mrdt>(alloc: Global, state: &M, op: &M::Op, bytes: &[u8]) -> bool {
+    let time = at(u64::MAX, 0);
+    match state.apply(op, time) {
+        Ok((_, reply)) => is_reply_spelled::<M>(alloc, &reply, bytes),
+        Err(_) => false,
+    }
 }
 
 // Each entry as its time and its payload.
@@ -47,12 +75,28 @@ pub(crate) fn listed(alloc: Global, entries: &[Kept<Bytes>]) -> Result<Vec<u8>, 
     Ok(text)
 }
 
+// Whether these are the entries, each as its time and its payload.
+pub(crate) fn are_listed(alloc: Global, entries: &[Kept<Bytes>], want: &[u8]) -> bool {
+    match listed(alloc, entries) {
+        Ok(text) => text.as_slice() == want,
+        Err(_) => false,
+    }
+}
+
 // Each text with a comma behind it.
-pub(crate) fn joined(alloc: Global, texts: &[Bytes]) -> Result<Vec<u8>, Memory> {
+fn joined(alloc: Global, texts: &[Bytes]) -> Result<Vec<u8>, Memory> {
     let mut text = Vec::new(alloc);
     for bytes in texts {
         text.extend_from_slice(bytes.as_slice())?;
         text.push(b',')?;
     }
     Ok(text)
+}
+
+// Whether these are the texts, each with a comma behind it.
+pub(crate) fn are_joined(alloc: Global, texts: &[Bytes], want: &[u8]) -> bool {
+    match joined(alloc, texts) {
+        Ok(text) => text.as_slice() == want,
+        Err(_) => false,
+    }
 }

@@ -1,0 +1,50 @@
+// One run of the program, over a disk and streams in memory.
+use crate::disks::calls_of;
+use crate::failure::Failure;
+use crate::step::Run;
+use branch_address::Sha256Address;
+use branch_disk::MemoryDisk;
+use branch_io::{MemorySink, MemorySource};
+use branch_shell::run;
+use std::alloc::Global;
+use std::sync::Wait;
+use std::thread::Threads;
+
+// How many bytes a source gives at a time, at most.
+const PIECE: usize = 16;
+
+/// How a run ended: its status, what it wrote, how many calls it made of the disk, and the disk.
+#[derive(Drop)]
+pub struct Ended {
+    pub status: u8,
+    pub text: Vec<u8>,
+    pub calls: u64,
+    pub disk: MemoryDisk,
+}
+
+/// Runs the program.
+pub fn run_over<R: Threads + Wait + Sync>(
+    rt: &R,
+    alloc: Global,
+    of: &Run,
+    input: Vec<u8>,
+    disk: MemoryDisk,
+) -> Result<Ended, Failure> {
+    let failing = of.failing.source.as_slice().to_vec(alloc)?;
+    let mut source = MemorySource::new(input, PIECE, failing);
+    let mut sink = MemorySink::new(of.failing.sink.as_slice().to_vec(alloc)?);
+    let (status, disk) = run::<_, _, _, Sha256Address, R>(
+        rt,
+        alloc,
+        &of.words,
+        &mut source,
+        &mut sink,
+        disk,
+    );
+    Ok(Ended {
+        status: status.number(),
+        text: sink.bytes().to_vec(alloc)?,
+        calls: calls_of(&disk),
+        disk,
+    })
+}

@@ -1,0 +1,539 @@
+"""A model of the program in Python: what scripts reply and which files they leave.
+
+It stands apart from the program: it has no merges and no bases. Each commit's value is spelled anew from the operations
+that are visible there, by docs/DEFINITIONS.md, and the bytes of the files are those of docs/FORMATS.md.
+"""
+import hashlib
+import re
+
+VERSION = 2
+
+LIMITS = {"clock": 2**64 - 1, "commits": 16777216, "branches": 65536, "value": 16777216, "moves": 1099511627776}
+
+KINDS = ["counter", "flag", "lww", "multi", "set", "log", "queue"]
+
+
+def u32(n):
+    return n.to_bytes(4, "big")
+
+
+def u64(n):
+    return n.to_bytes(8, "big")
+
+
+def signed(n, size):
+    return (n % (1 << (8 * size))).to_bytes(size, "big")
+
+
+def time_bytes(time):
+    return u64(time[0]) + u32(time[1])
+
+
+def sized(b):
+    return u64(len(b)) + b
+
+
+def address(b):
+    return hashlib.sha256(b).digest()
+
+
+class Event:
+    """An operation on a key, with its time, its reply and the commits that it has seen, as bits."""
+
+    def __init__(self, bit, time, kind, key, verb, word, seen, reply):
+        self.bit, self.time, self.kind, self.key = bit, time, kind, key
+        self.verb, self.word, self.seen, self.reply = verb, word, seen, reply
+
+
+def unseen_by(events, hiders):
+    """The events that none of the hiders has seen."""
+    hidden = 0
+    for e in hiders:
+        hidden |= e.seen
+    return [e for e in events if not hidden >> e.bit & 1]
+
+
+def with_verb(events, *verbs):
+    return [e for e in events if e.verb in verbs]
+
+
+def live_adds(events):
+    """Of a set: the Adds of each element that no operation on it and no Clear has seen."""
+    clears = with_verb(events, "clear")
+    members = {}
+    for element in sorted({e.word for e in with_verb(events, "add")}):
+        on = [e for e in with_verb(events, "add", "remove") if e.word == element]
+        left = unseen_by(with_verb(on, "add"), on + clears)
+        if left:
+            members[element] = left
+    return members
+
+
+def content(events):
+    """Of a queue: the Enqueues that no Dequeue names in its reply, by rising time."""
+    taken = {e.reply[0] for e in with_verb(events, "dequeue") if e.reply}
+    return by_time(e for e in with_verb(events, "enqueue") if e.time not in taken)
+
+
+def by_time(events):
+    return sorted(events, key=lambda e: e.time)
+
+
+def kept(events):
+    """What a value of the events' kind keeps."""
+    kind = events[0].kind
+    if kind == "counter" and VERSION == 1:
+        return []
+    if kind == "counter":
+        return by_time(unseen_by(with_verb(events, "add"), with_verb(events, "reset")))
+    if kind == "flag":
+        return by_time(unseen_by(with_verb(events, "enable"), events))
+    if kind == "lww":
+        return by_time(events)[-1:]
+    if kind == "multi":
+        return by_time(unseen_by(events, events))
+    if kind == "log":
+        return by_time(events)
+    if kind == "queue":
+        return content(events)
+    return []
+
+
+def spelling(kind, events):
+    """The bytes of a value that has these events, all on one key."""
+    if kind == "set":
+        members = live_adds(events)
+        out = u64(len(members))
+        for element, adds in members.items():
+            times = [e.time for e in by_time(adds)]
+            out += sized(element) + u64(len(times)) + b"".join(map(time_bytes, times))
+        return out
+    if kind == "counter" and VERSION == 1:
+        return signed(sum(e.word for e in events), 16)
+    items = kept(events)
+    if kind == "lww":
+        return b"\1" + time_bytes(items[0].time) + sized(items[0].word)
+    out = u64(len(items))
+    for e in items:
+        out += time_bytes(e.time)
+        if kind == "counter":
+            out += signed(e.word, 8)
+        elif kind != "flag":
+            out += sized(e.word)
+    return out
+
+
+def document(events):
+    """The bytes of the document that has these events."""
+    maps = []
+    for kind in KINDS:
+        keys = {}
+        for e in events:
+            if e.kind == kind:
+                keys.setdefault(e.key, []).append(e)
+        out = u64(len(keys))
+        for key in sorted(keys):
+            out += sized(key) + sized(spelling(kind, keys[key]))
+        maps.append(out)
+    return b"".join(sized(m) for m in maps[:-1]) + maps[-1]
+
+
+def operation(kind, key, verb, word):
+    """The bytes of an operation."""
+    inner = {
+        ("counter", "add"): lambda: signed(word, 8),
+        ("counter", "reset"): lambda: b"",
+        ("flag", "enable"): lambda: b"\1",
+        ("flag", "disable"): lambda: b"\2",
+        ("lww", "set"): lambda: word,
+        ("multi", "set"): lambda: word,
+        ("set", "add"): lambda: b"\1" + word,
+        ("set", "remove"): lambda: b"\2" + word,
+        ("set", "clear"): lambda: b"\3",
+        ("log", "append"): lambda: word,
+        ("queue", "enqueue"): lambda: b"\1" + word,
+        ("queue", "dequeue"): lambda: b"\2",
+    }[kind, verb]()
+    return side(kind) + sized(key) + inner
+
+
+def side(kind):
+    """Which map of the document it is."""
+    at = KINDS.index(kind)
+    return b"\2" * at + (b"\1" if at < 6 else b"")
+
+
+def reply_bytes(kind, verb, reply):
+    inner = b""
+    if verb == "dequeue":
+        inner = b"\1" + time_bytes(reply[0]) + reply[1] if reply else b"\0"
+    return side(kind) + inner
+
+
+class Commit:
+    def __init__(self, parents, branch, clock, reach, event, value, address):
+        self.parents, self.branch, self.clock, self.reach = parents, branch, clock, reach
+        self.event, self.value, self.address = event, value, address
+
+
+class Refused(Exception):
+    pass
+
+
+def value_object(value):
+    return b"\1" + sized(value)
+
+
+def commit_object(parents, branch, clock, value, action):
+    body = u64(len(parents)) + b"".join(parents) + u32(branch) + u64(clock) + value + action
+    return b"\2" + sized(body)
+
+
+class Store:
+    """A store: its commits, its branches and the bytes of both files."""
+
+    def __init__(self, **limits):
+        self.limits = {**LIMITS, **limits}
+        self.commits, self.branches, self.moves = [], [[b"main", 0]], 0
+        self.stored = {}
+        self.objects = b"MRDTOBJS" + u32(VERSION) + bytes(4)
+        self.heads = b"\1MRDTHEAD" + u32(VERSION) + self.limit_bytes() + bytes(19) + b"\0"
+        value = self.put_object(value_object(document([])))
+        root = self.put_object(commit_object([], 0, 0, value, b"\0"))
+        self.commits.append(Commit([], 0, 0, 1, None, document([]), root))
+
+    def limit_bytes(self):
+        of = self.limits
+        return u64(of["clock"]) + u32(of["commits"]) + u32(of["branches"]) + u64(of["value"]) + u64(of["moves"])
+
+    def put_object(self, b):
+        name = address(b)
+        if name not in self.stored:
+            self.stored[name] = b
+            self.objects += b
+        return name
+
+    def put_record(self, kind, branch, other, rest):
+        record = bytes([1, kind]) + u32(branch) + u32(other) + u64(len(self.objects)) + rest.ljust(32, b"\0") + bytes(14)
+        self.heads = self.heads[:-1] + record + b"\0"
+        self.moves += 1
+
+    def visible(self, commit):
+        reach = self.commits[commit].reach
+        return [c.event for at, c in enumerate(self.commits) if c.event and reach >> at & 1]
+
+    def find(self, name):
+        for number, branch in enumerate(self.branches):
+            if branch[0] == name:
+                return number
+        raise Refused("error unknown " + name.decode())
+
+    def reaches(self, above, below):
+        return bool(self.commits[above].reach >> below & 1)
+
+    def add_commit(self, parents, branch, clock, event, action, value):
+        number, reach = len(self.commits), 1 << len(self.commits)
+        for parent in parents:
+            reach |= self.commits[parent].reach
+        stored = self.put_object(value_object(value))
+        above = [self.commits[p].address for p in parents]
+        name = self.put_object(commit_object(above, branch, clock, stored, action))
+        self.commits.append(Commit(parents, branch, clock, reach, event, value, name))
+        return number, name
+
+    def check_land(self, branch, seen, makes_commit):
+        newest = self.branches[branch][1]
+        if newest != seen:
+            raise Refused(f"stale {self.branches[branch][0].decode()} at #{newest}")
+        if makes_commit and len(self.commits) == self.limits["commits"]:
+            raise Refused(f"error full commits {len(self.commits)}")
+        self.check_moves()
+
+    def check_moves(self):
+        if self.moves == self.limits["moves"]:
+            raise Refused(f"error full moves {self.moves}")
+
+    def check_value(self, length):
+        if length > self.limits["value"]:
+            raise Refused(f"error too large {length}")
+
+    def land(self, branch, seen, kind, key, verb, word):
+        """An operation of a session that sees a commit of the branch. Gives its commit, its time and its reply."""
+        head = self.commits[seen]
+        if head.clock == self.limits["clock"]:
+            raise Refused(f"error exhausted {head.clock}")
+        time = (head.clock + 1, branch)
+        before = self.visible(seen)
+        reply = None
+        if verb == "dequeue":
+            waiting = content([e for e in before if (e.kind, e.key) == ("queue", key)])
+            reply = (waiting[0].time, waiting[0].word) if waiting else None
+        event = Event(len(self.commits), time, kind, key, verb, word, head.reach, reply)
+        value = document(before + [event])
+        op, back = operation(kind, key, verb, word), reply_bytes(kind, verb, reply)
+        self.check_value(len(value) + len(op) + len(back))
+        self.check_land(branch, seen, True)
+        action = b"\1" + sized(op) + sized(back)
+        number, name = self.add_commit([seen], branch, time[0], event, action, value)
+        self.branches[branch][1] = number
+        self.put_record(2, branch, 0, name)
+        return number, time, reply
+
+    def merge(self, branch, seen, other):
+        """Merges a commit. Gives the kind of the move and the new head."""
+        if self.reaches(seen, other):
+            return "same", seen
+        if self.reaches(other, seen):
+            self.check_land(branch, seen, False)
+            self.branches[branch][1] = other
+            self.put_record(4, branch, other, b"")
+            return "forward", other
+        reach = self.commits[seen].reach | self.commits[other].reach
+        value = document([c.event for at, c in enumerate(self.commits) if c.event and reach >> at & 1])
+        self.check_value(len(value))
+        self.check_land(branch, seen, True)
+        clock = max(self.commits[seen].clock, self.commits[other].clock)
+        number, name = self.add_commit([seen, other], branch, clock, None, b"\2", value)
+        self.branches[branch][1] = number
+        self.put_record(3, branch, other, name)
+        return "merged", number
+
+    def fork(self, new, of):
+        number = self.find(of)
+        for taken, branch in enumerate(self.branches):
+            if branch[0] == new:
+                raise Refused(f"error taken {taken}")
+        if len(self.branches) == self.limits["branches"]:
+            raise Refused(f"error full branches {len(self.branches)}")
+        self.check_moves()
+        self.branches.append([new, self.branches[number][1]])
+        self.put_record(1, len(self.branches) - 1, number, new)
+        return len(self.branches) - 1, self.branches[-1][1]
+
+    def report(self):
+        lines = [f"branch {name.decode()} #{head}" for name, head in self.branches]
+        return lines + [f"moves {self.moves} commits {len(self.commits)} branches {len(self.branches)}"]
+
+
+NAME = re.compile(rb"[a-z0-9_]{1,32}\Z")
+INT = re.compile(rb"(0|-?[1-9][0-9]*)\Z")
+DO = {
+    "counter": {"add": 1, "reset": 0},
+    "flag": {"enable": 0, "disable": 0},
+    "lww": {"set": 1},
+    "multi": {"set": 1},
+    "set": {"add": 1, "remove": 1, "clear": 0},
+    "log": {"append": 1},
+    "queue": {"enqueue": 1, "dequeue": 0},
+}
+ASK = {
+    "counter": {"value": 0},
+    "flag": {"on": 0},
+    "lww": {"get": 0},
+    "multi": {"values": 0},
+    "set": {"contains": 1, "members": 0, "size": 0},
+    "log": {"read": 0, "length": 0},
+    "queue": {"peek": 0, "items": 0, "length": 0},
+}
+
+
+def fits(words):
+    """Whether the words fit one form."""
+    kind = words[2].decode() if len(words) > 2 else ""
+    verb = words[4].decode() if len(words) > 4 else ""
+    if words[0] in (b"look", b"fork", b"merge"):
+        return len(words) == 3
+    if words[0] == b"ask" and len(words) == 4:
+        return kind in KINDS and words[3] == b"keys"
+    table = {b"do": DO, b"ask": ASK}.get(words[0])
+    more = table and VERSION and table.get(kind, {}).get(verb)
+    if VERSION == 1 and verb in ("reset", "clear"):
+        return False
+    return more is not None and table is not None and len(words) == 5 + more
+
+
+def read_line(line):
+    """The words of a step; nothing of a line that says nothing."""
+    if not line or line.startswith(b"#"):
+        return None
+    words = line.split(b" ")
+    if any(b < 32 or b > 126 for b in line) or b"" in words or not fits(words):
+        raise Refused("error syntax")
+    names = words[1:3] if words[0] in (b"look", b"fork", b"merge") else words[1:2]
+    if not all(NAME.match(name) for name in names):
+        raise Refused("error name")
+    if words[0] == b"do" and words[2] == b"counter" and words[4] == b"add":
+        if not INT.match(words[5]) or not -(2**63) <= int(words[5]) < 2**63:
+            raise Refused("error number")
+    return words
+
+
+def listed(items, with_times):
+    shown = "".join(f" {e.time[0]}.{e.time[1]} {e.word.decode()}" if with_times else f" {e.word.decode()}" for e in items)
+    return f"[{len(items)}]{shown}"
+
+
+def answer(events, kind, key, verb, word):
+    """What a query is answered over these events."""
+    on = [e for e in events if (e.kind, e.key) == (kind, key)]
+    if kind == "counter":
+        return str(sum(e.word for e in unseen_by(with_verb(on, "add"), with_verb(on, "reset"))))
+    if kind == "flag":
+        return "on" if unseen_by(with_verb(on, "enable"), with_verb(on, "disable")) else "off"
+    if kind == "set":
+        members = list(live_adds(on))
+        if verb == "contains":
+            return "yes" if word in members else "no"
+        return str(len(members)) if verb == "size" else "".join([f"[{len(members)}]"] + [f" {m.decode()}" for m in members])
+    items = kept(on) if on else []
+    if verb == "length":
+        return str(len(items))
+    if kind == "log":
+        return listed(items[::-1], True)
+    if kind == "queue":
+        return listed(items[:1] if verb == "peek" else items, True)
+    return listed(items, False)
+
+
+class Engine:
+    """Steps over a store, with named sessions."""
+
+    def __init__(self, store):
+        self.store, self.sessions = store, {}
+
+    def reply(self, line):
+        """The reply to a line; nothing to one that says nothing."""
+        try:
+            words = read_line(line)
+            return words and getattr(self, words[0].decode())(*words[1:])
+        except Refused as refused:
+            return str(refused)
+
+    def seen(self, session):
+        if session not in self.sessions:
+            raise Refused("error unseen " + session.decode())
+        return self.sessions[session]
+
+    def look(self, session, branch):
+        number = self.store.find(branch)
+        head = self.store.branches[number][1]
+        self.sessions[session] = (number, head)
+        return f"{session.decode()} sees {branch.decode()} at #{head}"
+
+    def fork(self, new, of):
+        number, head = self.store.fork(new, of)
+        return f"forked {new.decode()} as {number} at #{head}"
+
+    def merge(self, session, branch):
+        number, seen = self.seen(session)
+        other = self.store.branches[self.store.find(branch)][1]
+        kind, head = self.store.merge(number, seen, other)
+        self.sessions[session] = (number, head)
+        return kind if kind == "same" else f"{kind} #{head}"
+
+    def do(self, session, kind, key, verb, word=b""):
+        number, seen = self.seen(session)
+        kind, verb = kind.decode(), verb.decode()
+        word = int(word) if (kind, verb) == ("counter", "add") else word
+        commit, time, reply = self.store.land(number, seen, kind, key, verb, word)
+        self.sessions[session] = (number, commit)
+        took = ""
+        if verb == "dequeue":
+            took = f" took {reply[0][0]}.{reply[0][1]} {reply[1].decode()}" if reply else " took nothing"
+        return f"landed #{commit} at {time[0]}.{time[1]}{took}"
+
+    def ask(self, branch, kind, key, verb=None, word=b""):
+        head = self.store.branches[self.store.find(branch)][1]
+        events = self.store.visible(head)
+        if verb is None:
+            keys = sorted({e.key for e in events if e.kind == kind.decode()})
+            return "".join([f"[{len(keys)}]"] + [f" {k.decode()}" for k in keys])
+        return answer(events, kind.decode(), key, verb.decode(), word)
+
+
+def lines_of(text):
+    return text.split(b"\n")[:-1] if text.endswith(b"\n") else text.split(b"\n")
+
+
+def script(store, text):
+    """The replies to the lines of a text."""
+    engine = Engine(store)
+    replies = [engine.reply(line) for line in lines_of(text)]
+    return [it for it in replies if it is not None]
+
+
+class Draws:
+    def __init__(self, number):
+        self.state = number % 2**64
+
+    def pick(self, m):
+        self.state = (self.state * 6364136223846793005 + 1442695040888963407) % 2**64
+        return (self.state >> 33) % m
+
+    def key(self):
+        return f"k{self.pick(8)}"
+
+    def word(self):
+        return f"w{self.pick(32)}"
+
+    def amount(self):
+        return str(self.pick(201) - 100)
+
+
+def script_text(steps, number):
+    """The script that is drawn from a number."""
+    lines = ["fork g1 main", "fork g2 main", "fork g3 main", "look s0 main", "look s1 g1", "look s2 g2", "look s3 g3"]
+    of, names = Draws(number), ["main", "g1", "g2", "g3"]
+    for _ in range(steps):
+        i = of.pick(4)
+        a = of.pick(16)
+        if a < 2:
+            lines.append(f"merge s{i} {names[of.pick(4)]}")
+        elif a == 2:
+            lines.append(f"look s{i} {names[i]}")
+        else:
+            form = {5: "flag {} enable", 6: "flag {} disable", 7: "lww {} set {}", 8: "multi {} set {}", 11: "set {} remove {}",
+                    12: "log {} append {}", 15: "queue {} dequeue"}
+            form.update({3: "counter {} add {}", 9: "set {} add {}", 13: "queue {} enqueue {}"})
+            form = form.get(a) or form[a - 1]
+            draws = [of.key()]
+            if form.count("{}") == 2:
+                draws.append(of.amount() if form.startswith("counter") else of.word())
+            lines.append(f"do s{i} " + form.format(*draws))
+    return "".join(line + "\n" for line in lines).encode()
+
+
+def generate(store, steps, number):
+    """What generated work writes."""
+    replies = script(store, script_text(steps, number))
+    starts = {"landed": "landed", "merged": "merged", "forward": "forward", "same": "same", "stale": "stale", "forked": "forked",
+              "looked": "", "errors": "error"}
+    counts = {name: sum(bool(start) and r.startswith(start) for r in replies) for name, start in starts.items()}
+    counts["looked"] = len(replies) - sum(counts.values())
+    told = " ".join(f"{name} {count}" for name, count in counts.items())
+    return [f"lines {len(replies)} {told}"] + store.report()
+
+
+def client_steps(client, steps, number):
+    of, name = Draws(number + client), f"c{client}"
+    lines = [f"fork {name} main", f"look own {name}", "look top main"]
+    forms = ["merge own main", f"merge top {name}", "do top counter {} add {}", "do own counter {} add {}", "do own set {} add {}",
+             "do own set {} remove {}", "do own queue {} enqueue {}", "do own queue {} dequeue"]
+    for _ in range(steps):
+        form = forms[of.pick(8)]
+        draws = [of.key()] if "{}" in form else []
+        if form.count("{}") == 2:
+            draws.append(of.amount() if "counter" in form else of.word())
+        lines.append(form.format(*draws))
+    return [line.encode() for line in lines]
+
+
+def clients_alone(store, steps, number):
+    """What one client writes: a branch that is there is passed over, and any other refusal ends it."""
+    engine, before, told = Engine(store), store.moves, None
+    for line in client_steps(0, steps, number):
+        reply = engine.reply(line)
+        if reply.startswith("error") and not reply.startswith("error taken"):
+            told = told or f"client 0 {reply}"
+            break
+    return [told or f"client 0 done {store.moves - before}"] + store.report()
