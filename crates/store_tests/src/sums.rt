@@ -203,18 +203,10 @@ fn limits_are_met(rt: HostRuntime) -> Result<(), Fail> {
     );
 
     let (main, left) = (Name::main(), name(&rt, b"left"));
-    let mut core: Versions<Sum> = Versions::fresh(
-        alloc,
-        limited(&rt, 9, 9, 1, 24, 9),
-        ADDRESS,
-    )?;
+    let mut core: Versions<Sum> = Versions::fresh(alloc, limited(&rt, 9, 9, 1, 24, 9), ADDRESS)?;
     let full = core.fork(left, &main).err();
     assert_eq!(rt; full, Some(ForkRefused::FullBranches { count: 1 }));
-    let mut core: Versions<Sum> = Versions::fresh(
-        alloc,
-        limited(&rt, 9, 9, 3, 24, 1),
-        ADDRESS,
-    )?;
+    let mut core: Versions<Sum> = Versions::fresh(alloc, limited(&rt, 9, 9, 3, 24, 1), ADDRESS)?;
     let _forked = core.fork(left, &main)?;
     let full = core.fork(name(&rt, b"right"), &main).err();
     assert_eq!(rt; full, Some(ForkRefused::FullMoves { count: 1 }));
@@ -254,12 +246,6 @@ fn two_branches_merge(rt: HostRuntime) -> Result<(), Fail> {
         })
     );
     Ok(())
-}
-
-// The letter `t` and a number.
-fn numbered(rt: &impl Abort, alloc: Global, number: u32) -> Name {
-    let text = format!(in alloc; "t{number}").expect(rt, "memory");
-    name(rt, text.as_bytes())
 }
 
 // The commit of an operation or a merge that landed.
@@ -323,23 +309,5 @@ fn criss_cross_merges_have_a_base(rt: HostRuntime) -> Result<(), Fail> {
     let landed = merge(&rt, &mut core, &left, &right).expect(&rt, "a merge");
     assert_eq!(rt; landed.and_then(|landed| commit_of(&landed)), Some(7));
     assert_eq!(rt; core.look(&left)?.value().value(), 1111);
-    Ok(())
-}
-
-#[test]
-fn five_hundred_criss_cross_merges(rt: HostRuntime) -> Result<(), Fail> {
-    let (left, right) = (name(&rt, b"p"), name(&rt, b"q"));
-    let mut core = with_two_branches(&rt, rt.alloc(), left, right);
-    for round in 0..500 {
-        let last = 4 * round;
-        let added = add_to_both(&rt, &mut core, &left, &right, [1, 1]);
-        assert_eq!(rt; added, [Some(last + 1), Some(last + 2)]);
-        let stood = numbered(&rt, rt.alloc(), round);
-        let landed = merge_both(&rt, &mut core, &left, &right, stood);
-        assert_eq!(rt; landed, [Some(last + 3), Some(last + 4)]);
-    }
-    let landed = merge(&rt, &mut core, &left, &right).expect(&rt, "a merge");
-    assert_eq!(rt; landed.and_then(|landed| commit_of(&landed)), Some(2001));
-    assert_eq!(rt; core.look(&left)?.value().value(), 1000);
     Ok(())
 }
