@@ -43,33 +43,33 @@ fn alone<R: Threads + Wait + Abort + Sync>(
     Ok((told(alloc, &outcomes[0])?, core))
 }
 
-// The value with one counter, the addition and its reply have 162 bytes.
+// The value with one addition, the operation and its reply have 174 bytes; a further addition makes 20 more.
 #[test]
 fn one_client_and_each_limit(rt: HostRuntime) -> Result<(), Fail> {
     let rows: [(Option<Limits>, &[&str], &str); 6] = [
-        (Limits::new(9, 9, 9, 162, 9), &ADDS, "done [1, 2]"),
+        (Limits::new(9, 9, 9, 194, 9), &ADDS, "done [1, 2]"),
         (
-            Limits::new(1, 9, 9, 162, 9),
+            Limits::new(1, 9, 9, 194, 9),
             &ADDS,
             "refused 2 Exhausted(1) [1]",
         ),
         (
-            Limits::new(9, 2, 9, 162, 9),
+            Limits::new(9, 2, 9, 194, 9),
             &ADDS,
             "refused 2 FullCommits(2) [1]",
         ),
         (
-            Limits::new(9, 9, 9, 161, 9),
+            Limits::new(9, 9, 9, 173, 9),
             &ADDS,
-            "refused 1 ValueTooLarge(162) []",
+            "refused 1 ValueTooLarge(174) []",
         ),
         (
-            Limits::new(9, 9, 9, 162, 1),
+            Limits::new(9, 9, 9, 194, 1),
             &ADDS,
             "refused 2 FullMoves(1) [1]",
         ),
         (
-            Limits::new(9, 9, 1, 162, 9),
+            Limits::new(9, 9, 1, 194, 9),
             &["fork p main"],
             "refused 0 FullBranches(1) []",
         ),
