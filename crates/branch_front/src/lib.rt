@@ -16,6 +16,3 @@ pub use front::Front;
 pub use pass::Pass;
 pub use told::Told;
 pub use writer::Writer;
-
-#[cfg(test)]
-mod tests;

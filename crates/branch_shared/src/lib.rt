@@ -15,6 +15,3 @@ pub use blank::Blank;
 pub use name::Named;
 pub use pass::Pass;
 pub use shared::{Closed, Shared};
-
-#[cfg(test)]
-mod tests;

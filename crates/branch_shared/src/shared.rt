@@ -33,7 +33,9 @@ use store_core::{
 /// names. Contracts see the front's `Opening`.
 ///
 /// `look`, `pair`, `land` and `fork` wait for the one lock, and do under it what one event of the store is. After each
-/// of them, refused or not, the pass has seen the whole history up to the call, of which it had seen a beginning.
+/// of them, refused or not, the pass has seen a beginning of the one history, no shorter than the one that it had seen, and
+/// the answer is the machine's there. That this is all of the history up to the call is how the code goes: no contract can
+/// say it of callers that never met.
 ///
 /// The lock is held to find names, to compare and move heads, to copy the bytes of a new commit behind the others, for
 /// the calls of the disk, and to hash the commit's own few bytes. What else takes time with the length of a value is done
@@ -157,8 +159,8 @@ impl<T: Mrdt, D: Disk + Drop, A: Address, N: Named<T::Op, T::Reply>> Shared<T, D
     }
 
     /// Lands what was prepared on a look, now or earlier. After `Ok` the last move that the pass has seen is this one.
-    /// It is refused exactly as the machine refuses it on the history up to the call, or where the disk fails or has
-    /// failed.
+    /// It is refused exactly as the machine refuses it on the history that the pass has seen then, or where the disk fails
+    /// or has failed.
     ///
     /// The object of the new value is spelled and hashed before the lock is waited for, in memory of its own; only where
     /// that is short, it is hashed under the lock. Under the lock the heads are compared, the new bytes are copied, the
@@ -186,8 +188,8 @@ impl<T: Mrdt, D: Disk + Drop, A: Address, N: Named<T::Op, T::Reply>> Shared<T, D
     }
 
     /// Forks a new branch from the head that another has now. After `Ok` the last move that the pass has seen is this one.
-    /// It is refused exactly as the machine refuses it on the history up to the call, or where the disk fails or has
-    /// failed.
+    /// It is refused exactly as the machine refuses it on the history that the pass has seen then, or where the disk fails
+    /// or has failed.
     pub fn fork<R: Wait>(
         &self,
         rt: &R,
@@ -229,7 +231,8 @@ impl<T: Mrdt, D: Disk + Drop, A: Address, N: Named<T::Op, T::Reply>> Shared<T, D
         receipts
     }
 
-    /// The core, where no pass is at hand.
+    /// The core, where no pass is at hand. Of what passes have seen, and of what callers were told, nothing is said then:
+    /// `close_with` says it.
     pub fn close(self) -> Core<T, D, A>
         ensures history { IsPrefix N.begun result.history }
         ensures limits { result.limits ≡ N.limits }

@@ -1,10 +1,9 @@
 -- What is left of a disk of which a store is made.
-use Rattle.std.proofs.Common.{◌≡◌, ℕ, List, [], length, ap, inl, inr, arith}
+use Rattle.std.proofs.Common.{◌≡◌, ℕ, List, [], length, refl, ap, inl, inr, arith}
 use Rattle.mrdt_model.specs.Laws.{Meaning}
 use Rattle.branch_disk.specs.Disk.{Files, LeavesOnly}
 use Rattle.branch_disk.specs.Moments.{weakened}
 use Rattle.branch_names.specs.declared.limits.Limits.{Limits}
-use Rattle.heads_journal.specs.Heads.{IsNoStore}
 use Rattle.branch_machine.specs.Fixed.{fix}
 use Rattle.branch_machine.specs.Validity.{IsFullyValid}
 use Rattle.branch_files.specs.Laws.{ReadsWhatStands}
@@ -19,12 +18,6 @@ has_bytes n files has empty =
     let objects : length files.objects ≡ 0 = ap length empty.0 in
     let heads : length files.heads ≡ 0 = ap length empty.1 in
     has.1 (omega (arith, has.0, objects, heads))
-
-no_header : (limits : Limits) (files : Files) → IsEmpty files → IsNoStore files.heads
-no_header limits files empty other header =
-    let long = header.long in
-    let none : length files.heads ≡ 0 = ap length empty.1 in
-    absurd (omega (arith, long, none))
 
 module _ {S O R Q A : Type 0} (m : Meaning S O R Q A) (address : List ℕ → List ℕ) (stands : ReadsWhatStands m) (no_store : ReadsAsNoStore m) where
   no_moves : (limits : Limits) → IsFullyValid (fix m limits address) []
@@ -42,11 +35,13 @@ module _ {S O R Q A : Type 0} (m : Meaning S O R Q A) (address : List ℕ → Li
     pub made_empty : (limits : Limits) (P : Limits → Type 0) → P limits → (old new : D) → LeavesOnly moment left_since old new (NoneOrEmpty (fix m limits address)) → LeavesOnly moment left_since old new (ReadsAsNoneOrEmpty m address P)
     made_empty limits P is old new all = weakened moment left_since old new (NoneOrEmpty (fix m limits address)) (ReadsAsNoneOrEmpty m address P) all (none_or_empty limits P is)
 
-  -- empty files read as no store
-  pub empty_reads : (limits : Limits) (P : Limits → Type 0) (c : Files) → IsEmpty c → ReadsAsNoneOrEmpty m address P c
-  empty_reads limits P c empty = inl (no_store address c (no_header limits c empty))
-
 module _ {S O R Q A : Type 0} (m : Meaning S O R Q A) (address : List ℕ → List ℕ) where
+  -- empty files read as no store
+  pub empty_reads : (P : Limits → Type 0) (c : Files) → IsEmpty c → ReadsAsNoneOrEmpty m address P c
+  empty_reads P c empty =
+      let none : length c.heads ≡ 0 = ap length empty.1 in
+      inl (inl (refl, λ limits spans. omega (arith, spans.gate, none)))
+
   -- limits of which this is true are such of which that is true
   pub empty_map : (P Q : Limits → Type 0) → ((limits : Limits) → P limits → Q limits) → (c : Files) → ReadsAsEmpty m address P c → ReadsAsEmpty m address Q c
   empty_map P Q f c (limits, is, reads) = (limits, f limits is, reads)

@@ -7,6 +7,7 @@ pub mod Ends
 pub mod Once
 pub mod Inits
 pub mod Reports
+pub mod Opening
 pub mod Scripts
 pub mod Finish
 pub mod Said

@@ -35,7 +35,7 @@ reason_refused text result g0 g1 before now (inl (is, gave, same)) = subst (Says
 reason_refused text result g0 g1 before now (inr (is, gives, rose)) = subst (SaysReason before now) (sym is) rose
 
 -- other texts, each of which is one of these
-wrote_map : (success refused success' refused' : List ℕ → Type 0) → ((whole : List ℕ) → success whole → success' whole) → ((whole : List ℕ) → refused whole → refused' whole)
+pub wrote_map : (success refused success' refused' : List ℕ → Type 0) → ((whole : List ℕ) → success whole → success' whole) → ((whole : List ℕ) → refused whole → refused' whole)
     → (status : Status) (text : List ℕ) → WroteOnce success refused status text → WroteOnce success' refused' status text
 wrote_map success refused success' refused' f g Done text w = f text w
 wrote_map success refused success' refused' f g Usage text w = w

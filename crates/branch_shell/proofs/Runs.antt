@@ -1,71 +1,178 @@
--- What each command wrote, of the words that say it.
-use Rattle.std.proofs.Common.{◌≡◌, ◌⊎◌, ℕ, List, [], refl, sym, subst, inl, inr}
+-- What a run did of each command, of the words that say it.
+use Rattle.std.proofs.Common.{◌≡◌, ◌⊎◌, ℕ, ◌≤◌, List, [], refl, subst, append-nil, inl, inr}
 use Rattle.std.specs.Prelude.{Option, Some}
 use Rattle.std.specs.Io.KnownBytes.{Appends}
 use Rattle.std.proofs.KnownBytes.{Consumes-nil, Appends-nil}
+use Rattle.branch_disk.specs.declared.disk.Disk.{Ghosts}
 use Rattle.branch_disk.specs.Disk.{Files}
+use Rattle.branch_disk.specs.Moments.{weakened}
 use Rattle.branch_doc.specs.Document.{document}
-use Rattle.branch_command.specs.Numbers.{Numbers}
-use Rattle.branch_command.specs.Work.{Work, Clients as ClientsGiven}
+use Rattle.store_core.specs.Opens.{ReadsAsNone}
+use Rattle.branch_command.specs.Numbers.{Numbers, AreLimits}
+use Rattle.branch_command.specs.Work.{Clients as ClientsGiven}
 use Rattle.branch_command.specs.Commands.{Said, Init, Script, Check, Generate, Clients, Help}
 use Rattle.branch_shell.specs.declared.status.Status.{Status}
-use Rattle.branch_shell.specs.declared.status.Status.TheVariants.{Done, Memory}
+use Rattle.branch_shell.specs.declared.status.Status.TheVariants.{Done, Usage, StoreRefused, Memory}
 use Rattle.branch_shell.specs.Reading.{Exchanges}
-use Rattle.branch_shell.specs.Once.{Answers, Says}
-use Rattle.branch_shell.specs.Stores.{SaysReady, SaysNotEmpty, SaysReport, SaysRefused}
-use Rattle.branch_shell.specs.Generated.{SaysWork}
-use Rattle.branch_shell.specs.Together.{SaysTogether}
-use Rattle.branch_shell.specs.Statuses.{ScriptWrote, Wrote}
+use Rattle.branch_shell.specs.Once.{WroteOnce, Answers, Says}
+use Rattle.branch_shell.specs.Stores.{SaysReady, SaysNotEmpty, SaysReport, SaysRefused, ReadsAsNoneOrEmpty}
+use Rattle.branch_shell.specs.Documents.{DocStore}
+use Rattle.branch_shell.specs.Together.{RanTogether, SaysTogether, ReadsOn}
+use Rattle.branch_shell.specs.Statuses.{Wrote, ScriptWrote, Holds}
+use Rattle.branch_shell.specs.Ran.{LeavesAsBefore, LeavesInit, LeavesChecked, Ran}
+use Rattle.branch_shell.proofs.Once.{wrote_map}
 use Rattle.branch_shell.proofs.Said.{one_command}
+use Rattle.branch_shell.proofs.Inits.{empty_reads}
+use Rattle.branch_shell.proofs.Opening.{untouched}
+use Rattle.branch_shell.proofs.Outcomes.{says_ran}
+use Rattle.branch_shell.proofs.Scripts.{script_refused}
+use Rattle.branch_shell.proofs.Works.{work_refused}
 
-module _ (address : List ℕ → List ℕ) (told : Option Files) (words : Option Said) where
-  pub init_wrote : (n : Numbers) → words ≡ Some (Init n) → (status : Status) (l g0 g1 : Option (List ℕ)) → Answers (SaysReady told) (SaysNotEmpty told) status g0 g1
-      → (command : Said) → words ≡ Some command → Exchanges l l g0 g1 (Wrote address command told l status)
-  init_wrote n is status l g0 g1 w command said =
-      ([], w.0, Consumes-nil l, w.1, subst (λ (k : Said). Wrote address k told l status [] w.0) (sym (one_command words command (Init n) said is)) (refl, w.2))
+-- a script tells no misuse
+script_usage : (address : List ℕ → List ℕ) (told : Option Files) (left : Option (List ℕ)) (input text : List ℕ) → ScriptWrote address told left Usage input text → ⊥
+script_usage address told left input text (inl once) = once.1
+script_usage address told left input text (inr over) = over.3
 
-  pub check_wrote : words ≡ Some Check → (status : Status) (l g0 g1 : Option (List ℕ)) → Answers (SaysReport document address told) (SaysRefused document address told) status g0 g1
-      → (command : Said) → words ≡ Some command → Exchanges l l g0 g1 (Wrote address command told l status)
-  check_wrote is status l g0 g1 w command said =
-      ([], w.0, Consumes-nil l, w.1, subst (λ (k : Said). Wrote address k told l status [] w.0) (sym (one_command words command Check said is)) (refl, w.2))
+pub no_usage : (address : List ℕ → List ℕ) (told : Option Files) (left : Option (List ℕ)) (status : Status) (input text : List ℕ)
+    → Wrote address Script told left status input text → status ≡ Usage → ⊥
+no_usage address told left status input text w is =
+    script_usage address told left input text (subst (λ (s : Status). ScriptWrote address told left s input text) is w)
 
-  pub work_wrote : (work : Work) → words ≡ Some (Generate work) → (status : Status) (l g0 g1 : Option (List ℕ)) → Answers (SaysWork address told work) (SaysRefused document address told) status g0 g1
-      → (command : Said) → words ≡ Some command → Exchanges l l g0 g1 (Wrote address command told l status)
-  work_wrote work is status l g0 g1 w command said =
-      ([], w.0, Consumes-nil l, w.1, subst (λ (k : Said). Wrote address k told l status [] w.0) (sym (one_command words command (Generate work) said is)) (refl, w.2))
+-- nor does what was written that answers no line
+pub once_usage : (success refusal : List ℕ → Type 0) (status : Status) (text : List ℕ) → WroteOnce success refusal status text → status ≡ Usage → ⊥
+once_usage success refusal status text w is = subst (λ (s : Status). WroteOnce success refusal s text) is w
 
-  pub clients_wrote : (clients : ClientsGiven) → words ≡ Some (Clients clients) → (status : Status) (l g0 g1 : Option (List ℕ)) → Answers (SaysTogether address told clients) (SaysRefused document address told) status g0 g1
-      → (command : Said) → words ≡ Some command → Exchanges l l g0 g1 (Wrote address command told l status)
-  clients_wrote clients is status l g0 g1 w command said =
-      ([], w.0, Consumes-nil l, w.1, subst (λ (k : Said). Wrote address k told l status [] w.0) (sym (one_command words command (Clients clients) said is)) (refl, w.2))
+-- what was given by one command, or this, by the words that say it
+pub said_behind : (address : List ℕ → List ℕ) (told : Option Files) (words : Option Said) (this command : Said) → words ≡ Some this → words ≡ Some command
+    → (status : Status) (l0 l1 g0 g1 : Option (List ℕ)) (same : Type 0) → same ⊎ Exchanges l0 l1 g0 g1 (Wrote address this told l1 status)
+    → same ⊎ Exchanges l0 l1 g0 g1 (Wrote address command told l1 status)
+said_behind address told words this command is said status l0 l1 g0 g1 same (inl stays) = inl stays
+said_behind address told words this command is said status l0 l1 g0 g1 same (inr e) =
+    inr (e.0, e.1, e.2, e.3, subst (λ (k : Said). Wrote address k told l1 status e.0 e.1) (one_command words this command is said) e.4)
 
-  pub script_wrote : words ≡ Some Script → (status : Status) (l0 l1 g0 g1 : Option (List ℕ)) → Exchanges l0 l1 g0 g1 (ScriptWrote address told l1 status)
-      → (command : Said) → words ≡ Some command → Exchanges l0 l1 g0 g1 (Wrote address command told l1 status)
-  script_wrote is status l0 l1 g0 g1 e command said =
-      (e.0, e.1, e.2, e.3, subst (λ (k : Said). Wrote address k told l1 status e.0 e.1) (sym (one_command words command Script said is)) e.4)
+-- the text of help, or a first part of it
+text_given : (text : List ℕ) (result : Status) (g0 g1 : Option (List ℕ)) (before now : ℕ) → Says text Done result g0 g1 before now → (given : List ℕ) × Appends g0 g1 given
+text_given text result g0 g1 before now (inl (is, gave, same)) = (text, gave)
+text_given text result g0 g1 before now (inr (is, gives, rose)) = (gives.part, gives.given)
 
-  -- or this, where it is so
-  pub script_behind : words ≡ Some Script → (status : Status) (l0 l1 g0 g1 : Option (List ℕ)) (same : Type 0) → same ⊎ Exchanges l0 l1 g0 g1 (ScriptWrote address told l1 status)
-      → (command : Said) → words ≡ Some command → same ⊎ Exchanges l0 l1 g0 g1 (Wrote address command told l1 status)
-  script_behind is status l0 l1 g0 g1 same (inl stays) command said = inl stays
-  script_behind is status l0 l1 g0 g1 same (inr e) command said = inr (script_wrote is status l0 l1 g0 g1 e command said)
+-- and help is not refused
+help_goes : (text : List ℕ) (result : Status) (g0 g1 : Option (List ℕ)) (before now : ℕ) → Says text Done result g0 g1 before now → result ≡ StoreRefused → ⊥
+help_goes text result g0 g1 before now (inl (is, gave, same)) refused = cc (is, refused)
+help_goes text result g0 g1 before now (inr (is, gives, rose)) refused = cc (is, refused)
 
-  -- the text of help, or a first part of it
-  text_given : (text : List ℕ) (result : Status) (g0 g1 : Option (List ℕ)) (before now : ℕ) → Says text Done result g0 g1 before now → (given : List ℕ) × Appends g0 g1 given
-  text_given text result g0 g1 before now (inl (is, gave, same)) = (text, gave)
-  text_given text result g0 g1 before now (inr (is, gives, rose)) = (gives.part, gives.given)
+module _ (address : List ℕ → List ℕ) {D : Type 0} (disk : Ghosts D)
+    (counts_now : (d : D) (t : ℕ) (c : Files) → t ≤ disk.moment d → disk.may_leave d c → disk.left_since d t c)
+    (only_now : (d : D) (c : Files) → disk.left_since d (disk.moment d) c → disk.may_leave d c) where
+  -- what a run did of one command, by the words that say it
+  pub said_ran : (words : Option Said) (this command : Said) → words ≡ Some this → words ≡ Some command
+      → (old new : D) (l0 l1 g0 g1 : Option (List ℕ)) (status : Status) → Exchanges l0 l1 g0 g1 (Ran disk address this old new l1 status)
+      → Exchanges l0 l1 g0 g1 (Ran disk address command old new l1 status)
+  said_ran words this command is said old new l0 l1 g0 g1 status e =
+      (e.0, e.1, e.2, e.3, subst (λ (k : Said). Ran disk address k old new l1 status e.0 e.1) (one_command words this command is said) e.4)
 
-  pub help_wrote : words ≡ Some Help → (text : List ℕ) (status : Status) (l g0 g1 : Option (List ℕ)) (before now : ℕ) → Says text Done status g0 g1 before now
-      → (command : Said) → words ≡ Some command → Exchanges l l g0 g1 (Wrote address command told l status)
-  help_wrote is text status l g0 g1 before now says command said =
-      let given = text_given text status g0 g1 before now says in
-      ([], given.0, Consumes-nil l, given.1, subst (λ (k : Said). Wrote address k told l status [] given.0) (sym (one_command words command Help said is)) refl)
+  module _ (old new : D) (status : Status) (l g0 g1 : Option (List ℕ)) where
+    pub init_ran : (n : Numbers) → Answers (SaysReady (disk.contents old)) (SaysNotEmpty (disk.contents old)) status g0 g1
+        → LeavesInit disk address (AreLimits n) old new status → (status ≡ StoreRefused → LeavesAsBefore disk old new)
+        → Exchanges l l g0 g1 (Ran disk address (Init n) old new l status)
+    init_ran n w leaves refused = ([], w.0, Consumes-nil l, w.1, record { wrote = (refl, w.2); leaves = leaves; refused = refused })
 
--- for want of memory to read the words
-pub memory_wrote : (address : List ℕ → List ℕ) (told : Option Files) (l g : Option (List ℕ)) (command : Said) → Exchanges l l g g (Wrote address command told l Memory)
-memory_wrote address told l g (Init n) = ([], [], Consumes-nil l, Appends-nil g, (refl, refl))
-memory_wrote address told l g Script = ([], [], Consumes-nil l, Appends-nil g, inl (refl, refl))
-memory_wrote address told l g Check = ([], [], Consumes-nil l, Appends-nil g, (refl, refl))
-memory_wrote address told l g (Generate work) = ([], [], Consumes-nil l, Appends-nil g, (refl, refl))
-memory_wrote address told l g (Clients clients) = ([], [], Consumes-nil l, Appends-nil g, (refl, refl))
-memory_wrote address told l g Help = ([], [], Consumes-nil l, Appends-nil g, refl)
+    pub check_ran : Answers (SaysReport document address (disk.contents old)) (SaysRefused document address (disk.contents old)) status g0 g1
+        → LeavesChecked disk address old new status → Exchanges l l g0 g1 (Ran disk address Check old new l status)
+    check_ran w leaves = ([], w.0, Consumes-nil l, w.1, record { wrote = (refl, w.2); leaves = leaves; refused = λ refused. leaves.any_moment })
+
+    pub clients_ran : (clients : ClientsGiven)
+        → Answers (RanTogether disk.may_leave address (disk.contents old) clients new) (SaysRefused document address (disk.contents old)) status g0 g1
+        → ((store : DocStore) → Holds disk.contents disk.may_leave address old store → (c : Files) → disk.may_leave new c → ReadsOn address store c)
+        → ((files : Files) → disk.contents old ≡ Some files → ReadsAsNone document address files → LeavesAsBefore disk old new)
+        → (status ≡ StoreRefused → LeavesAsBefore disk old new)
+        → Exchanges l l g0 g1 (Ran disk address (Clients clients) old new l status)
+    clients_ran clients w crashes none refused =
+        let told = disk.contents old in
+        let Ran_so : List ℕ → Type 0 = RanTogether disk.may_leave address told clients new in (
+          [],
+          w.0,
+          Consumes-nil l,
+          w.1,
+          record {
+            wrote = (
+              refl,
+              wrote_map Ran_so (SaysRefused document address told) (SaysTogether address told clients) (SaysRefused document address told)
+                  (says_ran disk.may_leave address told clients new) (λ whole is. is) status w.0 w.2,
+            );
+            leaves = record {
+              ran = λ done. subst (λ (s : Status). WroteOnce Ran_so (SaysRefused document address told) s w.0) done w.2;
+              crashes = crashes;
+              none = none;
+            };
+            refused = refused;
+          },
+        )
+
+  pub help_ran : (old : D) (text : List ℕ) (status : Status) (l g0 g1 : Option (List ℕ)) (before now : ℕ) → Says text Done status g0 g1 before now
+      → Exchanges l l g0 g1 (Ran disk address Help old old l status)
+  help_ran old text status l g0 g1 before now says =
+      let given = text_given text status g0 g1 before now says in (
+        [],
+        given.0,
+        Consumes-nil l,
+        given.1,
+        record {
+          wrote = refl;
+          leaves = refl;
+          refused = λ refused. absurd {A = LeavesAsBefore disk old old} (help_goes text status g0 g1 before now says refused);
+        },
+      )
+
+  -- for want of memory to read the words
+  pub memory_ran : (old : D) (l g : Option (List ℕ)) (command : Said) → Exchanges l l g g (Ran disk address command old old l Memory)
+  memory_ran old l g (Init n) =
+      let same = untouched address disk counts_now only_now old in (
+        [],
+        [],
+        Consumes-nil l,
+        Appends-nil g,
+        record {
+          wrote = (refl, refl);
+          leaves = record {
+            any_moment = λ empty. weakened disk.moment disk.left_since old old (disk.may_leave old) (ReadsAsNoneOrEmpty document address (AreLimits n))
+                same (λ c was. empty_reads document address (AreLimits n) c (empty c was));
+            made = λ done. absurd (cc);
+            kept = λ files told full. same;
+          };
+          refused = λ refused. same;
+        },
+      )
+  memory_ran old l g Script =
+      ([], [], Consumes-nil l, Appends-nil g, script_refused address disk counts_now only_now old old l Memory [] (untouched address disk counts_now only_now old) refl)
+  memory_ran old l g Check =
+      let same = untouched address disk counts_now only_now old in (
+        [],
+        [],
+        Consumes-nil l,
+        Appends-nil g,
+        record {
+          wrote = (refl, refl);
+          leaves = record { any_moment = same; keeps = λ done. absurd (cc) };
+          refused = λ refused. same;
+        },
+      )
+  memory_ran old l g (Generate work) =
+      ([], [], Consumes-nil l, Appends-nil g, work_refused address disk counts_now only_now work l old old Memory [] (untouched address disk counts_now only_now old) refl)
+  memory_ran old l g (Clients clients) =
+      let same = untouched address disk counts_now only_now old in (
+        [],
+        [],
+        Consumes-nil l,
+        Appends-nil g,
+        record {
+          wrote = (refl, refl);
+          leaves = record {
+            ran = λ done. absurd (cc);
+            crashes = λ store holds c left. (store.history, ([], append-nil store.history), holds.images c left);
+            none = λ files told none. same;
+          };
+          refused = λ refused. same;
+        },
+      )
+  memory_ran old l g Help =
+      ([], [], Consumes-nil l, Appends-nil g, record { wrote = refl; leaves = refl; refused = λ refused. untouched address disk counts_now only_now old })

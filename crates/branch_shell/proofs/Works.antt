@@ -1,8 +1,9 @@
 -- Generated work, from the opening of its store on.
-use Rattle.std.proofs.Common.{◌≡◌, ◌≢◌, ℕ, ◌≤◌, List, [], ◌++◌, refl, ap₂, subst, ◌∙◌}
+use Rattle.std.proofs.Common.{◌≡◌, ◌≢◌, ℕ, ◌≤◌, List, [], ◌++◌, refl, ap₂, subst, ◌∙◌, inl, inr}
 use Rattle.std.specs.Prelude.{Option, None}
 use Rattle.branch_disk.specs.Disk.{Files, LeavesOnly}
-use Rattle.branch_disk.specs.Moments.{weakened, goes_on}
+use Rattle.branch_disk.specs.declared.disk.Disk.{Ghosts}
+use Rattle.branch_disk.specs.Moments.{now_too}
 use Rattle.branch_doc.specs.Document.{document}
 use Rattle.branch_print.specs.declared.summaries.Summary.{Summary}
 use Rattle.branch_print.specs.Texts.{line_end}
@@ -10,6 +11,8 @@ use Rattle.branch_print.specs.Reports.{report_text}
 use Rattle.branch_print.specs.Summaries.{summary_of, summary_text}
 use Rattle.branch_engine.specs.Play.{History, begins, after_from}
 use Rattle.branch_engine.specs.Engines.{EngineView, IsAt}
+use Rattle.branch_command.specs.Commands.{Generate}
+use Rattle.branch_command.specs.Work.{Work}
 use Rattle.branch_shell.specs.declared.status.Status.{Status}
 use Rattle.branch_shell.specs.declared.status.Status.TheVariants.{Done, Usage, StoreRefused, DiskFault, ReadFault, WriteFault, LineTooLong, InputTooLong, Memory}
 use Rattle.branch_shell.specs.Counts.{StopsCounting}
@@ -17,11 +20,11 @@ use Rattle.branch_shell.specs.Stores.{ReadsAsStore, IsOpenedAs, SaysRefused}
 use Rattle.branch_shell.specs.Once.{WroteOnce, Answers}
 use Rattle.branch_shell.specs.Documents.{DocStore, fixed_of, replies_over}
 use Rattle.branch_shell.specs.Telling.{TellsLines, LeavesSome}
-use Rattle.branch_shell.specs.Generated.{work_text, HoldsAfterSome, SurvivesWork}
-use Rattle.branch_shell.specs.Statuses.{Holds}
-use Rattle.branch_shell.proofs.Told.{after_none}
+use Rattle.branch_shell.specs.Generated.{drawn_lines, work_text, SaysWork, HoldsAfterSome, SurvivesWork}
+use Rattle.branch_shell.specs.Ran.{LeavesAsBefore, HoldsStore, LeavesWork, Ran}
 use Rattle.branch_shell.proofs.Ends.{after_lines-is}
-use Rattle.branch_shell.proofs.Scripts.{same_store, no_text}
+use Rattle.branch_shell.proofs.Once.{wrote_map}
+use Rattle.branch_shell.proofs.Opening.{store_read, opened_then, only_before, failed, not_done}
 
 -- what stopped the lines is not that all was done
 pub stopped_undone : (before now : ℕ) (status : Status) → StopsCounting before now status → status ≢ Done
@@ -74,30 +77,68 @@ module _ (address : List ℕ → List ℕ) where
         → LeavesSome may_leave moment left_since address lines old new → status ≢ Done → SurvivesWork may_leave moment left_since address store lines old.core.disk new.core.disk status
     survives_stopped store lines old new status at moments undone = record { any_moment = moments store.limits (begins store.history) at; complete = λ done. absurd (undone done) }
 
+  -- from the opening of the store on
+  module _ {D : Type 0} (disk : Ghosts D)
+      (counts_now : (d : D) (t : ℕ) (c : Files) → t ≤ disk.moment d → disk.may_leave d c → disk.left_since d t c)
+      (only_now : (d : D) (c : Files) → disk.left_since d (disk.moment d) c → disk.may_leave d c)
+      (work : Work) (left : Option (List ℕ)) (old : D) where
     -- the store was opened
-    pub work_opened : (disk mid new : D) (store found : DocStore) (lines : List (List ℕ)) (status : Status) → Holds contents may_leave address disk store → IsOpenedAs document address (contents disk) found
-        → LeavesOnly moment left_since disk mid (may_leave disk) → SurvivesWork may_leave moment left_since address found lines mid new status → SurvivesWork may_leave moment left_since address store lines disk new status
-    work_opened disk mid new store found lines status holds opened first survives =
-        let same = same_store address contents may_leave moment left_since counts_now disk store found holds opened in
-        let s : SurvivesWork may_leave moment left_since address store lines mid new status = subst (λ (k : DocStore). SurvivesWork may_leave moment left_since address k lines mid new status) same survives in
-        record {
-          any_moment =
-              goes_on moment left_since disk mid new (HoldsAfterSome address store lines) (HoldsAfterSome address store lines)
-              (weakened moment left_since disk mid (may_leave disk) (HoldsAfterSome address store lines) first (λ c was. after_none (fixed_of address store) (begins store.history) lines c (holds.images c was)))
-              s.any_moment (λ c h. h);
-          complete = s.complete;
-        }
+    module _ (mid new : D) (found : DocStore) (status : Status) (text : List ℕ) (is : IsOpenedAs document address (disk.contents old) found)
+        (first : LeavesAsBefore disk old mid)
+        (survives : SurvivesWork disk.may_leave disk.moment disk.left_since address found (drawn_lines work) mid new status)
+        (w : WroteOnce (λ whole. whole ≡ work_text address found (drawn_lines work)) (λ whole. ⊥) status text) where
+      work_over : (store : DocStore) → HoldsStore disk address old store
+          → LeavesWork disk address store (drawn_lines work) old new status [] text
+      work_over store holds =
+          let s : SurvivesWork disk.may_leave disk.moment disk.left_since address store (drawn_lines work) mid new status =
+          subst (λ (k : DocStore). SurvivesWork disk.may_leave disk.moment disk.left_since address k (drawn_lines work) mid new status)
+          (store_read address disk counts_now only_now old store found holds is) survives in
+          record {
+            any_moment = opened_then address disk counts_now only_now old mid new (HoldsAfterSome address store (drawn_lines work))
+                first s.any_moment;
+            ended = inr (now_too disk.moment disk.left_since disk.may_leave counts_now mid new
+                (HoldsAfterSome address store (drawn_lines work)) s.any_moment);
+            complete = s.complete;
+          }
 
-    -- nothing was done
-    pub work_undone : (disk new : D) (store : DocStore) (lines : List (List ℕ)) (status : Status) → Holds contents may_leave address disk store → LeavesOnly moment left_since disk new (may_leave disk)
-        → status ≢ Done → SurvivesWork may_leave moment left_since address store lines disk new status
-    work_undone disk new store lines status holds moments undone = record {
-      any_moment = weakened moment left_since disk new (may_leave disk) (HoldsAfterSome address store lines) moments (λ c was. after_none (fixed_of address store) (begins store.history) lines c (holds.images c was));
-      complete = λ done. absurd (undone done);
-    }
+      pub work_opened : Ran disk address (Generate work) old new left status [] text
+      work_opened = record {
+        wrote = (
+          refl,
+          wrote_map (λ whole. whole ≡ work_text address found (drawn_lines work)) (λ whole. ⊥)
+              (SaysWork address (disk.contents old) work) (SaysRefused document address (disk.contents old))
+              (λ whole so. (found, is, so)) (λ whole no. absurd no) status text w,
+        );
+        leaves = record {
+          over = work_over;
+          none = λ files says none. absurd {A = LeavesAsBefore disk old new}
+              (none found.limits found.history (is.reads files says));
+        };
+        refused = λ refused. absurd {A = LeavesAsBefore disk old new}
+            (subst (λ (s : Status). WroteOnce (λ whole. whole ≡ work_text address found (drawn_lines work)) (λ whole. ⊥) s text) refused w);
+      }
 
-    -- the store was not opened
-    pub work_refused : (disk new : D) (store : DocStore) (lines : List (List ℕ)) (g0 g1 : Option (List ℕ)) (status : Status) → Holds contents may_leave address disk store
-        → LeavesOnly moment left_since disk new (may_leave disk) → Answers (λ whole. ⊥) (SaysRefused document address (contents disk)) status g0 g1 → SurvivesWork may_leave moment left_since address store lines disk new status
-    work_refused disk new store lines g0 g1 status holds moments w =
-        work_undone disk new store lines status holds moments (no_text address contents may_leave moment left_since counts_now disk store status w.0 holds w.2).1
+    -- or it was not
+    module _ (new : D) (status : Status) (text : List ℕ) (all : LeavesAsBefore disk old new)
+        (w : WroteOnce (λ whole. ⊥) (SaysRefused document address (disk.contents old)) status text) where
+      work_unopened : (store : DocStore) → HoldsStore disk address old store
+          → LeavesWork disk address store (drawn_lines work) old new status [] text
+      work_unopened store holds =
+          let fails = failed address disk counts_now only_now old new store status text holds all w in
+          record {
+            any_moment = only_before address disk counts_now only_now old new (HoldsAfterSome address store (drawn_lines work)) all;
+            ended = inl fails;
+            complete = λ done. absurd (not_done address disk counts_now only_now old new status text fails done);
+          }
+
+      pub work_refused : Ran disk address (Generate work) old new left status [] text
+      work_refused = record {
+        wrote = (
+          refl,
+          wrote_map (λ whole. ⊥) (SaysRefused document address (disk.contents old))
+              (SaysWork address (disk.contents old) work) (SaysRefused document address (disk.contents old))
+              (λ whole no. absurd no) (λ whole says. says) status text w,
+        );
+        leaves = record { over = work_unopened; none = λ files says none. all };
+        refused = λ refused. all;
+      }

@@ -11,22 +11,28 @@ pub record Counts : Type 0 where
   pub disk : ℕ
 
 abbrev pub StayTheSame : Counts → Counts → Type 0
-StayTheSame before now = (now.source ≡ before.source) × (now.sink ≡ before.sink) × (now.disk ≡ before.disk)
+StayTheSame before now = (now.source ≡ before.source) × (now.sink ≡ before.sink)
+    × (now.disk ≡ before.disk)
 
--- the sink failed, and nothing else; or it failed to finish behind a fault of the source or of the disk
+-- the sink failed, and nothing else; or it failed to finish behind a fault of the source or of the
+-- disk
 abbrev pub SinkFailed : Counts → Counts → Type 0
 SinkFailed before now =
     Rose before.sink now.sink
     × (((now.source ≡ before.source) × (now.disk ≡ before.disk))
-    ⊎ ((Rose before.source now.source × (now.disk ≡ before.disk)) ⊎ ((now.source ≡ before.source) × Rose before.disk now.disk)))
+    ⊎ ((Rose before.source now.source × (now.disk ≡ before.disk))
+    ⊎ ((now.source ≡ before.source) × Rose before.disk now.disk)))
 
--- only the fault that the status tells raised its count, but that the sink may fail to finish behind another fault
+-- only the fault that the status tells raised its count, but that the sink may fail to finish
+-- behind another fault
 abbrev pub HasReason : Counts → Counts → Status → Type 0
 HasReason before now Done = StayTheSame before now
 HasReason before now Usage = StayTheSame before now
 HasReason before now StoreRefused = StayTheSame before now
-HasReason before now DiskFault = Rose before.disk now.disk × (now.source ≡ before.source) × (now.sink ≡ before.sink)
-HasReason before now ReadFault = Rose before.source now.source × (now.sink ≡ before.sink) × (now.disk ≡ before.disk)
+HasReason before now DiskFault = Rose before.disk now.disk × (now.source ≡ before.source)
+    × (now.sink ≡ before.sink)
+HasReason before now ReadFault = Rose before.source now.source × (now.sink ≡ before.sink)
+    × (now.disk ≡ before.disk)
 HasReason before now WriteFault = SinkFailed before now
 HasReason before now LineTooLong = StayTheSame before now
 HasReason before now InputTooLong = StayTheSame before now
@@ -36,14 +42,18 @@ HasReason before now Memory = StayTheSame before now
 abbrev pub StopsAtFault : Counts → Counts → Status → Type 0
 StopsAtFault before now Usage = ⊥
 StopsAtFault before now StoreRefused = ⊥
-StopsAtFault before now WriteFault = Rose before.sink now.sink × (now.source ≡ before.source) × (now.disk ≡ before.disk)
+StopsAtFault before now WriteFault = Rose before.sink now.sink × (now.source ≡ before.source)
+    × (now.disk ≡ before.disk)
 StopsAtFault before now status = HasReason before now status
 
 -- telling lines was stopped by a fault of the sink or of the disk, or by want of memory
 abbrev pub StopsTelling : ℕ → ℕ → ℕ → ℕ → Status → Type 0
-StopsTelling sink_before sink_now disk_before disk_now WriteFault = Rose sink_before sink_now × (disk_now ≡ disk_before)
-StopsTelling sink_before sink_now disk_before disk_now DiskFault = Rose disk_before disk_now × (sink_now ≡ sink_before)
-StopsTelling sink_before sink_now disk_before disk_now Memory = (sink_now ≡ sink_before) × (disk_now ≡ disk_before)
+StopsTelling sink_before sink_now disk_before disk_now WriteFault = Rose sink_before sink_now
+    × (disk_now ≡ disk_before)
+StopsTelling sink_before sink_now disk_before disk_now DiskFault = Rose disk_before disk_now
+    × (sink_now ≡ sink_before)
+StopsTelling sink_before sink_now disk_before disk_now Memory = (sink_now ≡ sink_before)
+    × (disk_now ≡ disk_before)
 StopsTelling sink_before sink_now disk_before disk_now status = ⊥
 
 -- telling lines that give nothing was stopped by a fault of the disk, or by want of memory

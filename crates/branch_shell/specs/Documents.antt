@@ -18,7 +18,10 @@ script_text address store lines = text_of (fixed_of address store) store.history
 
 -- the store after lines
 abbrev pub store_after : (List ℕ → List ℕ) → DocStore → List (List ℕ) → DocStore
-store_after address store lines = record { limits = store.limits; history = after_lines (fixed_of address store) store.history lines }
+store_after address store lines = record {
+  limits = store.limits;
+  history = after_lines (fixed_of address store) store.history lines;
+}
 
 -- a reply in front of others, if it is one: an empty line and a comment have none
 abbrev pub with_reply : List ℕ → List (List ℕ) → List (List ℕ)
@@ -28,8 +31,10 @@ with_reply (b ∷ bs) replies = (b ∷ bs) ∷ replies
 -- the replies to lines from a play on, one by one
 abbrev pub replies_from : DocFixed → Play → List (List ℕ) → List (List ℕ)
 replies_from fixed p [] = []
-replies_from fixed p (line ∷ lines) = with_reply (line_told fixed p line).text (replies_from fixed (line_told fixed p line).after lines)
+replies_from fixed p (line ∷ lines) = with_reply (line_told fixed p line).text
+    (replies_from fixed (line_told fixed p line).after lines)
 
 -- the replies to lines over a store
 abbrev pub replies_over : (List ℕ → List ℕ) → DocStore → List (List ℕ) → List (List ℕ)
-replies_over address store lines = replies_from (fixed_of address store) (begins store.history) lines
+replies_over address store lines = replies_from (fixed_of address store) (begins store.history)
+    lines

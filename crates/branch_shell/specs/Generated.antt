@@ -1,4 +1,5 @@
--- Generated work: what the script that is drawn from a number writes over a store, and what a crash leaves of it.
+-- Generated work: what the script that is drawn from a number writes over a store, and what a crash
+-- leaves of it.
 use Rattle.std.specs.Prelude.{◌≡◌, ℕ, List, [], ◌++◌}
 use Rattle.std.specs.declared.option.Option.{Option}
 use Rattle.branch_disk.specs.Disk.{Files, LeavesOnly}
@@ -22,18 +23,25 @@ drawn_lines work = lines_of (drawn.script_text work.steps work.number)
 
 -- what came of lines over a store, and then the report of the store after them
 abbrev pub work_text : (List ℕ → List ℕ) → DocStore → List (List ℕ) → List ℕ
-work_text address store lines = (summary_text (summary_of (replies_over address store lines)) ++ line_end) ++ report_text (store_after address store lines).history
+work_text address store lines = (summary_text (summary_of (replies_over address store lines))
+    ++ line_end) ++ report_text (store_after address store lines).history
 
--- what came of the drawn lines over the store that opening found, and the report of the store after them
+-- what came of the drawn lines over the store that opening found, and the report of the store after
+-- them
 abbrev pub SaysWork : (List ℕ → List ℕ) → Option Files → Work → List ℕ → Type 0
-SaysWork address told work text = (store : DocStore) × IsOpenedAs document address told store × (text ≡ work_text address store (drawn_lines work))
+SaysWork address told work text = (store : DocStore) × IsOpenedAs document address told store
+    × (text ≡ work_text address store (drawn_lines work))
 
 -- the files read as the store after some of the lines, in order
 abbrev pub HoldsAfterSome : (List ℕ → List ℕ) → DocStore → List (List ℕ) → Files → Type 0
-HoldsAfterSome address store lines c = ReadsAfterSome (fixed_of address store) (begins store.history) lines [] c
+HoldsAfterSome address store lines c = ReadsAfterSome (fixed_of address store)
+    (begins store.history) lines [] c
 
--- What a crash leaves of the disk of generated work: at each moment the store after some of its lines, in order; and after `Done` after all.
-pub record SurvivesWork {D : Type 0} (may_leave : D → Files → Type 0) (moment : D → ℕ) (left_since : D → ℕ → Files → Type 0) (address : List ℕ → List ℕ)
-    (store : DocStore) (lines : List (List ℕ)) (old new : D) (status : Status) : Type 0 where
+-- What a crash leaves of the disk of generated work: at each moment the store after some of its
+-- lines, in order; and after `Done` after all.
+pub record SurvivesWork {D : Type 0} (may_leave : D → Files → Type 0) (moment : D → ℕ)
+    (left_since : D → ℕ → Files → Type 0) (address : List ℕ → List ℕ) (store : DocStore)
+    (lines : List (List ℕ)) (old new : D) (status : Status) : Type 0 where
   pub any_moment : LeavesOnly moment left_since old new (HoldsAfterSome address store lines)
-  pub complete : status ≡ Done → (c : Files) → may_leave new c → ReadsAsStore document address (store_after address store lines) c
+  pub complete : status ≡ Done → (c : Files) → may_leave new c
+      → ReadsAsStore document address (store_after address store lines) c

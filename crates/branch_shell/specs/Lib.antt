@@ -7,6 +7,7 @@ pub mod Telling
 pub mod Generated
 pub mod Together
 pub mod Statuses
+pub mod Ran
 pub mod Alone
 pub mod Refusals
 pub mod StatusNumbers

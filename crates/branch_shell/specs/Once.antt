@@ -24,10 +24,14 @@ WroteOnce success refusal LineTooLong text = ⊥
 WroteOnce success refusal InputTooLong text = ⊥
 
 -- some text was given, which a command may write that answers no line
-abbrev pub Answers : (List ℕ → Type 0) → (List ℕ → Type 0) → Status → Option (List ℕ) → Option (List ℕ) → Type 0
-Answers success refusal status given_old given_new = (text : List ℕ) × Appends given_old given_new text × WroteOnce success refusal status text
+abbrev pub Answers : (List ℕ → Type 0) → (List ℕ → Type 0) → Status → Option (List ℕ)
+    → Option (List ℕ) → Type 0
+Answers success refusal status given_old given_new = (text : List ℕ)
+    × Appends given_old given_new text × WroteOnce success refusal status text
 
--- the text was given and the run ends with this status; or a first part of it was, and the sink failed
+-- the text was given and the run ends with this status; or a first part of it was, and the sink
+-- failed
 abbrev pub Says : List ℕ → Status → Status → Option (List ℕ) → Option (List ℕ) → ℕ → ℕ → Type 0
 Says text status result given_old given_new before now =
-    ((result ≡ status) × Appends given_old given_new text × (now ≡ before)) ⊎ ((result ≡ WriteFault) × GivesPart given_old given_new text × Rose before now)
+    ((result ≡ status) × Appends given_old given_new text × (now ≡ before))
+    ⊎ ((result ≡ WriteFault) × GivesPart given_old given_new text × Rose before now)

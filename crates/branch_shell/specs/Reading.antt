@@ -32,9 +32,11 @@ pub record AreFirstLines (input : List ℕ) (lines : List (List ℕ)) : Type 0 w
   pub lines_are : lines ≡ lines_of whole
   pub short : AreShort lines
 
--- the lines were read: whole ones at the front of the input or, where the source is at its end, all of it
+-- the lines were read: whole ones at the front of the input or, where the source is at its end, all
+-- of it
 abbrev pub WereRead : Option (List ℕ) → List ℕ → List (List ℕ) → Type 0
-WereRead left input lines = AreFirstLines input lines ⊎ (IsAtEnd left × (lines ≡ lines_of input) × AreShort lines)
+WereRead left input lines = AreFirstLines input lines
+    ⊎ (IsAtEnd left × (lines ≡ lines_of input) × AreShort lines)
 
 abbrev pub IsFirstPart : List ℕ → List ℕ → Type 0
 IsFirstPart part text = (rest : List ℕ) × (text ≡ part ++ rest)
@@ -47,6 +49,8 @@ pub record GivesPart (old new : Option (List ℕ)) (text : List ℕ) : Type 0 wh
   pub given : Appends old new part
 
 -- some input was taken from the source and some text given to the sink, of which this is true
-abbrev pub Exchanges : Option (List ℕ) → Option (List ℕ) → Option (List ℕ) → Option (List ℕ) → (List ℕ → List ℕ → Type 0) → Type 0
+abbrev pub Exchanges : Option (List ℕ) → Option (List ℕ) → Option (List ℕ) → Option (List ℕ)
+    → (List ℕ → List ℕ → Type 0) → Type 0
 Exchanges left_old left_new given_old given_new P =
-    (input : List ℕ) × (text : List ℕ) × Consumes left_old left_new input × Appends given_old given_new text × P input text
+    (input : List ℕ) × (text : List ℕ) × Consumes left_old left_new input
+    × Appends given_old given_new text × P input text

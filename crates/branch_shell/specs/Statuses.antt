@@ -18,53 +18,71 @@ use Rattle.branch_shell.specs.Generated.{SaysWork}
 use Rattle.branch_shell.specs.Together.{SaysTogether}
 
 -- the text is that of the input's whole lines, behind which this is left
-pub record TellsWholeLines (address : List ℕ → List ℕ) (store : DocStore) (input text rest : List ℕ) : Type 0 where
+pub record TellsWholeLines (address : List ℕ → List ℕ) (store : DocStore) (input text rest : List ℕ)
+    : Type 0 where
   pub whole : List ℕ
   pub cut : IsCut input whole rest
   pub text_is : text ≡ script_text address store (lines_of whole)
 
 -- the text is a first part of that of lines that were read
-pub record TellsPart (address : List ℕ → List ℕ) (store : DocStore) (left : Option (List ℕ)) (input text : List ℕ) : Type 0 where
+pub record TellsPart (address : List ℕ → List ℕ) (store : DocStore) (left : Option (List ℕ))
+    (input text : List ℕ) : Type 0 where
   pub lines : List (List ℕ)
   pub read : WereRead left input lines
   pub part : IsFirstPart text (script_text address store lines)
 
 -- the text is that of the lines before one that was read
-pub record TellsBefore (address : List ℕ → List ℕ) (store : DocStore) (left : Option (List ℕ)) (input text : List ℕ) : Type 0 where
+pub record TellsBefore (address : List ℕ → List ℕ) (store : DocStore) (left : Option (List ℕ))
+    (input text : List ℕ) : Type 0 where
   pub before : List (List ℕ)
   pub line : List ℕ
   pub read : WereRead left input (before ++ line ∷ [])
   pub text_is : text ≡ script_text address store before
 
 -- what a script wrote of the input that it read over a store, with what is left of the source
-abbrev pub WroteOver : (List ℕ → List ℕ) → DocStore → Option (List ℕ) → Status → List ℕ → List ℕ → Type 0
-WroteOver address store left Done input text = IsAtEnd left × (length input < 2 ^ 32) × AreShort (lines_of input) × (text ≡ script_text address store (lines_of input))
+abbrev pub WroteOver : (List ℕ → List ℕ) → DocStore → Option (List ℕ) → Status → List ℕ → List ℕ
+    → Type 0
+WroteOver address store left Done input text = IsAtEnd left × (length input < 2 ^ 32)
+    × AreShort (lines_of input) × (text ≡ script_text address store (lines_of input))
 WroteOver address store left Usage input text = ⊥
 WroteOver address store left StoreRefused input text = ⊥
 WroteOver address store left DiskFault input text = TellsBefore address store left input text
-WroteOver address store left ReadFault input text = (length input < 2 ^ 32) × (rest : List ℕ) × (length rest < 4096) × TellsWholeLines address store input text rest
+WroteOver address store left ReadFault input text = (length input < 2 ^ 32) × (rest : List ℕ)
+    × (length rest < 4096) × TellsWholeLines address store input text rest
 WroteOver address store left WriteFault input text = TellsPart address store left input text
-WroteOver address store left LineTooLong input text = (rest : List ℕ) × (length rest ≡ 4096) × TellsWholeLines address store input text rest
-WroteOver address store left InputTooLong input text = (length input ≡ 2 ^ 32) × (rest : List ℕ) × (length rest < 4096) × TellsWholeLines address store input text rest
+WroteOver address store left LineTooLong input text = (rest : List ℕ) × (length rest ≡ 4096)
+    × TellsWholeLines address store input text rest
+WroteOver address store left InputTooLong input text = (length input ≡ 2 ^ 32) × (rest : List ℕ)
+    × (length rest < 4096) × TellsWholeLines address store input text rest
 WroteOver address store left Memory input text = TellsPart address store left input text
 
--- a script: before a line is read it is refused, or it fails to open the store; else it runs over the store that opening found
-abbrev pub ScriptWrote : (List ℕ → List ℕ) → Option Files → Option (List ℕ) → Status → List ℕ → List ℕ → Type 0
+-- a script: before a line is read it is refused, or it fails to open the store; else it runs over
+-- the store that opening found
+abbrev pub ScriptWrote : (List ℕ → List ℕ) → Option Files → Option (List ℕ) → Status → List ℕ
+    → List ℕ → Type 0
 ScriptWrote address told left status input text =
     ((input ≡ []) × WroteOnce (λ whole. ⊥) (SaysRefused document address told) status text)
-    ⊎ ((store : DocStore) × IsOpenedAs document address told store × (length input ≤ 2 ^ 32) × WroteOver address store left status input text)
+    ⊎ ((store : DocStore) × IsOpenedAs document address told store × (length input ≤ 2 ^ 32)
+    × WroteOver address store left status input text)
 
--- What a command wrote of the input that it read, by the status that it ended with. The text of help is left open.
-abbrev pub Wrote : (List ℕ → List ℕ) → Said → Option Files → Option (List ℕ) → Status → List ℕ → List ℕ → Type 0
-Wrote address (Init numbers) told left status input text = (input ≡ []) × WroteOnce (SaysReady told) (SaysNotEmpty told) status text
+-- What a command wrote of the input that it read, by the status that it ended with. The text of
+-- help is left open.
+abbrev pub Wrote : (List ℕ → List ℕ) → Said → Option Files → Option (List ℕ) → Status → List ℕ
+    → List ℕ → Type 0
+Wrote address (Init numbers) told left status input text = (input ≡ [])
+    × WroteOnce (SaysReady told) (SaysNotEmpty told) status text
 Wrote address Script told left status input text = ScriptWrote address told left status input text
-Wrote address Check told left status input text = (input ≡ []) × WroteOnce (SaysReport document address told) (SaysRefused document address told) status text
-Wrote address (Generate work) told left status input text = (input ≡ []) × WroteOnce (SaysWork address told work) (SaysRefused document address told) status text
-Wrote address (Clients clients) told left status input text = (input ≡ []) × WroteOnce (SaysTogether address told clients) (SaysRefused document address told) status text
+Wrote address Check told left status input text = (input ≡ [])
+    × WroteOnce (SaysReport document address told) (SaysRefused document address told) status text
+Wrote address (Generate work) told left status input text = (input ≡ [])
+    × WroteOnce (SaysWork address told work) (SaysRefused document address told) status text
+Wrote address (Clients clients) told left status input text = (input ≡ [])
+    × WroteOnce (SaysTogether address told clients) (SaysRefused document address told) status text
 Wrote address Help told left status input text = input ≡ []
 
 -- at the start the disk tells files that read as the store, and so does each image
-pub record Holds {D : Type 0} (contents : D → Option Files) (may_leave : D → Files → Type 0) (address : List ℕ → List ℕ) (disk : D) (store : DocStore) : Type 0 where
+pub record Holds {D : Type 0} (contents : D → Option Files) (may_leave : D → Files → Type 0)
+    (address : List ℕ → List ℕ) (disk : D) (store : DocStore) : Type 0 where
   pub files : Files
   pub told : contents disk ≡ Some files
   pub reads : ReadsAsStore document address store files
@@ -72,7 +90,8 @@ pub record Holds {D : Type 0} (contents : D → Option Files) (may_leave : D →
 
 -- the files read as the store after some of the lines that were read
 abbrev pub HoldsSome : (List ℕ → List ℕ) → DocStore → Option (List ℕ) → List ℕ → Files → Type 0
-HoldsSome address store left input c = (lines : List (List ℕ)) × WereRead left input lines × ReadsAfterSome (fixed_of address store) (begins store.history) lines [] c
+HoldsSome address store left input c = (lines : List (List ℕ)) × WereRead left input lines
+    × ReadsAfterSome (fixed_of address store) (begins store.history) lines [] c
 
 -- all of the lines but the last
 abbrev pub but_last : List (List ℕ) → List (List ℕ)
@@ -80,23 +99,30 @@ but_last [] = []
 but_last (line ∷ []) = []
 but_last (line ∷ next ∷ lines) = line ∷ but_last (next ∷ lines)
 
--- the files read as the store after the lines that were answered, or after one line more, of whose reply not all was given
-abbrev pub HoldsAnswered : (List ℕ → List ℕ) → DocStore → Option (List ℕ) → List ℕ → List ℕ → Files → Type 0
+-- the files read as the store after the lines that were answered, or after one line more, of whose
+-- reply not all was given
+abbrev pub HoldsAnswered : (List ℕ → List ℕ) → DocStore → Option (List ℕ) → List ℕ → List ℕ → Files
+    → Type 0
 HoldsAnswered address store left input text c =
-    (lines : List (List ℕ)) × WereRead left input lines × ReadsAfterSome (fixed_of address store) (begins store.history) lines text c
+    (lines : List (List ℕ)) × WereRead left input lines
+    × ReadsAfterSome (fixed_of address store) (begins store.history) lines text c
     × IsFirstPart (script_text address store (but_last lines)) text
 
--- What a crash leaves of a script's disk: at each moment the store after some of the lines that were read; at the end after the lines
--- that were answered, or one more; and after `Done` after all.
-pub record Survives {D : Type 0} (may_leave : D → Files → Type 0) (moment : D → ℕ) (left_since : D → ℕ → Files → Type 0) (address : List ℕ → List ℕ)
-    (store : DocStore) (old new : D) (left : Option (List ℕ)) (status : Status) (input text : List ℕ) : Type 0 where
+-- What a crash leaves of a script's disk: at each moment the store after some of the lines that
+-- were read; at the end after the lines that were answered, or one more; and after `Done` after
+-- all.
+pub record Survives {D : Type 0} (may_leave : D → Files → Type 0) (moment : D → ℕ)
+    (left_since : D → ℕ → Files → Type 0) (address : List ℕ → List ℕ) (store : DocStore)
+    (old new : D) (left : Option (List ℕ)) (status : Status) (input text : List ℕ) : Type 0 where
   pub any_moment : LeavesOnly moment left_since old new (HoldsSome address store left input)
   pub answered : (c : Files) → may_leave new c → HoldsAnswered address store left input text c
-  pub complete : status ≡ Done → (c : Files) → may_leave new c → ReadsAsStore document address (store_after address store (lines_of input)) c
+  pub complete : status ≡ Done → (c : Files) → may_leave new c
+      → ReadsAsStore document address (store_after address store (lines_of input)) c
 
 -- what a script did over a store: what it wrote of the input, and what a crash leaves
-pub record Runs {D : Type 0} (may_leave : D → Files → Type 0) (moment : D → ℕ) (left_since : D → ℕ → Files → Type 0) (address : List ℕ → List ℕ)
-    (store : DocStore) (old new : D) (left : Option (List ℕ)) (status : Status) (input text : List ℕ) : Type 0 where
+pub record Runs {D : Type 0} (may_leave : D → Files → Type 0) (moment : D → ℕ)
+    (left_since : D → ℕ → Files → Type 0) (address : List ℕ → List ℕ) (store : DocStore)
+    (old new : D) (left : Option (List ℕ)) (status : Status) (input text : List ℕ) : Type 0 where
   pub wrote : WroteOver address store left status input text
   pub size : length input ≤ 2 ^ 32
   pub survives : Survives may_leave moment left_since address store old new left status input text

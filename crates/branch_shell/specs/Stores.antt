@@ -19,17 +19,22 @@ pub record Stored (O R : Type 0) : Type 0 where
   pub history : List (Move O R)
 
 -- the files read as the store
-abbrev pub ReadsAsStore : {S O R Q A : Type 0} → Meaning S O R Q A → (List ℕ → List ℕ) → Stored O R → Files → Type 0
-ReadsAsStore meaning address store files = ReadsAs meaning address files (Opens store.limits store.history)
+abbrev pub ReadsAsStore : {S O R Q A : Type 0} → Meaning S O R Q A → (List ℕ → List ℕ) → Stored O R
+    → Files → Type 0
+ReadsAsStore meaning address store files = ReadsAs meaning address files
+    (Opens store.limits store.history)
 
--- The store that opening found: its history is valid and, of a disk that tells, the files read as the store and as nothing else.
-pub record IsOpenedAs {S O R Q A : Type 0} (meaning : Meaning S O R Q A) (address : List ℕ → List ℕ) (told : Option Files) (store : Stored O R) : Type 0 where
+-- The store that opening found: its history is valid and, of a disk that tells, the files read as
+-- the store and as nothing else.
+pub record IsOpenedAs {S O R Q A : Type 0} (meaning : Meaning S O R Q A) (address : List ℕ → List ℕ)
+    (told : Option Files) (store : Stored O R) : Type 0 where
   pub valid : IsFullyValid (fix meaning store.limits address) store.history
   pub reads : ForSome told (ReadsAsStore meaning address store)
   pub only : ForSome told (ReadsOnlyAs meaning address (Opens store.limits store.history))
 
 -- Why opening was refused: of a disk that tells, the files read as this answer, and as no store.
-pub record IsRefusedAs {S O R Q A : Type 0} (meaning : Meaning S O R Q A) (address : List ℕ → List ℕ) (told : Option Files) (answer : Answer O R) : Type 0 where
+pub record IsRefusedAs {S O R Q A : Type 0} (meaning : Meaning S O R Q A)
+    (address : List ℕ → List ℕ) (told : Option Files) (answer : Answer O R) : Type 0 where
   pub reads : ForSome told (λ files. ReadsAs meaning address files answer)
   pub no_store : ForSome told (ReadsAsNone meaning address)
 
@@ -42,12 +47,16 @@ IsRefusalText (BadObject place) text = text ≡ bad_object_text place
 IsRefusalText (BadCommit number) text = text ≡ bad_commit_text number
 IsRefusalText (Truncated part place) text = text ≡ truncated_text part place
 
-abbrev pub SaysRefused : {S O R Q A : Type 0} → Meaning S O R Q A → (List ℕ → List ℕ) → Option Files → List ℕ → Type 0
-SaysRefused {S} {O} {R} meaning address told text = (answer : Answer O R) × IsRefusedAs meaning address told answer × IsRefusalText answer text
+abbrev pub SaysRefused : {S O R Q A : Type 0} → Meaning S O R Q A → (List ℕ → List ℕ) → Option Files
+    → List ℕ → Type 0
+SaysRefused {S} {O} {R} meaning address told text = (answer : Answer O R)
+    × IsRefusedAs meaning address told answer × IsRefusalText answer text
 
 -- the report of the store that opening found
-abbrev pub SaysReport : {S O R Q A : Type 0} → Meaning S O R Q A → (List ℕ → List ℕ) → Option Files → List ℕ → Type 0
-SaysReport {S} {O} {R} meaning address told text = (store : Stored O R) × IsOpenedAs meaning address told store × (text ≡ report_text store.history)
+abbrev pub SaysReport : {S O R Q A : Type 0} → Meaning S O R Q A → (List ℕ → List ℕ) → Option Files
+    → List ℕ → Type 0
+SaysReport {S} {O} {R} meaning address told text = (store : Stored O R)
+    × IsOpenedAs meaning address told store × (text ≡ report_text store.history)
 
 abbrev pub SaysReady : Option Files → List ℕ → Type 0
 SaysReady told text = ForSome told IsEmpty × (text ≡ ready_text)
@@ -56,9 +65,13 @@ abbrev pub SaysNotEmpty : Option Files → List ℕ → Type 0
 SaysNotEmpty told text = ForSome told (λ files. ¬ IsEmpty files) × (text ≡ not_empty_text)
 
 -- the files read as a store of no moves, of whose limits this is true
-abbrev pub ReadsAsEmpty : {S O R Q A : Type 0} → Meaning S O R Q A → (List ℕ → List ℕ) → (Limits → Type 0) → Files → Type 0
-ReadsAsEmpty meaning address P files = (limits : Limits) × P limits × ReadsAs meaning address files (Opens limits [])
+abbrev pub ReadsAsEmpty : {S O R Q A : Type 0} → Meaning S O R Q A → (List ℕ → List ℕ)
+    → (Limits → Type 0) → Files → Type 0
+ReadsAsEmpty meaning address P files = (limits : Limits) × P limits
+    × ReadsAs meaning address files (Opens limits [])
 
 -- a crash left no store, or one of no moves
-abbrev pub ReadsAsNoneOrEmpty : {S O R Q A : Type 0} → Meaning S O R Q A → (List ℕ → List ℕ) → (Limits → Type 0) → Files → Type 0
-ReadsAsNoneOrEmpty meaning address P files = ReadsAs meaning address files NotAStore ⊎ ReadsAsEmpty meaning address P files
+abbrev pub ReadsAsNoneOrEmpty : {S O R Q A : Type 0} → Meaning S O R Q A → (List ℕ → List ℕ)
+    → (Limits → Type 0) → Files → Type 0
+ReadsAsNoneOrEmpty meaning address P files = ReadsAs meaning address files NotAStore
+    ⊎ ReadsAsEmpty meaning address P files

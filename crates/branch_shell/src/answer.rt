@@ -31,7 +31,8 @@ use store_core::{Core, InitRefused, OpenRefused};
 // The status of a run whose sink is to hand on what it holds back.
 fn finish<K: Sink>(sink: &mut K, status: Status) -> Status
     ensures kept { Keeps (K.given sink.old) (K.given sink.new) }
-    ensures status { ((result ≡ status) × (K.faults sink.new ≡ K.faults sink.old)) ⊎ ((result ≡ Status.WriteFault) × Rose (K.faults sink.old) (K.faults sink.new)) }
+    ensures status { ((result ≡ status) × (K.faults sink.new ≡ K.faults sink.old))
+        ⊎ ((result ≡ Status.WriteFault) × Rose (K.faults sink.old) (K.faults sink.new)) }
 {
     match sink.finish() {
         Ok(()) => status,
@@ -41,7 +42,8 @@ fn finish<K: Sink>(sink: &mut K, status: Status) -> Status
 
 /// Gives a text, and ends with this status.
 pub(crate) fn say<K: Sink>(sink: &mut K, text: &[u8], status: Status) -> Status
-    ensures { Says text.now status result (K.given sink.old) (K.given sink.new) (K.faults sink.old) (K.faults sink.new) }
+    ensures { Says text.now status result (K.given sink.old) (K.given sink.new) (K.faults sink.old)
+        (K.faults sink.new) }
 {
     match give_all(sink, text) {
         Ok(()) => finish(sink, status),
@@ -51,9 +53,11 @@ pub(crate) fn say<K: Sink>(sink: &mut K, text: &[u8], status: Status) -> Status
 
 // Writes why the files are refused.
 fn put_refusal(out: &mut Vec<u8>, refusal: OpenRefused) -> Result<(), Status>
-    ensures ok { OnOk result (IfSome (open_refusal_text refusal) (λ text. out.new.items ≡ out.old.items ++ text)) }
+    ensures ok { OnOk result (IfSome (open_refusal_text refusal) (λ text. out.new.items
+        ≡ out.old.items ++ text)) }
     ensures files { OnOk result (IsSome (open_refusal_text refusal)) }
-    ensures err { IfErr result (λ status. (status ≡ Status.Memory) ⊎ ((status ≡ Status.DiskFault) × (refusal ≡ OpenRefused.DiskFault))) }
+    ensures err { IfErr result (λ status. (status ≡ Status.Memory)
+        ⊎ ((status ≡ Status.DiskFault) × (refusal ≡ OpenRefused.DiskFault))) }
     ensures fault { refusal ≡ OpenRefused.DiskFault → result ≡ Err Status.DiskFault }
 {
     match refusal {
@@ -69,7 +73,8 @@ fn put_refusal(out: &mut Vec<u8>, refusal: OpenRefused) -> Result<(), Status>
 
 // Says why a store was not opened.
 pub(crate) fn refuse<K: Sink>(alloc: Global, sink: &mut K, refusal: OpenRefused) -> Status
-    ensures wrote { Answers (λ whole. ⊥) (λ whole. open_refusal_text refusal ≡ Some whole) result (K.given sink.old) (K.given sink.new) }
+    ensures wrote { Answers (λ whole. ⊥) (λ whole. open_refusal_text refusal ≡ Some whole) result
+        (K.given sink.old) (K.given sink.new) }
     ensures files { result ≡ Status.StoreRefused → IsSome (open_refusal_text refusal) }
     ensures fault { (result ≡ Status.DiskFault) ↔ (refusal ≡ OpenRefused.DiskFault) }
     ensures reason { SaysReason (K.faults sink.old) (K.faults sink.new) result }
@@ -101,7 +106,8 @@ fn report<T: Mrdt, K: Sink, D: Disk + Drop, A: Address>(
     sink: &mut K,
     core: &Core<T, D, A>,
 ) -> Status
-    ensures wrote { Answers (λ whole. whole ≡ report_text core.now.history) (λ whole. ⊥) result (K.given sink.old) (K.given sink.new) }
+    ensures wrote { Answers (λ whole. whole ≡ report_text core.now.history) (λ whole. ⊥) result
+        (K.given sink.old) (K.given sink.new) }
     ensures other { result ≡ Status.DiskFault → ⊥ }
     ensures reason { SaysReason (K.faults sink.old) (K.faults sink.new) result }
 {
@@ -118,13 +124,18 @@ pub(crate) fn run_check<T: Mrdt, K: Sink, D: Disk + Drop, A: Address>(
     sink: &mut K,
     disk: D,
 ) -> (Status, D)
-    ensures wrote { Answers (SaysReport T.meaning A.address (D.contents disk)) (SaysRefused T.meaning A.address (D.contents disk)) result.0 (K.given sink.old) (K.given sink.new) }
+    ensures wrote { Answers (SaysReport T.meaning A.address (D.contents disk))
+        (SaysRefused T.meaning A.address (D.contents disk)) result.0 (K.given sink.old)
+        (K.given sink.new) }
     // A crash leaves only what it might have left at the start.
     ensures any_moment { LeavesOnly D.moment D.left_since disk result.1 (D.may_leave disk) }
-    ensures keeps { result.0 ≡ Status.Done → (f : Files) (store : Stored T.Op T.Reply) → D.contents disk ≡ Some f → ReadsAsStore T.meaning A.address store f
-        → (c : Files) → D.may_leave result.1 c → ReadsAsStore T.meaning A.address store c }
-    ensures refused_only { result.0 ≡ Status.StoreRefused → (f : Files) → D.contents disk ≡ Some f → ReadsAsNone T.meaning A.address f }
-    ensures reason { (n : ℕ) → HasReason (record { source = n; sink = K.faults sink.old; disk = D.faults disk })
+    ensures keeps { result.0 ≡ Status.Done → (f : Files) (store : Stored T.Op T.Reply)
+        → D.contents disk ≡ Some f → ReadsAsStore T.meaning A.address store f → (c : Files)
+        → D.may_leave result.1 c → ReadsAsStore T.meaning A.address store c }
+    ensures refused_only { result.0 ≡ Status.StoreRefused → (f : Files) → D.contents disk ≡ Some f
+        → ReadsAsNone T.meaning A.address f }
+    ensures reason { (n : ℕ) → HasReason
+        (record { source = n; sink = K.faults sink.old; disk = D.faults disk })
         (record { source = n; sink = K.faults sink.new; disk = D.faults result.1 }) result.0 }
     // Where the sink failed, the disk did not.
     ensures no_fault { result.0 ≡ Status.WriteFault → D.faults result.1 ≡ D.faults disk }
@@ -143,14 +154,22 @@ pub(crate) fn run_init<T: Mrdt, K: Sink, D: Disk + Drop, A: Address>(
     sink: &mut K,
     disk: D,
 ) -> (Status, D)
-    ensures wrote { Answers (SaysReady (D.contents disk)) (SaysNotEmpty (D.contents disk)) result.0 (K.given sink.old) (K.given sink.new) }
-    // Where each image was empty, a crash leaves no store, or one of no moves; after `Done` that, whatever the images were.
-    ensures any_moment { ((c : Files) → D.may_leave disk c → IsEmpty c) → LeavesOnly D.moment D.left_since disk result.1 (ReadsAsNoneOrEmpty T.meaning A.address (λ (l : SpecLimits). l ≡ limits)) }
-    ensures made { result.0 ≡ Status.Done → (c : Files) → D.may_leave result.1 c → ReadsAsEmpty T.meaning A.address (λ (l : SpecLimits). l ≡ limits) c }
+    ensures wrote { Answers (SaysReady (D.contents disk)) (SaysNotEmpty (D.contents disk)) result.0
+        (K.given sink.old) (K.given sink.new) }
+    // Where each image was empty, a crash leaves no store, or one of no moves; after `Done` that, whatever the images
+    // were.
+    ensures any_moment { ((c : Files) → D.may_leave disk c → IsEmpty c)
+        → LeavesOnly D.moment D.left_since disk result.1
+        (ReadsAsNoneOrEmpty T.meaning A.address (λ (l : SpecLimits). l ≡ limits)) }
+    ensures made { result.0 ≡ Status.Done → (c : Files) → D.may_leave result.1 c
+        → ReadsAsEmpty T.meaning A.address (λ (l : SpecLimits). l ≡ limits) c }
     // Where there are bytes, a crash leaves only what it might have left at the start.
-    ensures refused { result.0 ≡ Status.StoreRefused → LeavesOnly D.moment D.left_since disk result.1 (D.may_leave disk) }
-    ensures kept { (f : Files) → D.contents disk ≡ Some f → ¬ IsEmpty f → LeavesOnly D.moment D.left_since disk result.1 (D.may_leave disk) }
-    ensures reason { (n : ℕ) → HasReason (record { source = n; sink = K.faults sink.old; disk = D.faults disk })
+    ensures refused { result.0 ≡ Status.StoreRefused
+        → LeavesOnly D.moment D.left_since disk result.1 (D.may_leave disk) }
+    ensures kept { (f : Files) → D.contents disk ≡ Some f → ¬ IsEmpty f
+        → LeavesOnly D.moment D.left_since disk result.1 (D.may_leave disk) }
+    ensures reason { (n : ℕ) → HasReason
+        (record { source = n; sink = K.faults sink.old; disk = D.faults disk })
         (record { source = n; sink = K.faults sink.new; disk = D.faults result.1 }) result.0 }
     // Where the sink failed, the disk did not.
     ensures no_fault { result.0 ≡ Status.WriteFault → D.faults result.1 ≡ D.faults disk }

@@ -1,21 +1,17 @@
 // Generated work: the lines that are drawn from a number are told, and their replies counted.
+ghost use Rattle.std.specs.declared.option.Option.{Option};
 ghost use Rattle.std.specs.Prelude.{◌≡◌, ◌<◌, ◌≤◌, ◌+◌, ◌-◌, ◌^◌, ◌++◌, ◌∷◌, [], ℕ, List, Some, None, false, length, OnOk, IfOk, IfErr};
-ghost use Rattle.branch_disk.specs.Disk.{Files, LeavesOnly};
-ghost use Rattle.branch_doc.specs.Document.{document};
 ghost use Rattle.branch_script.specs.Lines.{lines_of};
 ghost use Rattle.branch_print.specs.Texts.{line_end};
 ghost use Rattle.branch_print.specs.Reports.{report_text};
 ghost use Rattle.branch_print.specs.Summaries.{AreWithin, summary_of, summary_text};
-ghost use Rattle.store_core.specs.Opens.{ReadsAsNone};
-ghost use Rattle.branch_command.specs.Work.{Work};
-ghost use Rattle.branch_shell.specs.Reading.{IsWholeLines};
+ghost use Rattle.branch_command.specs.Commands.{Generate as SaidGenerate};
+ghost use Rattle.branch_shell.specs.Reading.{IsWholeLines, Exchanges};
 ghost use Rattle.branch_shell.specs.Counts.{HasReason, SaysReason, StopsCounting};
 ghost use Rattle.branch_shell.specs.Once.{Answers};
-ghost use Rattle.branch_shell.specs.Stores.{ReadsAsStore, SaysRefused};
-ghost use Rattle.branch_shell.specs.Documents.{DocStore, store_after};
 ghost use Rattle.branch_shell.specs.Telling.{TellsLines, CountsLines, LeavesSome};
-ghost use Rattle.branch_shell.specs.Generated.{drawn_lines, work_text, SaysWork, HoldsAfterSome, SurvivesWork};
-ghost use Rattle.branch_shell.specs.Statuses.{Holds};
+ghost use Rattle.branch_shell.specs.Generated.{drawn_lines, work_text, SurvivesWork};
+ghost use Rattle.branch_shell.specs.Ran.{Ran};
 
 use crate::answer::{put_report, refuse, say};
 use crate::script::first_line;
@@ -41,14 +37,19 @@ fn count_line<D: Disk + Drop, A: Address>(
     requires working { engine.old.core.failed ≡ false }
     requires few { summary.old.lines < 2 ^ 64 - 1 }
     requires within { AreWithin summary.old }
-    ensures told { OnOk result (TellsLines D.may_leave D.moment D.left_since A.address (line.now ∷ []) engine.old engine.new None None) }
-    ensures counted { OnOk result (CountsLines D.may_leave A.address (line.now ∷ []) engine.old summary.old summary.new) }
+    ensures told { OnOk result (TellsLines D.may_leave D.moment D.left_since A.address (line.now
+        ∷ []) engine.old engine.new None None) }
+    ensures counted { OnOk result (CountsLines D.may_leave A.address (line.now ∷ []) engine.old
+        summary.old summary.new) }
     ensures one { OnOk result (summary.new.lines ≤ summary.old.lines + 1) }
     ensures within { OnOk result (AreWithin summary.new) }
-    ensures moments { LeavesSome D.may_leave D.moment D.left_since A.address (line.now ∷ []) engine.old engine.new }
+    ensures moments { LeavesSome D.may_leave D.moment D.left_since A.address (line.now ∷ [])
+        engine.old engine.new }
     ensures working { OnOk result (engine.new.core.failed ≡ false) }
-    ensures disk_same { OnOk result (D.faults engine.new.core.disk ≡ D.faults engine.old.core.disk) }
-    ensures cause { IfErr result (StopsCounting (D.faults engine.old.core.disk) (D.faults engine.new.core.disk)) }
+    ensures disk_same { OnOk result (D.faults engine.new.core.disk
+        ≡ D.faults engine.old.core.disk) }
+    ensures cause { IfErr result (StopsCounting (D.faults engine.old.core.disk)
+        (D.faults engine.new.core.disk)) }
 {
     reply.clear();
     match engine.tell(reply, line) {
@@ -70,11 +71,16 @@ fn count_lines<D: Disk + Drop, A: Address>(
 ) -> Result<Summary, Status>
     requires working { engine.old.core.failed ≡ false }
     requires ended { IsWholeLines text.now }
-    ensures told { OnOk result (TellsLines D.may_leave D.moment D.left_since A.address (lines_of text.now) engine.old engine.new None None) }
-    ensures counted { IfOk result (CountsLines D.may_leave A.address (lines_of text.now) engine.old (summary_of [])) }
-    ensures moments { LeavesSome D.may_leave D.moment D.left_since A.address (lines_of text.now) engine.old engine.new }
-    ensures disk_same { OnOk result (D.faults engine.new.core.disk ≡ D.faults engine.old.core.disk) }
-    ensures cause { IfErr result (StopsCounting (D.faults engine.old.core.disk) (D.faults engine.new.core.disk)) }
+    ensures told { OnOk result (TellsLines D.may_leave D.moment D.left_since A.address
+        (lines_of text.now) engine.old engine.new None None) }
+    ensures counted { IfOk result (CountsLines D.may_leave A.address (lines_of text.now) engine.old
+        (summary_of [])) }
+    ensures moments { LeavesSome D.may_leave D.moment D.left_since A.address (lines_of text.now)
+        engine.old engine.new }
+    ensures disk_same { OnOk result (D.faults engine.new.core.disk
+        ≡ D.faults engine.old.core.disk) }
+    ensures cause { IfErr result (StopsCounting (D.faults engine.old.core.disk)
+        (D.faults engine.new.core.disk)) }
 {
     let mut summary = Summary::new();
     let mut reply = Vec::new(alloc);
@@ -94,11 +100,16 @@ fn count_drawn<D: Disk + Drop, A: Address>(
     number: u64,
 ) -> Result<Summary, Status>
     requires { engine.old.core.failed ≡ false }
-    ensures told { OnOk result (TellsLines D.may_leave D.moment D.left_since A.address (drawn_lines (record { steps = steps; number = number })) engine.old engine.new None None) }
-    ensures counted { IfOk result (CountsLines D.may_leave A.address (drawn_lines (record { steps = steps; number = number })) engine.old (summary_of [])) }
-    ensures moments { LeavesSome D.may_leave D.moment D.left_since A.address (drawn_lines (record { steps = steps; number = number })) engine.old engine.new }
-    ensures disk_same { OnOk result (D.faults engine.new.core.disk ≡ D.faults engine.old.core.disk) }
-    ensures cause { IfErr result (StopsCounting (D.faults engine.old.core.disk) (D.faults engine.new.core.disk)) }
+    ensures told { OnOk result (TellsLines D.may_leave D.moment D.left_since A.address
+        (drawn_lines (record { steps = steps; number = number })) engine.old engine.new None None) }
+    ensures counted { IfOk result (CountsLines D.may_leave A.address
+        (drawn_lines (record { steps = steps; number = number })) engine.old (summary_of [])) }
+    ensures moments { LeavesSome D.may_leave D.moment D.left_since A.address
+        (drawn_lines (record { steps = steps; number = number })) engine.old engine.new }
+    ensures disk_same { OnOk result (D.faults engine.new.core.disk
+        ≡ D.faults engine.old.core.disk) }
+    ensures cause { IfErr result (StopsCounting (D.faults engine.old.core.disk)
+        (D.faults engine.new.core.disk)) }
 {
     let text = script_text(alloc, steps, number)?;
     count_lines(alloc, engine, text.as_slice())
@@ -110,7 +121,8 @@ fn put_work<D: Disk + Drop, A: Address>(
     summary: &Summary,
     core: &Core<Doc, D, A>,
 ) -> Result<(), Memory>
-    ensures { OnOk result (out.new.items ≡ out.old.items ++ ((summary_text summary.now ++ line_end) ++ report_text core.now.history)) }
+    ensures { OnOk result (out.new.items ≡ out.old.items
+        ++ ((summary_text summary.now ++ line_end) ++ report_text core.now.history)) }
 {
     put_summary(out, summary)?;
     put_report(out, core)
@@ -123,7 +135,8 @@ fn say_work<K: Sink, D: Disk + Drop, A: Address>(
     summary: &Summary,
     core: &Core<Doc, D, A>,
 ) -> Status
-    ensures wrote { Answers (λ whole. whole ≡ (summary_text summary.now ++ line_end) ++ report_text core.now.history) (λ whole. ⊥) result (K.given sink.old) (K.given sink.new) }
+    ensures wrote { Answers (λ whole. whole ≡ (summary_text summary.now ++ line_end)
+        ++ report_text core.now.history) (λ whole. ⊥) result (K.given sink.old) (K.given sink.new) }
     ensures other { result ≡ Status.DiskFault → ⊥ }
     ensures reason { SaysReason (K.faults sink.old) (K.faults sink.new) result }
 {
@@ -143,11 +156,15 @@ fn work_over<K: Sink, D: Disk + Drop, A: Address>(
     sink: &mut K,
 ) -> (Status, D)
     requires { core.failed ≡ false }
-    ensures wrote { Answers (λ whole. whole ≡ work_text A.address (record { limits = core.limits; history = core.history }) (drawn_lines (record { steps = steps; number = number })))
-        (λ whole. ⊥) result.0 (K.given sink.old) (K.given sink.new) }
-    ensures survives { SurvivesWork D.may_leave D.moment D.left_since A.address (record { limits = core.limits; history = core.history })
+    ensures wrote { Answers (λ whole. whole
+        ≡ work_text A.address (record { limits = core.limits; history = core.history })
+        (drawn_lines (record { steps = steps; number = number }))) (λ whole. ⊥) result.0
+        (K.given sink.old) (K.given sink.new) }
+    ensures survives { SurvivesWork D.may_leave D.moment D.left_since A.address
+        (record { limits = core.limits; history = core.history })
         (drawn_lines (record { steps = steps; number = number })) core.disk result.1 result.0 }
-    ensures reason { (n : ℕ) → HasReason (record { source = n; sink = K.faults sink.old; disk = D.faults core.disk })
+    ensures reason { (n : ℕ) → HasReason
+        (record { source = n; sink = K.faults sink.old; disk = D.faults core.disk })
         (record { source = n; sink = K.faults sink.new; disk = D.faults result.1 }) result.0 }
     // Where the sink failed, the disk did not.
     ensures no_fault { result.0 ≡ Status.WriteFault → D.faults result.1 ≡ D.faults core.disk }
@@ -171,14 +188,12 @@ pub(crate) fn run_generate<K: Sink, D: Disk + Drop, A: Address>(
     sink: &mut K,
     disk: D,
 ) -> (Status, D)
-    ensures wrote { Answers (SaysWork A.address (D.contents disk) (record { steps = steps; number = number })) (SaysRefused document A.address (D.contents disk)) result.0 (K.given sink.old) (K.given sink.new) }
-    ensures crashes { (store : DocStore) → Holds D.contents D.may_leave A.address disk store
-        → SurvivesWork D.may_leave D.moment D.left_since A.address store (drawn_lines (record { steps = steps; number = number })) disk result.1 result.0 }
-    // Where the files are refused, they read as no store, and a crash leaves only what it might have left at the start.
-    ensures refused { result.0 ≡ Status.StoreRefused → LeavesOnly D.moment D.left_since disk result.1 (D.may_leave disk) }
-    ensures refused_only { result.0 ≡ Status.StoreRefused → (f : Files) → D.contents disk ≡ Some f → ReadsAsNone document A.address f }
-    ensures keeps { (f : Files) → D.contents disk ≡ Some f → ReadsAsNone document A.address f → LeavesOnly D.moment D.left_since disk result.1 (D.may_leave disk) }
-    ensures reason { (n : ℕ) → HasReason (record { source = n; sink = K.faults sink.old; disk = D.faults disk })
+    ensures ran { (left : Option (List ℕ))
+        → Exchanges left left (K.given sink.old) (K.given sink.new)
+        (Ran D.Disk A.address (SaidGenerate (record { steps = steps; number = number })) disk
+        result.1 left result.0) }
+    ensures reason { (n : ℕ) → HasReason
+        (record { source = n; sink = K.faults sink.old; disk = D.faults disk })
         (record { source = n; sink = K.faults sink.new; disk = D.faults result.1 }) result.0 }
     // Where the sink failed, the disk did not.
     ensures no_fault { result.0 ≡ Status.WriteFault → D.faults result.1 ≡ D.faults disk }

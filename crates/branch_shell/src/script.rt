@@ -3,17 +3,16 @@ ghost use Rattle.std.specs.Prelude.{◌≡◌, ◌⊎◌, ◌+◌, ◌-◌, ◌<
 ghost use Rattle.std.specs.List.{position_from};
 ghost use Rattle.std.specs.Io.KnownBytes.{Appends, Keeps};
 ghost use Rattle.branch_io.specs.Causes.{HasCause};
-ghost use Rattle.branch_disk.specs.Disk.{Files, LeavesOnly};
-ghost use Rattle.branch_doc.specs.Document.{document};
 ghost use Rattle.branch_script.specs.Lines.{lines_of};
 ghost use Rattle.branch_engine.specs.Play.{begins};
 ghost use Rattle.branch_engine.specs.Engines.{IsAt};
-ghost use Rattle.store_core.specs.Opens.{ReadsAsNone};
 ghost use Rattle.branch_shell.specs.Reading.{HasNoLineEnd, GivesPart, Exchanges};
 ghost use Rattle.branch_shell.specs.Counts.{HasReason, StopsAtFault, StopsTelling};
 ghost use Rattle.branch_shell.specs.Telling.{TellsLines, StopsLines, TellsWhole, StopsWhole, Takes};
 ghost use Rattle.branch_shell.specs.Documents.{DocStore, fixed_of};
-ghost use Rattle.branch_shell.specs.Statuses.{ScriptWrote, Holds, Survives, Runs, status_of};
+ghost use Rattle.branch_command.specs.Commands.{Script as SaidScript};
+ghost use Rattle.branch_shell.specs.Statuses.{Wrote, Runs, status_of};
+ghost use Rattle.branch_shell.specs.Ran.{Ran};
 
 use crate::answer::refuse;
 use crate::status::Status;
@@ -53,12 +52,16 @@ fn tell_line<K: Sink, D: Disk + Drop, A: Address>(
     line: &[u8],
 ) -> Result<(), Status>
     requires { engine.old.core.failed ≡ false }
-    ensures ok { OnOk result (TellsLines D.may_leave D.moment D.left_since A.address (line.now ∷ []) engine.old engine.new (K.given sink.old) (K.given sink.new)) }
-    ensures err { IfErr result (StopsLines D.may_leave D.moment D.left_since A.address (line.now ∷ []) engine.old engine.new (K.given sink.old) (K.given sink.new)) }
+    ensures ok { OnOk result (TellsLines D.may_leave D.moment D.left_since A.address (line.now ∷ [])
+        engine.old engine.new (K.given sink.old) (K.given sink.new)) }
+    ensures err { IfErr result (StopsLines D.may_leave D.moment D.left_since A.address (line.now
+        ∷ []) engine.old engine.new (K.given sink.old) (K.given sink.new)) }
     ensures working { OnOk result (engine.new.core.failed ≡ false) }
     ensures sink_same { OnOk result (K.faults sink.new ≡ K.faults sink.old) }
-    ensures disk_same { OnOk result (D.faults engine.new.core.disk ≡ D.faults engine.old.core.disk) }
-    ensures cause { IfErr result (StopsTelling (K.faults sink.old) (K.faults sink.new) (D.faults engine.old.core.disk) (D.faults engine.new.core.disk)) }
+    ensures disk_same { OnOk result (D.faults engine.new.core.disk
+        ≡ D.faults engine.old.core.disk) }
+    ensures cause { IfErr result (StopsTelling (K.faults sink.old) (K.faults sink.new)
+        (D.faults engine.old.core.disk) (D.faults engine.new.core.disk)) }
 {
     let mut reply = Vec::new(alloc);
     match engine.tell(&mut reply, line) {
@@ -84,7 +87,8 @@ fn line_end(bytes: &[u8]) -> Option<usize>
 pub(crate) fn first_line(bytes: &[u8], known: usize) -> Option<(&[u8], &[u8])>
     requires within { known ≤ length bytes.now }
     requires unended { HasNoLineEnd (take known bytes.now) }
-    ensures some { IfSome result (λ cut. (bytes.now ≡ cut.0.now ++ 10 ∷ cut.1.now) × HasNoLineEnd cut.0.now) }
+    ensures some { IfSome result (λ cut. (bytes.now ≡ cut.0.now ++ 10 ∷ cut.1.now)
+        × HasNoLineEnd cut.0.now) }
     ensures none { IfNone result (HasNoLineEnd bytes.now) }
 {
     match line_end(&bytes[known..]) {
@@ -105,12 +109,16 @@ fn tell_whole_lines<'a, K: Sink, D: Disk + Drop, A: Address>(
     requires few { length bytes.now ≤ 4096 }
     requires within { known ≤ length bytes.now }
     requires unended { HasNoLineEnd (take known bytes.now) }
-    ensures ok { IfOk result (λ rest. TellsWhole D.may_leave D.moment D.left_since A.address bytes.now rest.now engine.old engine.new (K.given sink.old) (K.given sink.new)) }
-    ensures err { IfErr result (StopsWhole D.may_leave D.moment D.left_since A.address bytes.now engine.old engine.new (K.given sink.old) (K.given sink.new)) }
+    ensures ok { IfOk result (λ rest. TellsWhole D.may_leave D.moment D.left_since A.address
+        bytes.now rest.now engine.old engine.new (K.given sink.old) (K.given sink.new)) }
+    ensures err { IfErr result (StopsWhole D.may_leave D.moment D.left_since A.address bytes.now
+        engine.old engine.new (K.given sink.old) (K.given sink.new)) }
     ensures working { OnOk result (engine.new.core.failed ≡ false) }
     ensures sink_same { OnOk result (K.faults sink.new ≡ K.faults sink.old) }
-    ensures disk_same { OnOk result (D.faults engine.new.core.disk ≡ D.faults engine.old.core.disk) }
-    ensures cause { IfErr result (StopsTelling (K.faults sink.old) (K.faults sink.new) (D.faults engine.old.core.disk) (D.faults engine.new.core.disk)) }
+    ensures disk_same { OnOk result (D.faults engine.new.core.disk
+        ≡ D.faults engine.old.core.disk) }
+    ensures cause { IfErr result (StopsTelling (K.faults sink.old) (K.faults sink.new)
+        (D.faults engine.old.core.disk) (D.faults engine.new.core.disk)) }
 {
     let mut rest = bytes;
     let mut scanned = known;
@@ -131,11 +139,15 @@ fn tell_last<K: Sink, D: Disk + Drop, A: Address>(
 ) -> Result<(), Status>
     requires working { engine.old.core.failed ≡ false }
     requires unended { HasNoLineEnd line.now }
-    ensures ok { OnOk result (TellsLines D.may_leave D.moment D.left_since A.address (lines_of line.now) engine.old engine.new (K.given sink.old) (K.given sink.new)) }
-    ensures err { IfErr result (StopsLines D.may_leave D.moment D.left_since A.address (lines_of line.now) engine.old engine.new (K.given sink.old) (K.given sink.new)) }
+    ensures ok { OnOk result (TellsLines D.may_leave D.moment D.left_since A.address
+        (lines_of line.now) engine.old engine.new (K.given sink.old) (K.given sink.new)) }
+    ensures err { IfErr result (StopsLines D.may_leave D.moment D.left_since A.address
+        (lines_of line.now) engine.old engine.new (K.given sink.old) (K.given sink.new)) }
     ensures sink_same { OnOk result (K.faults sink.new ≡ K.faults sink.old) }
-    ensures disk_same { OnOk result (D.faults engine.new.core.disk ≡ D.faults engine.old.core.disk) }
-    ensures cause { IfErr result (StopsTelling (K.faults sink.old) (K.faults sink.new) (D.faults engine.old.core.disk) (D.faults engine.new.core.disk)) }
+    ensures disk_same { OnOk result (D.faults engine.new.core.disk
+        ≡ D.faults engine.old.core.disk) }
+    ensures cause { IfErr result (StopsTelling (K.faults sink.old) (K.faults sink.new)
+        (D.faults engine.old.core.disk) (D.faults engine.new.core.disk)) }
 {
     if line.is_empty() {
         return Ok(());
@@ -152,7 +164,9 @@ fn take_more<S: Source>(
 ) -> Result<usize, SourceFailed>
     requires some { 0 < room }
     requires within { waiting + room ≤ length buffer.old }
-    ensures ok { IfOk result (λ count. (count ≤ room) × Takes (take waiting buffer.old) (take (waiting + count) buffer.new) (S.left source.old) (S.left source.new) count) }
+    ensures ok { IfOk result (λ count. (count ≤ room)
+        × Takes (take waiting buffer.old) (take (waiting + count) buffer.new) (S.left source.old)
+        (S.left source.new) count) }
     ensures err { OnErr result (Keeps (S.left source.old) (S.left source.new)) }
     ensures size { length buffer.new ≡ length buffer.old }
     ensures cause { HasCause (S.faults source.old) (S.faults source.new) result }
@@ -181,11 +195,22 @@ fn tell_all<S: Source, K: Sink, D: Disk + Drop, A: Address>(
     sink: &mut K,
 ) -> Result<(), Status>
     requires { engine.old.core.failed ≡ false }
-    ensures ran { (store : DocStore) → IsAt D.may_leave (fixed_of A.address store) engine.old (begins store.history)
-        → Exchanges (S.left source.old) (S.left source.new) (K.given sink.old) (K.given sink.new)
-        (Runs D.may_leave D.moment D.left_since A.address store engine.old.core.disk engine.new.core.disk (S.left source.new) (status_of result)) }
-    ensures reason { StopsAtFault (record { source = S.faults source.old; sink = K.faults sink.old; disk = D.faults engine.old.core.disk })
-        (record { source = S.faults source.new; sink = K.faults sink.new; disk = D.faults engine.new.core.disk }) (status_of result) }
+    ensures ran { (store : DocStore) → IsAt D.may_leave (fixed_of A.address store) engine.old
+        (begins store.history) → Exchanges (S.left source.old) (S.left source.new)
+        (K.given sink.old) (K.given sink.new)
+        (Runs D.may_leave D.moment D.left_since A.address store engine.old.core.disk
+        engine.new.core.disk (S.left source.new) (status_of result)) }
+    ensures reason { StopsAtFault
+        (record {
+          source = S.faults source.old;
+          sink = K.faults sink.old;
+          disk = D.faults engine.old.core.disk;
+        })
+        (record {
+          source = S.faults source.new;
+          sink = K.faults sink.new;
+          disk = D.faults engine.new.core.disk;
+        }) (status_of result) }
 {
     let mut buffer = [0u8; LINE_LIMIT];
     let mut waiting: usize = 0;
@@ -230,17 +255,34 @@ fn run_opened<S: Source, K: Sink, D: Disk + Drop, A: Address>(
     sink: &mut K,
 ) -> (Status, D)
     requires { core.failed ≡ false }
-    ensures ran { Exchanges (S.left source.old) (S.left source.new) (K.given sink.old) (K.given sink.new)
-        (Runs D.may_leave D.moment D.left_since A.address (record { limits = core.limits; history = core.history }) core.disk result.1 (S.left source.new) result.0) }
-    ensures reason { HasReason (record { source = S.faults source.old; sink = K.faults sink.old; disk = D.faults core.disk })
-        (record { source = S.faults source.new; sink = K.faults sink.new; disk = D.faults result.1 }) result.0 }
+    ensures ran { Exchanges (S.left source.old) (S.left source.new) (K.given sink.old)
+        (K.given sink.new) (Runs D.may_leave D.moment D.left_since A.address
+        (record { limits = core.limits; history = core.history }) core.disk result.1
+        (S.left source.new) result.0) }
+    ensures reason { HasReason
+        (record {
+          source = S.faults source.old;
+          sink = K.faults sink.old;
+          disk = D.faults core.disk;
+        })
+        (record {
+          source = S.faults source.new;
+          sink = K.faults sink.new;
+          disk = D.faults result.1;
+        }) result.0 }
     // Where the sink fails behind a fault, all that such a fault leaves was given.
-    ensures behind_source { result.0 ≡ Status.WriteFault → (S.faults source.new ≡ S.faults source.old)
+    ensures behind_source { result.0 ≡ Status.WriteFault
+        → (S.faults source.new ≡ S.faults source.old)
         ⊎ Exchanges (S.left source.old) (S.left source.new) (K.given sink.old) (K.given sink.new)
-        (Runs D.may_leave D.moment D.left_since A.address (record { limits = core.limits; history = core.history }) core.disk result.1 (S.left source.new) Status.ReadFault) }
-    ensures behind_disk { result.0 ≡ Status.WriteFault → (D.faults result.1 ≡ D.faults core.disk)
+        (Runs D.may_leave D.moment D.left_since A.address
+        (record { limits = core.limits; history = core.history }) core.disk result.1
+        (S.left source.new) Status.ReadFault) }
+    ensures behind_disk { result.0 ≡ Status.WriteFault
+        → (D.faults result.1 ≡ D.faults core.disk)
         ⊎ Exchanges (S.left source.old) (S.left source.new) (K.given sink.old) (K.given sink.new)
-        (Runs D.may_leave D.moment D.left_since A.address (record { limits = core.limits; history = core.history }) core.disk result.1 (S.left source.new) Status.DiskFault) }
+        (Runs D.may_leave D.moment D.left_since A.address
+        (record { limits = core.limits; history = core.history }) core.disk result.1
+        (S.left source.new) Status.DiskFault) }
 {
     let mut engine = Engine::new(alloc, core);
     let outcome = tell_all(alloc, &mut engine, source, sink);
@@ -258,22 +300,25 @@ pub(crate) fn run_script<S: Source, K: Sink, D: Disk + Drop, A: Address>(
     sink: &mut K,
     disk: D,
 ) -> (Status, D)
-    ensures wrote { Exchanges (S.left source.old) (S.left source.new) (K.given sink.old) (K.given sink.new) (ScriptWrote A.address (D.contents disk) (S.left source.new) result.0) }
-    ensures crashes { (store : DocStore) → Holds D.contents D.may_leave A.address disk store
-        → Exchanges (S.left source.old) (S.left source.new) (K.given sink.old) (K.given sink.new)
-        (Survives D.may_leave D.moment D.left_since A.address store disk result.1 (S.left source.new) result.0) }
-    // Where the files are refused, they read as no store, and a crash leaves only what it might have left at the start.
-    ensures refused { result.0 ≡ Status.StoreRefused → LeavesOnly D.moment D.left_since disk result.1 (D.may_leave disk) }
-    ensures refused_only { result.0 ≡ Status.StoreRefused → (f : Files) → D.contents disk ≡ Some f → ReadsAsNone document A.address f }
-    ensures keeps { (f : Files) → D.contents disk ≡ Some f → ReadsAsNone document A.address f → LeavesOnly D.moment D.left_since disk result.1 (D.may_leave disk) }
-    ensures works { result.0 ≡ Status.Usage → ⊥ }
-    ensures reason { HasReason (record { source = S.faults source.old; sink = K.faults sink.old; disk = D.faults disk })
-        (record { source = S.faults source.new; sink = K.faults sink.new; disk = D.faults result.1 }) result.0 }
+    ensures ran { Exchanges (S.left source.old) (S.left source.new) (K.given sink.old)
+        (K.given sink.new) (Ran D.Disk A.address SaidScript disk result.1 (S.left source.new)
+        result.0) }
+    ensures reason { HasReason
+        (record { source = S.faults source.old; sink = K.faults sink.old; disk = D.faults disk })
+        (record {
+          source = S.faults source.new;
+          sink = K.faults sink.new;
+          disk = D.faults result.1;
+        }) result.0 }
     // Where the sink fails behind a fault, all that such a fault leaves was given.
-    ensures behind_source { result.0 ≡ Status.WriteFault → (S.faults source.new ≡ S.faults source.old)
-        ⊎ Exchanges (S.left source.old) (S.left source.new) (K.given sink.old) (K.given sink.new) (ScriptWrote A.address (D.contents disk) (S.left source.new) Status.ReadFault) }
-    ensures behind_disk { result.0 ≡ Status.WriteFault → (D.faults result.1 ≡ D.faults disk)
-        ⊎ Exchanges (S.left source.old) (S.left source.new) (K.given sink.old) (K.given sink.new) (ScriptWrote A.address (D.contents disk) (S.left source.new) Status.DiskFault) }
+    ensures behind_source { result.0 ≡ Status.WriteFault
+        → (S.faults source.new ≡ S.faults source.old)
+        ⊎ Exchanges (S.left source.old) (S.left source.new) (K.given sink.old) (K.given sink.new)
+        (Wrote A.address SaidScript (D.contents disk) (S.left source.new) Status.ReadFault) }
+    ensures behind_disk { result.0 ≡ Status.WriteFault
+        → (D.faults result.1 ≡ D.faults disk)
+        ⊎ Exchanges (S.left source.old) (S.left source.new) (K.given sink.old) (K.given sink.new)
+        (Wrote A.address SaidScript (D.contents disk) (S.left source.new) Status.DiskFault) }
 {
     match Core::<Doc, D, A>::open(alloc, disk) {
         Ok(core) => run_opened(alloc, core, source, sink),

@@ -1,21 +1,11 @@
 // The top call.
-ghost use Rattle.std.specs.Prelude.{◌≡◌, ◌⊎◌, List, ℕ, Some, None, map, IfOk, IfSome, IfNone};
+ghost use Rattle.std.specs.Prelude.{◌≡◌, ◌⊎◌, Some, None, map, IfOk, IfSome, IfNone};
 ghost use Rattle.std.specs.String.{string_bytes};
-ghost use Rattle.std.specs.Io.KnownBytes.{Appends};
-ghost use Rattle.branch_disk.specs.Disk.{Files, LeavesOnly};
-ghost use Rattle.branch_doc.specs.Document.{document};
-ghost use Rattle.store_core.specs.Inits.{IsEmpty};
-ghost use Rattle.store_core.specs.Opens.{ReadsAsNone};
-ghost use Rattle.branch_command.specs.Commands.{Said, Init as SaidInit, Script as SaidScript, Check as SaidCheck, Generate as SaidGenerate, Clients as SaidClients, Help as SaidHelp, command_of};
-ghost use Rattle.branch_command.specs.Numbers.{Numbers, AreLimits};
-ghost use Rattle.branch_command.specs.Work.{Work, Clients};
+ghost use Rattle.branch_command.specs.Commands.{Said, Clients as SaidClients, Help as SaidHelp, command_of};
 ghost use Rattle.branch_shell.specs.Reading.{Exchanges};
 ghost use Rattle.branch_shell.specs.Counts.{HasReason};
-ghost use Rattle.branch_shell.specs.Stores.{ReadsAsStore, ReadsAsEmpty, ReadsAsNoneOrEmpty};
-ghost use Rattle.branch_shell.specs.Documents.{DocStore};
-ghost use Rattle.branch_shell.specs.Generated.{drawn_lines, SurvivesWork};
-ghost use Rattle.branch_shell.specs.Together.{RanTogether, ReadsOn};
-ghost use Rattle.branch_shell.specs.Statuses.{Wrote, Holds, Survives};
+ghost use Rattle.branch_shell.specs.Statuses.{Wrote};
+ghost use Rattle.branch_shell.specs.Ran.{Ran};
 ghost use Rattle.branch_shell.specs.Alone.{command_alone};
 
 use crate::alone::run_alone;
@@ -33,8 +23,15 @@ use std::thread::Threads;
 
 // The clients that the words say, if they say some.
 fn read_clients(alloc: Global, words: &[String]) -> Result<Option<ClientWork>, Memory>
-    ensures some { IfOk result (λ clients. IfSome clients (λ work. command_of (map string_bytes words.now) ≡ Some (SaidClients (record { count = work.count; work = record { steps = work.steps; number = work.number } })))) }
-    ensures none { IfOk result (λ clients. IfNone clients (command_alone (map string_bytes words.now) ≡ command_of (map string_bytes words.now))) }
+    ensures some { IfOk result (λ clients.
+        IfSome clients (λ work. command_of (map string_bytes words.now)
+        ≡ Some (SaidClients (record {
+          count = work.count;
+          work = record { steps = work.steps; number = work.number };
+        })))) }
+    ensures none { IfOk result (λ clients.
+        IfNone clients (command_alone (map string_bytes words.now)
+        ≡ command_of (map string_bytes words.now))) }
 {
     match read_command(alloc, words) {
         Ok(
@@ -67,9 +64,11 @@ fn read_clients(alloc: Global, words: &[String]) -> Result<Option<ClientWork>, M
 /// comes only where the count of faults of that object rose, and no other count rises, but where the sink cannot finish
 /// behind a fault.
 ///
-/// A crash at any moment of a script leaves files that read as the store after some of the lines that were read; at the
-/// end after those that were answered, or one more; and after `Done` after all. A crash at any moment of `generate`
-/// leaves files that read as the store after some of its lines, in order; and after `Done` after all.
+/// A crash at any moment of a script leaves what one might have left before, or files that read as the store after some
+/// of the lines that were read; at the end, where the store was opened, after those that were answered, or one more; and
+/// after `Done` after all. A crash at any moment of `generate` leaves what one might have left before, or files that read
+/// as the store after some of its lines, in order; and after `Done` after all. So a run may follow one that ended with a
+/// fault of the disk: opening makes sure of what reads give then.
 ///
 /// `clients COUNT STEPS NUMBER` starts up to so many threads, and may wait for a lock or for a thread. All clients are
 /// joined before the store is closed, and before anything is written. After `Done` the files read as the store with the
@@ -86,53 +85,33 @@ pub fn run<S: Source, K: Sink, D: Disk + Drop + Send, A: Address + Send, R: Thre
     disk: D,
 ) -> (Status, D)
     ensures usage { result.0 ≡ Status.Usage → command_of (map string_bytes words.now) ≡ None }
-    ensures unsaid { command_of (map string_bytes words.now) ≡ None → ((result.0 ≡ Status.Usage) ⊎ (result.0 ≡ Status.Memory)) × (source.new ≡ source.old) × (sink.new ≡ sink.old) × (result.1 ≡ disk) }
-    ensures help { command_of (map string_bytes words.now) ≡ Some SaidHelp → ((result.0 ≡ Status.Done) ⊎ ((result.0 ≡ Status.WriteFault) ⊎ (result.0 ≡ Status.Memory))) × (source.new ≡ source.old) × (result.1 ≡ disk) }
-    ensures wrote { (command : Said) → command_of (map string_bytes words.now) ≡ Some command
-        → Exchanges (S.left source.old) (S.left source.new) (K.given sink.old) (K.given sink.new) (Wrote A.address command (D.contents disk) (S.left source.new) result.0) }
-
-    // A crash at any moment of a script, and at its end.
-    ensures script_crashes { command_of (map string_bytes words.now) ≡ Some SaidScript → (store : DocStore) → Holds D.contents D.may_leave A.address disk store
+    ensures unsaid { command_of (map string_bytes words.now) ≡ None
+        → ((result.0 ≡ Status.Usage) ⊎ (result.0 ≡ Status.Memory)) × (source.new ≡ source.old)
+        × (sink.new ≡ sink.old) × (result.1 ≡ disk) }
+    ensures help { command_of (map string_bytes words.now) ≡ Some SaidHelp
+        → ((result.0 ≡ Status.Done) ⊎ ((result.0 ≡ Status.WriteFault) ⊎ (result.0 ≡ Status.Memory)))
+        × (source.new ≡ source.old) × (result.1 ≡ disk) }
+    // What was written of the input that was read, and what a crash leaves.
+    ensures ran { (command : Said) → command_of (map string_bytes words.now) ≡ Some command
         → Exchanges (S.left source.old) (S.left source.new) (K.given sink.old) (K.given sink.new)
-        (Survives D.may_leave D.moment D.left_since A.address store disk result.1 (S.left source.new) result.0) }
-    // A crash at any moment of generated work, and at its end.
-    ensures generate_crashes { (work : Work) → command_of (map string_bytes words.now) ≡ Some (SaidGenerate work) → (store : DocStore) → Holds D.contents D.may_leave A.address disk store
-        → SurvivesWork D.may_leave D.moment D.left_since A.address store (drawn_lines work) disk result.1 result.0 }
-    // What clients wrote when they are done, and how the files that are left read then.
-    ensures clients_ran { (clients : Clients) → command_of (map string_bytes words.now) ≡ Some (SaidClients clients) → result.0 ≡ Status.Done
-        → (text : List ℕ) × Appends (K.given sink.old) (K.given sink.new) text × RanTogether D.may_leave A.address (D.contents disk) clients result.1 text }
-    // However clients end, the files that are left read as the store with or without moves behind its history.
-    ensures clients_crashes { (clients : Clients) → command_of (map string_bytes words.now) ≡ Some (SaidClients clients) → (store : DocStore) → Holds D.contents D.may_leave A.address disk store
-        → (c : Files) → D.may_leave result.1 c → ReadsOn A.address store c }
-    // `check`, and what is refused, leave only what a crash might have left at the start.
-    ensures check_crashes { command_of (map string_bytes words.now) ≡ Some SaidCheck → LeavesOnly D.moment D.left_since disk result.1 (D.may_leave disk) }
-    ensures refused_crashes { result.0 ≡ Status.StoreRefused → LeavesOnly D.moment D.left_since disk result.1 (D.may_leave disk) }
-    ensures refused_keeps { (command_of (map string_bytes words.now) ≡ Some SaidScript) ⊎ (((work : Work) × (command_of (map string_bytes words.now) ≡ Some (SaidGenerate work)))
-        ⊎ ((clients : Clients) × (command_of (map string_bytes words.now) ≡ Some (SaidClients clients)))) → (f : Files) → D.contents disk ≡ Some f → ReadsAsNone document A.address f
-        → LeavesOnly D.moment D.left_since disk result.1 (D.may_leave disk) }
-    // Where each image was empty, a crash at any moment of `init` leaves no store, or one of no moves.
-    ensures init_crashes { (numbers : Numbers) → command_of (map string_bytes words.now) ≡ Some (SaidInit numbers) → ((c : Files) → D.may_leave disk c → IsEmpty c)
-        → LeavesOnly D.moment D.left_since disk result.1 (ReadsAsNoneOrEmpty document A.address (AreLimits numbers)) }
-    ensures init_made { (numbers : Numbers) → command_of (map string_bytes words.now) ≡ Some (SaidInit numbers) → result.0 ≡ Status.Done
-        → (c : Files) → D.may_leave result.1 c → ReadsAsEmpty document A.address (AreLimits numbers) c }
-    // Of files with a byte, `init` leaves only what a crash might have left at the start.
-    ensures init_keeps { (numbers : Numbers) → command_of (map string_bytes words.now) ≡ Some (SaidInit numbers) → (f : Files) → D.contents disk ≡ Some f → ¬ IsEmpty f
-        → LeavesOnly D.moment D.left_since disk result.1 (D.may_leave disk) }
-    // After `check` the disk holds the store that it held.
-    ensures check_keeps { command_of (map string_bytes words.now) ≡ Some SaidCheck → result.0 ≡ Status.Done → (f : Files) (store : DocStore) → D.contents disk ≡ Some f
-        → ReadsAsStore document A.address store f → (c : Files) → D.may_leave result.1 c → ReadsAsStore document A.address store c }
-    // What `script`, `check`, `generate` and `clients` refuse reads as no store.
-    ensures refused_only { (command_of (map string_bytes words.now) ≡ Some SaidScript) ⊎ ((command_of (map string_bytes words.now) ≡ Some SaidCheck)
-        ⊎ (((work : Work) × (command_of (map string_bytes words.now) ≡ Some (SaidGenerate work))) ⊎ ((clients : Clients) × (command_of (map string_bytes words.now) ≡ Some (SaidClients clients))))) → result.0 ≡ Status.StoreRefused
-        → (f : Files) → D.contents disk ≡ Some f → ReadsAsNone document A.address f }
-
-    ensures reason { HasReason (record { source = S.faults source.old; sink = K.faults sink.old; disk = D.faults disk })
-        (record { source = S.faults source.new; sink = K.faults sink.new; disk = D.faults result.1 }) result.0 }
+        (Ran D.Disk A.address command disk result.1 (S.left source.new) result.0) }
+    ensures reason { HasReason
+        (record { source = S.faults source.old; sink = K.faults sink.old; disk = D.faults disk })
+        (record {
+          source = S.faults source.new;
+          sink = K.faults sink.new;
+          disk = D.faults result.1;
+        }) result.0 }
     // Where the sink fails behind a fault, all that such a fault leaves was given.
-    ensures behind_source { (command : Said) → command_of (map string_bytes words.now) ≡ Some command → result.0 ≡ Status.WriteFault → (S.faults source.new ≡ S.faults source.old)
-        ⊎ Exchanges (S.left source.old) (S.left source.new) (K.given sink.old) (K.given sink.new) (Wrote A.address command (D.contents disk) (S.left source.new) Status.ReadFault) }
-    ensures behind_disk { (command : Said) → command_of (map string_bytes words.now) ≡ Some command → result.0 ≡ Status.WriteFault → (D.faults result.1 ≡ D.faults disk)
-        ⊎ Exchanges (S.left source.old) (S.left source.new) (K.given sink.old) (K.given sink.new) (Wrote A.address command (D.contents disk) (S.left source.new) Status.DiskFault) }
+    ensures behind_source { (command : Said)
+        → command_of (map string_bytes words.now) ≡ Some command → result.0 ≡ Status.WriteFault
+        → (S.faults source.new ≡ S.faults source.old)
+        ⊎ Exchanges (S.left source.old) (S.left source.new) (K.given sink.old) (K.given sink.new)
+        (Wrote A.address command (D.contents disk) (S.left source.new) Status.ReadFault) }
+    ensures behind_disk { (command : Said) → command_of (map string_bytes words.now) ≡ Some command
+        → result.0 ≡ Status.WriteFault → (D.faults result.1 ≡ D.faults disk)
+        ⊎ Exchanges (S.left source.old) (S.left source.new) (K.given sink.old) (K.given sink.new)
+        (Wrote A.address command (D.contents disk) (S.left source.new) Status.DiskFault) }
 {
     match read_clients(alloc, words) {
         Ok(Some(work)) => run_together::<K, D, A, R>(rt, alloc, work, sink, disk),

@@ -1,5 +1,5 @@
 -- A client of drawn steps names no branch that is not there, and each session of its has looked.
-use Rattle.std.proofs.Common.{zero, suc, ◌≡◌, ℕ, ◌+◌, ◌-◌, ◌%◌, ◌^◌, ◌<◌, ◌≤◌, ⊎_elim, List, [], ◌∷◌, ◌++◌, length, codes, refl, ap, sym, subst, ◌∙◌, Option, Some, None, arith, append-nil, length-append}
+use Rattle.std.proofs.Common.{zero, suc, ◌≡◌, ℕ, ◌+◌, ◌-◌, ◌%◌, ◌^◌, ◌<◌, ◌≤◌, ◌⊎◌, ⊎_elim, List, [], ◌∷◌, ◌++◌, length, codes, refl, ap, sym, subst, ◌∙◌, Option, Some, None, arith, append-nil, length-append}
 use Rattle.std.specs.Prelude.{slice_get, take}
 use mathlib.Core.List.{IsPrefix}
 use Rattle.mrdt_model.specs.Laws.{Meaning}
@@ -28,7 +28,7 @@ use Rattle.parallel_clients.specs.declared.outcome.ClientRefusal.{ClientRefusal}
 use Rattle.parallel_clients.specs.declared.outcome.ClientRefusal.TheVariants as refusal
 use Rattle.parallel_clients.specs.declared.outcome.Outcome.{Outcome}
 use Rattle.parallel_clients.specs.declared.outcome.Outcome.TheVariants.{Done, Refused, Unseen}
-use Rattle.parallel_clients.specs.Played.{Sights, no_sights, with_sight, sights_after, WasHead, IsForked, IsTaken, TakesOne, IfSees, PlayedFrom, Played}
+use Rattle.parallel_clients.specs.Played.{Sights, no_sights, with_sight, sights_after, WasHead, HasBranch, IsForked, TakesOne, IfSees, PlayedFrom, Played}
 use Rattle.parallel_clients.specs.Outcomes.{Setting, RefusesStep, StepRefused, SeesNone, ComesTo}
 use Rattle.client_runs.specs.Worked.{MayRefuse, MayComeTo}
 use Rattle.client_runs.proofs.Drawn.{IsSession, IsOfBoth, IsDrawn, steps-drawn, steps-see}
@@ -80,21 +80,21 @@ module _ {O R : Type 0} where
       (subst (λ (t : Store O R). length s.branches < length t.branches) (sym forked) (omega (arith, length-append s.branches (b ∷ []))))
       (ap (λ (t : Store O R). name_of t.branches (length s.branches)) forked ∙ name_of-new s.branches b)
 
-  taken-there : (before moves : List (Move O R)) (new : List ℕ) → IsPrefix before moves → IsTaken new before → IsThere moves new
-  taken-there before moves new begins is =
-      stays-there before moves new is.0 begins (branch_named-there (store_of before).branches new is.0 is.1) (name_of-branch_named (store_of before).branches new is.0 is.1)
+  named-there : (before moves : List (Move O R)) (name : List ℕ) → IsPrefix before moves → HasBranch name before → IsThere moves name
+  named-there before moves name begins is =
+      stays-there before moves name is.0 begins (branch_named-there (store_of before).branches name is.0 is.1) (name_of-branch_named (store_of before).branches name is.0 is.1)
 
   one-there : (moves : List (Move O R)) (new from : List ℕ) (Rest : ℕ → List ℕ → Type 0) (last : ℕ) (places : List ℕ) → TakesOne (IsForked moves new from) Rest last places → IsThere moves new
   one-there moves new from Rest last [] is = absurd is
   one-there moves new from Rest last (place ∷ places) is = forked-there moves new from place is.1
 
   -- a branch that was to be forked is there
-  played-there : (op_of : PlainOp → O) (moves : List (Move O R)) (new from : List ℕ) (steps : List Step) (places : List ℕ) → Played op_of (Fork new from ∷ steps) places moves → IsThere moves new
+  played-there : (op_of : PlainOp → O) (moves : List (Move O R)) (begun : ℕ) (new from : List ℕ) (steps : List Step) (places : List ℕ) → Played op_of begun (Fork new from ∷ steps) places moves → IsThere moves new
   unfolding Played
-  played-there op_of moves new from steps places is =
+  played-there op_of moves begun new from steps places is =
       ⊎_elim
-      (λ one. one-there moves new from (PlayedFrom op_of moves steps no_sights) 0 places one)
-      (λ none. taken-there none.0.before moves new none.0.begins none.0.here)
+      (λ one. one-there moves new from (PlayedFrom op_of moves steps no_sights) begun places one)
+      (λ none. named-there none.before moves new none.begins none.here.0)
       is
 
   both-there : (moves : List (Move O R)) (branch name : List ℕ) → IsThere moves branch → IsOfBoth branch name → IsThere moves name
@@ -112,22 +112,22 @@ module _ {O R : Type 0} where
   drawn-knows moves branch (Ask from query) there is = absurd is
 
   -- a client knows each branch that its step names, where the history has what the steps before it made
-  pub client-knows : (op_of : PlainOp → O) (moves : List (Move O R)) (client steps number k : ℕ) (s : Step) (places : List ℕ)
-      → slice_get (client_steps client steps number) k ≡ Some s → Played op_of (take k (client_steps client steps number)) places moves → Knows moves s
+  pub client-knows : (op_of : PlainOp → O) (moves : List (Move O R)) (begun client steps number k : ℕ) (s : Step) (places : List ℕ)
+      → slice_get (client_steps client steps number) k ≡ Some s → Played op_of begun (take k (client_steps client steps number)) places moves → Knows moves s
   unfolding client_steps
-  client-knows op_of moves client steps number zero s places is played =
+  client-knows op_of moves begun client steps number zero s places is played =
       let same : Fork (client_branch client) (codes "main") ≡ s = cc in subst (Knows moves) same (main-there moves)
-  client-knows op_of moves client steps number (suc zero) s places is played =
+  client-knows op_of moves begun client steps number (suc zero) s places is played =
       let same : Look own (client_branch client) ≡ s = cc in
-      subst (Knows moves) same (played-there op_of moves (client_branch client) (codes "main") [] places played)
-  client-knows op_of moves client steps number (suc (suc zero)) s places is played =
+      subst (Knows moves) same (played-there op_of moves begun (client_branch client) (codes "main") [] places played)
+  client-knows op_of moves begun client steps number (suc (suc zero)) s places is played =
       let same : Look top (codes "main") ≡ s = cc in subst (Knows moves) same (main-there moves)
-  client-knows op_of moves client steps number (suc (suc (suc k))) s places is played =
+  client-knows op_of moves begun client steps number (suc (suc (suc k))) s places is played =
       let x : ℕ = (number + client) % 2 ^ 64 in
       let branch : List ℕ = client_branch client in
       let rest : List Step = take k (drawn_steps branch steps x) in
       drawn-knows moves branch s
-      (played-there op_of moves branch (codes "main") (Look own branch ∷ Look top (codes "main") ∷ rest) places played)
+      (played-there op_of moves begun branch (codes "main") (Look own branch ∷ Look top (codes "main") ∷ rest) places played)
       (steps-drawn branch steps x k s is)
 
 -- what each session sees behind the first three steps
@@ -180,12 +180,13 @@ module _ {S O R Q A : Type 0} (on : Setting S O R Q A) (moves : List (Move O R))
       (λ branch does. says-full (machine.Land does.0 does.1 (on.op_of op)) why (says-land on.fixed moves within (λ name. ⊥) does.0 does.1 (on.op_of op) why) does.3)
       is
   knows-says sights (Merge session from) why knows is =
-      ⊎_elim
+      says-seen (sights session)
+      (λ branch. FullyRefuses on.fixed moves (machine.Look from) why
+      ⊎ ((number head source commit : ℕ) × WasHead moves branch number head × WasHead moves from source commit × FullyRefuses on.fixed moves (machine.Merge number head commit) why)) why
+      (λ branch does. ⊎_elim
       (λ look. says-full (machine.Look from) why (says-look on.fixed moves within (λ name. ⊥) from why knows) look)
-      (λ merge. says-seen (sights session)
-      (λ branch. (number head source commit : ℕ) × WasHead moves branch number head × WasHead moves from source commit × FullyRefuses on.fixed moves (machine.Merge number head commit) why) why
-      (λ branch does. says-full (machine.Merge does.0 does.1 does.3) why (says-merge on.fixed moves within (λ name. ⊥) does.0 does.1 does.3 why) does.6)
-      merge)
+      (λ merge. says-full (machine.Merge merge.0 merge.1 merge.3) why (says-merge on.fixed moves within (λ name. ⊥) merge.0 merge.1 merge.3 why) merge.6)
+      does)
       is
 
   -- and what a longer history says
@@ -238,7 +239,7 @@ module _ {S O R Q A : Type 0} (on : Setting S O R Q A) (old new : List (Move O R
   may-come faults client steps number (Done places) is = tt
   may-come faults client steps number (Refused k r places) is =
       says-may on is.before (within is.before is.begins) new is.begins (within new ([], append-nil new)) r faults (sights_after (take k (client_steps client steps number)) no_sights) is.step
-      (client-knows on.op_of is.before client steps number k is.step places is.is_step is.played)
+      (client-knows on.op_of is.before (length old) client steps number k is.step places is.is_step is.played)
       is.refused
   may-come faults client steps number (Unseen k places) is = client-sees client steps number k is.step is.is_step is.unseen
 

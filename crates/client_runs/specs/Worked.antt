@@ -14,8 +14,8 @@ use Rattle.parallel_clients.specs.declared.outcome.Outcome.TheVariants.{Done, Re
 use Rattle.parallel_clients.specs.Clients.{count_places}
 use Rattle.parallel_clients.specs.Outcomes.{Setting, IsOutcome}
 
--- each script has its outcome, in their order, where a history grew from an old one to a new one, and the disk has had so many faults since it was opened; all new
--- moves are the clients'
+-- each script has its outcome, in their order, where a history grew from an old one to a new one, and the disk has had so many faults since it was opened; as many
+-- moves are new as the outcomes have places
 pub record HaveRun {S O R Q A : Type 0} (on : Setting S O R Q A) (old new : List (Move O R)) (faults : ℕ) (scripts : List (List Step)) (outcomes : List Outcome) : Type 0 where
   pub each : AllZip (IsOutcome on old new faults) scripts outcomes
   pub counted : length new ≡ length old + count_places outcomes
@@ -45,7 +45,7 @@ pub record HasWorked {S O R Q A : Type 0} (on : Setting S O R Q A) (old new : Li
   pub is : IsOutcome on old new faults steps outcome
   pub may : MayComeTo on.fixed new outcome
 
--- so many clients have one outcome each, in their order, and all new moves are theirs
+-- so many clients have one outcome each, in their order, and as many moves are new as the outcomes have places
 pub record HaveWorked {S O R Q A : Type 0} (on : Setting S O R Q A) (old new : List (Move O R)) (faults count steps number : ℕ) (outcomes : List Outcome) : Type 0 where
   pub clients : length outcomes ≡ count
   pub each : (client : ℕ) (outcome : Outcome) → slice_get outcomes client ≡ Some outcome → HasWorked on old new faults (client_steps client steps number) outcome

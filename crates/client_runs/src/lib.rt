@@ -7,8 +7,6 @@
 mod run;
 mod scripts;
 mod share;
-#[cfg(test)]
-mod tests;
 
 pub use run::{Work, run_on};
 pub use share::Finished;

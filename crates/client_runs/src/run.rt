@@ -34,10 +34,12 @@ pub struct Work {
 
 /// Clients do the drawn steps of a number on a core, each in a thread of its own as far as threads are to be had.
 ///
-/// Each client has one outcome, by the history that the core comes back with: what it played, or which step was refused,
-/// and why. None is refused for a branch that is not there, and each of its sessions has looked. All moves behind the
-/// old history are the clients'. A client tells that the disk failed only where it has, since the core was opened.
-/// Where memory is short before the first client begins, that is the answer, and no move is made.
+/// Each client has one outcome, by the history that the core comes back with: what it played behind the old history, or
+/// which step was refused, and why. None is refused for a branch that is not there, and each of its sessions has looked.
+/// As many moves lie behind the old history as the clients have places in all; that no two of them have one in common is
+/// in no clause. A client tells that the disk failed only where it has, since the core was opened. Where memory is short
+/// before the first client begins, that is the answer, and no move is made. That clients work in threads of their own is
+/// how the code goes, and in no clause.
 pub fn run_on<
     T: Plain + Send + Sync,
     D: Disk + Drop + Send,

@@ -29,8 +29,8 @@ pub struct Finished<T: Mrdt, D: Disk + Drop, A: Address> {
     pub outcomes: Result<Listing<Outcome>, Memory>,
 }
 
-/// Runs the scripts over the store, and closes it when all are done: its last pass holds all parts then, so all that
-/// landed is the clients'.
+/// Runs the scripts over the store, and closes it when all are done: its last pass holds all parts then, so it counted
+/// each move that landed.
 pub(crate) fn share<
     T: Plain + Send + Sync,
     D: Disk + Drop + Send,

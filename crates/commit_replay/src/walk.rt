@@ -33,6 +33,8 @@ const FOLDS: u32 = 4096;
 ///
 /// Each move is made anew: an operation is read from its commit's object, and its reply, the value, their spellings
 /// and the addresses are those that the machine makes. What the bytes say of them is only compared.
+///
+/// The numbers of the records must have room in their bytes, as those of records that `heads_journal::read_all` has read.
 pub fn replay<T: Mrdt, A: Address>(
     alloc: Global,
     limits: Limits,

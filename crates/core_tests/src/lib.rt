@@ -1,9 +1,6 @@
-//! Tests of a store on a disk in memory: its sizes and its device calls, what crashes leave of it, calls that fail, and
-//! files that are damaged.
+//! Tests of a store on a disk: its sizes and its device calls, what crashes leave of it, and calls that fail.
 #![tactic(auto)]
 
-#[cfg(test)]
-mod damaged;
 #[cfg(test)]
 mod files;
 #[cfg(test)]

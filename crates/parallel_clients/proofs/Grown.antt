@@ -1,5 +1,5 @@
 -- What a client has played stays where a history grows.
-use Rattle.std.proofs.Common.{ℕ, ◌-◌, ◌<◌, ◌≤◌, ◌⊎◌, inl, inr, ⊎_elim, List, [], ◌∷◌, length, subst, ◌∙◌, Option, Some, None, arith}
+use Rattle.std.proofs.Common.{ℕ, ◌-◌, ◌<◌, ◌≤◌, ◌⊎◌, inl, inr, ⊎_elim, List, [], ◌∷◌, length, subst, ◌∙◌, arith}
 use Rattle.std.specs.Prelude.{take}
 use Rattle.std.proofs.lemmas.Option.{slice_get_within}
 use mathlib.Core.List.{IsPrefix}
@@ -14,9 +14,9 @@ use Rattle.parallel_clients.specs.declared.outcome.ClientRefusal.{ClientRefusal}
 use Rattle.parallel_clients.specs.declared.outcome.ClientRefusal.TheVariants.{UnknownBranch, Exhausted, FullCommits, FullBranches, FullMoves, ValueTooLarge, Collision, DiskFault, Failed, Memory}
 use Rattle.parallel_clients.specs.declared.outcome.Outcome.{Outcome}
 use Rattle.parallel_clients.specs.declared.outcome.Outcome.TheVariants.{Done, Refused, Unseen}
-use Rattle.parallel_clients.specs.Played.{Sights, no_sights, with_sight, sights_after, IsMoveAt, IsDone, IsForked, IsMerged, IsTaken, IsReached, HoldsBetween, TakesOne, IfSees, PlayedFrom, Played}
+use Rattle.parallel_clients.specs.Played.{Sights, no_sights, with_sight, sights_after, IsMoveAt, HasBranch, IsDone, IsForked, IsMerged, IsTaken, IsReached, TakesOne, TakesNone, PlayedFrom, Played}
 use Rattle.parallel_clients.specs.Outcomes.{Setting, HasFailed, StepRefused, ComesTo, StaysOutcome}
-use Rattle.parallel_clients.proofs.Went.{named-later, head-later}
+use Rattle.parallel_clients.proofs.Went.{named-later, head-later, sees-more}
 
 module _ {O R : Type 0} (op_of : PlainOp → O) (moves later : List (Move O R)) (grows : IsPrefix moves later) where
   move-later : (place : ℕ) (made : Move O R) → IsMoveAt moves place made → IsMoveAt later place made
@@ -40,45 +40,56 @@ module _ {O R : Type 0} (op_of : PlainOp → O) (moves later : List (Move O R)) 
     made = ⊎_elim (λ m. inl (move-later place (move.Merge is.number is.commit) m)) (λ m. inr (move-later place (move.Forward is.number is.commit) m)) is.made;
   }
 
-  between-later : (last : ℕ) (places : List ℕ) (Holds : List (Move O R) → Type 0) → HoldsBetween moves last places Holds → HoldsBetween later last places Holds
-  between-later last places Holds is = record { before = is.before; begins = prefix_trans is.before moves later is.begins grows; holds_last = is.holds_last; not_next = is.not_next; here = is.here }
+  none-later : (Holds : List (Move O R) → Type 0) (Rest Rest' : ℕ → List ℕ → Type 0) → ((place : ℕ) (places : List ℕ) → Rest place places → Rest' place places)
+      → (last : ℕ) (places : List ℕ) → TakesNone moves Holds Rest last places → TakesNone later Holds Rest' last places
+  none-later Holds Rest Rest' rest last places is = record {
+    before = is.before;
+    begins = prefix_trans is.before moves later is.begins grows;
+    behind = is.behind;
+    here = is.here;
+    rest = rest (length is.before) places is.rest;
+  }
 
   takes-later : (Is Is' : ℕ → Type 0) (Rest Rest' : ℕ → List ℕ → Type 0) → ((place : ℕ) → Is place → Is' place) → ((place : ℕ) (places : List ℕ) → Rest place places → Rest' place places)
       → (last : ℕ) (places : List ℕ) → TakesOne Is Rest last places → TakesOne Is' Rest' last places
   takes-later Is Is' Rest Rest' one rest last [] is = is
   takes-later Is Is' Rest Rest' one rest last (place ∷ places) is = (is.0, one place is.1, rest place places is.2)
 
-  sees-later : (Does Does' : List ℕ → Type 0) → ((branch : List ℕ) → Does branch → Does' branch) → (sight : Option (List ℕ)) → IfSees sight Does → IfSees sight Does'
-  sees-later Does Does' does None is = is
-  sees-later Does Does' does (Some branch) is = does branch is
-
   pub played_from-later : (steps : List Step) (sights : Sights) (last : ℕ) (places : List ℕ) → PlayedFrom op_of moves steps sights last places → PlayedFrom op_of later steps sights last places
   played_from-later [] sights last places is = is
-  played_from-later (Look session branch ∷ steps) sights last places is = played_from-later steps (with_sight sights session branch) last places is
-  played_from-later (Ask branch query ∷ steps) sights last places is = played_from-later steps sights last places is
+  played_from-later (Look session branch ∷ steps) sights last places is =
+      let seen = with_sight sights session branch in
+      none-later (HasBranch branch) (PlayedFrom op_of moves steps seen) (PlayedFrom op_of later steps seen) (played_from-later steps seen) last places is
+  played_from-later (Ask branch query ∷ steps) sights last places is =
+      none-later (HasBranch branch) (PlayedFrom op_of moves steps sights) (PlayedFrom op_of later steps sights) (played_from-later steps sights) last places is
   played_from-later (Do session op ∷ steps) sights last places is =
-      sees-later (λ branch. TakesOne (IsDone moves branch (op_of op)) (PlayedFrom op_of moves steps sights) last places)
-      (λ branch. TakesOne (IsDone later branch (op_of op)) (PlayedFrom op_of later steps sights) last places)
-      (λ branch. takes-later (IsDone moves branch (op_of op)) (IsDone later branch (op_of op)) (PlayedFrom op_of moves steps sights) (PlayedFrom op_of later steps sights) (done-later branch (op_of op)) (played_from-later steps sights) last places)
+      let Rest = PlayedFrom op_of moves steps sights in
+      let Rest' = PlayedFrom op_of later steps sights in
+      sees-more (λ branch. TakesOne (IsDone moves branch (op_of op)) Rest last places) (λ branch. TakesOne (IsDone later branch (op_of op)) Rest' last places)
+      (λ branch. takes-later (IsDone moves branch (op_of op)) (IsDone later branch (op_of op)) Rest Rest' (done-later branch (op_of op)) (played_from-later steps sights) last places)
       (sights session) is
   played_from-later (Fork new from ∷ steps) sights last places is =
+      let Rest = PlayedFrom op_of moves steps sights in
+      let Rest' = PlayedFrom op_of later steps sights in
       ⊎_elim
-      (λ one. inl (takes-later (IsForked moves new from) (IsForked later new from) (PlayedFrom op_of moves steps sights) (PlayedFrom op_of later steps sights) (forked-later new from) (played_from-later steps sights) last places one))
-      (λ none. inr (between-later last places (IsTaken new) none.0, played_from-later steps sights last places none.1))
+      (λ one. inl (takes-later (IsForked moves new from) (IsForked later new from) Rest Rest' (forked-later new from) (played_from-later steps sights) last places one))
+      (λ none. inr (none-later (IsTaken new from) Rest Rest' (played_from-later steps sights) last places none))
       is
   played_from-later (Merge session from ∷ steps) sights last places is =
-      sees-later
-      (λ branch. TakesOne (IsMerged moves branch from) (PlayedFrom op_of moves steps sights) last places ⊎ (HoldsBetween moves last places (IsReached branch from) × PlayedFrom op_of moves steps sights last places))
-      (λ branch. TakesOne (IsMerged later branch from) (PlayedFrom op_of later steps sights) last places ⊎ (HoldsBetween later last places (IsReached branch from) × PlayedFrom op_of later steps sights last places))
+      let Rest = PlayedFrom op_of moves steps sights in
+      let Rest' = PlayedFrom op_of later steps sights in
+      sees-more
+      (λ branch. TakesOne (IsMerged moves branch from) Rest last places ⊎ TakesNone moves (IsReached branch from) Rest last places)
+      (λ branch. TakesOne (IsMerged later branch from) Rest' last places ⊎ TakesNone later (IsReached branch from) Rest' last places)
       (λ branch both. ⊎_elim
-      (λ one. inl (takes-later (IsMerged moves branch from) (IsMerged later branch from) (PlayedFrom op_of moves steps sights) (PlayedFrom op_of later steps sights) (merged-later branch from) (played_from-later steps sights) last places one))
-      (λ none. inr (between-later last places (IsReached branch from) none.0, played_from-later steps sights last places none.1))
+      (λ one. inl (takes-later (IsMerged moves branch from) (IsMerged later branch from) Rest Rest' (merged-later branch from) (played_from-later steps sights) last places one))
+      (λ none. inr (none-later (IsReached branch from) Rest Rest' (played_from-later steps sights) last places none))
       both)
       (sights session) is
 
-  pub played-later : (steps : List Step) (places : List ℕ) → Played op_of steps places moves → Played op_of steps places later
+  pub played-later : (begun : ℕ) (steps : List Step) (places : List ℕ) → Played op_of begun steps places moves → Played op_of begun steps places later
   unfolding Played
-  played-later steps places is = played_from-later steps no_sights 0 places is
+  played-later begun steps places is = played_from-later steps no_sights begun places is
 
 -- a disk that has failed has failed when more faults are known
 pub failed-later : {S O R Q A : Type 0} (on : Setting S O R Q A) (few many : ℕ) → few ≤ many → HasFailed on few → HasFailed on many
@@ -100,7 +111,7 @@ module _ {S O R Q A : Type 0} (on : Setting S O R Q A) (moves : List (Move O R))
 -- what became of a client
 pub comes-later : {S O R Q A : Type 0} (on : Setting S O R Q A) (old new later : List (Move O R)) (few many : ℕ) (steps : List Step) (outcome : Outcome) → IsPrefix new later → few ≤ many
     → ComesTo on old new few steps outcome → ComesTo on old later many steps outcome
-comes-later on old new later few many steps (Done places) grows le is = played-later on.op_of new later grows steps places is
+comes-later on old new later few many steps (Done places) grows le is = played-later on.op_of new later grows (length old) steps places is
 comes-later on old new later few many steps (Refused number refusal places) grows le is = record {
   step = is.step;
   is_step = is.is_step;
@@ -113,7 +124,7 @@ comes-later on old new later few many steps (Refused number refusal places) grow
 comes-later on old new later few many steps (Unseen number places) grows le is = record {
   step = is.step;
   is_step = is.is_step;
-  played = played-later on.op_of new later grows (take number steps) places is.played;
+  played = played-later on.op_of new later grows (length old) (take number steps) places is.played;
   unseen = is.unseen;
 }
 

@@ -51,6 +51,22 @@ stayed-earlier {M} old mid new places after seen stayed = record {
   noted = stayed.noted;
 }
 
+-- a merge is refused of a session that sees a branch
+sees-refused : {S O R Q A : Type 0} (on : Setting S O R Q A) (moves : List (Move O R)) (sights : Sights) (session from branch : List ℕ) → sights session ≡ Some branch → (why : machine.Refusal)
+    → FullyRefuses on.fixed moves (machine.Look from) why
+    ⊎ ((number head source commit : ℕ) × WasHead moves branch number head × WasHead moves from source commit × FullyRefuses on.fixed moves (machine.Merge number head commit) why)
+    → RefusesStep on moves sights (Merge session from) why
+sees-refused on moves sights session from branch sees why =
+    subst (λ o. IfSees o (λ b. FullyRefuses on.fixed moves (machine.Look from) why
+    ⊎ ((number head source commit : ℕ) × WasHead moves b number head × WasHead moves from source commit × FullyRefuses on.fixed moves (machine.Merge number head commit) why))) (sym sees)
+
+-- a merge of a head of no branch
+pub merge-unknown : {S O R Q A : Type 0} (on : Setting S O R Q A) (moves : List (Move O R)) (sights : Sights) (session from branch : List ℕ) → sights session ≡ Some branch
+    → turn on.fixed.meaning on.fixed.limits moves (machine.Look from) ≡ answers (machine.Refused (machine.UnknownBranch from)) → RefusesStep on moves sights (Merge session from) (machine.UnknownBranch from)
+merge-unknown on moves sights session from branch sees none =
+    let why : machine.Refusal = machine.UnknownBranch from in
+    sees-refused on moves sights session from branch sees why (inl (full-answers on.fixed moves (machine.Look from) (machine.Refused why) none))
+
 module _ {S O R Q A : Type 0} (on : Setting S O R Q A) (old mid : PassView (Move O R)) (grows : IsPrefix old.moves mid.moves) (seen : IsSeenOn old mid)
     (s : Session (SeenView (Move O R))) (is : IsSession on.fixed.limits old.moves s) (sights : Sights) (session from : List ℕ) (sees : sights session ≡ Some s.branch)
     (pair : PairView (Move O R)) (paired : IsPaired on.fixed.meaning (record { history = mid.moves; limits = on.fixed.limits }) s.seen from pair) where
@@ -83,8 +99,8 @@ module _ {S O R Q A : Type 0} (on : Setting S O R Q A) (old mid : PassView (Move
   pub merge-refused : (moves : List (Move O R)) → IsPrefix mid.moves moves → (why : machine.Refusal) → FullyRefuses on.fixed moves (machine.Merge s.seen.branch s.seen.head pair.other) why
       → RefusesStep on moves sights (Merge session from) why
   merge-refused moves later why no_turn =
-      inr (subst (λ o. IfSees o (λ branch. (number head source commit : ℕ) × WasHead moves branch number head × WasHead moves from source commit × FullyRefuses on.fixed moves (machine.Merge number head commit) why)) (sym sees)
-      (s.seen.branch, s.seen.head, paired.source, pair.other, session-head on.fixed.limits moves s (session-later on.fixed.limits mid.moves moves s later here), head-later mid.moves moves later from paired.source pair.other other-head, no_turn))
+      sees-refused on moves sights session from s.branch sees why
+      (inr (s.seen.branch, s.seen.head, paired.source, pair.other, session-head on.fixed.limits moves s (session-later on.fixed.limits mid.moves moves s later here), head-later mid.moves moves later from paired.source pair.other other-head, no_turn))
 
   pub merge-unprepared : (why : machine.Refusal) → MergesAs on.fixed.meaning pair (machine.Refused why) → RefusesStep on mid.moves sights (Merge session from) why
   merge-unprepared why merges =

@@ -48,7 +48,7 @@ module _ {O R : Type 0} (op_of : PlainOp → O) (limits : Limits) where
 
   module _ (done : List Step) (old new : PassView (Move O R)) (sessions : Sessions (Move O R)) (places : List ℕ) (playing : IsPlaying op_of limits done old new sessions places) where
     -- what was played, at any longer history
-    playing-played : (later : List (Move O R)) → IsPrefix new.moves later → Played op_of done places later
+    playing-played : (later : List (Move O R)) → IsPrefix new.moves later → Played op_of (length old.moves) done places later
     playing-played later grows = plays-played op_of done (record { moves = old.moves; sights = no_sights; places = [] }) (stage_of new sessions places) later playing.plays refl refl grows
 
     playing-past : ArePast (length old.moves) places
@@ -63,7 +63,7 @@ module _ {S O R Q A : Type 0} (on : Setting S O R Q A) (steps : List Step) (old 
   }
 
   module _ (number : ℕ) (step : Step) (is_step : slice_get steps number ≡ Some step) (playing : IsPlaying on.op_of on.fixed.limits (take number steps) old mid sessions places) where
-    played-at : (later : List (Move O R)) → IsPrefix mid.moves later → Played on.op_of (take number steps) places later
+    played-at : (later : List (Move O R)) → IsPrefix mid.moves later → Played on.op_of (length old.moves) (take number steps) places later
     played-at later grows = playing-played on.op_of on.fixed.limits (take number steps) old mid sessions places playing later grows
 
     past-at : ArePast (length old.moves) places
@@ -80,7 +80,7 @@ module _ {S O R Q A : Type 0} (on : Setting S O R Q A) (steps : List Step) (old 
             before = new.moves;
             begun = prefix_trans old.moves mid.moves new.moves playing.plays.grown advances.seen;
             begins = prefix_self new.moves;
-            played = subst (λ ps. Played on.op_of (take number steps) ps new.moves) (sym same) (played-at new.moves advances.seen);
+            played = subst (λ ps. Played on.op_of (length old.moves) (take number steps) ps new.moves) (sym same) (played-at new.moves advances.seen);
             refused = subst (λ (sights : Sights). StepRefused on new.moves new.faults sights step refusal) playing.plays.sights stops.why;
           };
           past = subst (ArePast (length old.moves)) (sym same) past-at;
@@ -91,7 +91,7 @@ module _ {S O R Q A : Type 0} (on : Setting S O R Q A) (steps : List Step) (old 
           comes = record {
             step = step;
             is_step = is_step;
-            played = subst (λ ps. Played on.op_of (take number steps) ps new.moves) (sym same) (played-at new.moves advances.seen);
+            played = subst (λ ps. Played on.op_of (length old.moves) (take number steps) ps new.moves) (sym same) (played-at new.moves advances.seen);
             unseen = subst (λ (sights : Sights). SeesNone sights step) playing.plays.sights stops.why;
           };
           past = subst (ArePast (length old.moves)) (sym same) past-at;

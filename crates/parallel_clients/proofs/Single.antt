@@ -9,9 +9,9 @@ use Rattle.branch_doc.specs.declared.plain.PlainQuery.{PlainQuery}
 use Rattle.branch_script.specs.declared.step.Step.{Step}
 use Rattle.branch_script.specs.declared.step.Step.TheVariants.{Look, Fork, Merge, Do, Ask}
 use Rattle.branch_shared.specs.Passes.{PassView}
-use Rattle.parallel_clients.specs.Played.{with_sight, sights_after, IsMoveAt, WasNamed, IsDone, IsForked, IsMerged, IsTaken, IsReached, IsBelowFirst, HoldsBetween, TakesOne, IfSees, PlayedFrom}
+use Rattle.parallel_clients.specs.Played.{with_sight, sights_after, IsMoveAt, WasNamed, HasBranch, IsDone, IsForked, IsMerged, IsTaken, IsReached, TakesOne, TakesNone, IfSees, PlayedFrom}
 use Rattle.parallel_clients.specs.Sessions.{Stage, PlaysOn, HasMoved, HasDone, HasMerged}
-use Rattle.parallel_clients.proofs.Went.{named-later, head-later, move-last, below-less, plays-still, plays-move}
+use Rattle.parallel_clients.proofs.Went.{named-later, head-later, move-last, played-earlier, plays-still, plays-move}
 
 module _ {O R : Type 0} (op_of : PlainOp → O) (old new : Stage (Move O R)) (mid after : PassView (Move O R)) (from_old : IsPrefix old.moves mid.moves) (to_new : IsPrefix after.moves new.moves) (places noted : List ℕ) (had : old.places ≡ places) (has : new.places ≡ noted) where
   -- a move that landed has its place behind what had been seen, and stands there in any longer history
@@ -42,12 +42,12 @@ module _ {O R : Type 0} (op_of : PlainOp → O) (old new : Stage (Move O R)) (mi
         subst (λ n. IsMoveAt later n made) (sym (ap length moved.last)) (move-last moved.before later made all)
 
     pub plays-made : (step : Step) → new.sights ≡ sights_after (step ∷ []) old.sights
-        → ((last : ℕ) (later : List (Move O R)) (rest : List Step) (more : List ℕ) → last < place → IsPrefix new.moves later → IsMoveAt later place made
-        → PlayedFrom op_of later rest new.sights place more → PlayedFrom op_of later (step ∷ rest) old.sights last (place ∷ more))
+        → ((later : List (Move O R)) (rest : List Step) (more : List ℕ) → IsPrefix new.moves later → IsMoveAt later place made
+        → PlayedFrom op_of later rest new.sights place more → PlayedFrom op_of later (step ∷ rest) old.sights (length old.moves) (place ∷ more))
         → PlaysOn op_of (step ∷ []) old new
     plays-made step sights goes =
         plays-move op_of old new grown step place past (prefix_length after.moves new.moves to_new) noted-is sights
-        (λ last later rest more lt grows played. goes last later rest more lt grows (stands later grows) played)
+        (λ later rest more grows played. goes later rest more grows (stands later grows) played)
 
   module _ (same : new.sights ≡ old.sights) where
     kept : (later : List (Move O R)) (rest : List Step) (last : ℕ) (more : List ℕ) → PlayedFrom op_of later rest new.sights last more → PlayedFrom op_of later rest old.sights last more
@@ -57,11 +57,11 @@ module _ {O R : Type 0} (op_of : PlainOp → O) (old new : Stage (Move O R)) (mi
     plays-done session op done =
         let made : Move O R = move.Operation done.number (op_of op) done.reply in
         plays-made made done.moved (Do session op) same
-        (λ last later rest more lt grows at played.
+        (λ later rest more grows at played.
         let all : IsPrefix mid.moves later = prefix_trans mid.moves after.moves later (mid-after made done.moved) (prefix_trans after.moves new.moves later to_new grows) in
         let is : IsDone later done.branch (op_of op) (length after.moves) = record { number = done.number; named = named-later mid.moves later all done.branch done.number done.named; reply = done.reply; made = at } in
-        subst (λ o. IfSees o (λ branch. TakesOne (IsDone later branch (op_of op)) (PlayedFrom op_of later rest old.sights) last (length after.moves ∷ more))) (sym done.sees)
-        (lt, is, kept later rest (length after.moves) more played))
+        subst (λ o. IfSees o (λ branch. TakesOne (IsDone later branch (op_of op)) (PlayedFrom op_of later rest old.sights) (length old.moves) (length after.moves ∷ more))) (sym done.sees)
+        (past made done.moved, is, kept later rest (length after.moves) more played))
 
     pub plays-merged : (session from : List ℕ) → HasMerged (old.sights session) from mid after places noted → PlaysOn op_of (Merge session from ∷ []) old new
     plays-merged session from done = ⊎_elim (λ moved. by (move.Merge done.number done.commit) moved (λ later at. inl at)) (λ moved. by (move.Forward done.number done.commit) moved (λ later at. inr at)) done.moved
@@ -71,7 +71,7 @@ module _ {O R : Type 0} (op_of : PlainOp → O) (old new : Stage (Move O R)) (mi
             → PlaysOn op_of (Merge session from ∷ []) old new
         by made moved either =
             plays-made made moved (Merge session from) same
-            (λ last later rest more lt grows at played.
+            (λ later rest more grows at played.
             let to_later = prefix_trans after.moves new.moves later to_new grows in
             let all : IsPrefix mid.moves later = prefix_trans mid.moves after.moves later (mid-after made moved) to_later in
             let is : IsMerged later done.branch from (length after.moves) = record {
@@ -82,49 +82,58 @@ module _ {O R : Type 0} (op_of : PlainOp → O) (old new : Stage (Move O R)) (mi
               head = head-later after.moves later to_later from done.source done.commit done.head;
               made = either later at;
             } in
-            subst (λ o. IfSees o (λ branch. TakesOne (IsMerged later branch from) (PlayedFrom op_of later rest old.sights) last (length after.moves ∷ more)
-            ⊎ (HoldsBetween later last (length after.moves ∷ more) (IsReached branch from) × PlayedFrom op_of later rest old.sights last (length after.moves ∷ more)))) (sym done.sees)
-            (inl (lt, is, kept later rest (length after.moves) more played)))
+            let Rest = PlayedFrom op_of later rest old.sights in
+            subst (λ o. IfSees o (λ branch. TakesOne (IsMerged later branch from) Rest (length old.moves) (length after.moves ∷ more) ⊎ TakesNone later (IsReached branch from) Rest (length old.moves) (length after.moves ∷ more))) (sym done.sees)
+            (inl (past made moved, is, kept later rest (length after.moves) more played)))
 
     pub plays-forked : (name from : List ℕ) (number source : ℕ) → WasNamed after.moves from source → HasMoved (move.Fork name number source) mid after places noted → PlaysOn op_of (Fork name from ∷ []) old new
     plays-forked name from number source named moved =
         let made : Move O R = move.Fork name number source in
         plays-made made moved (Fork name from) same
-        (λ last later rest more lt grows at played.
+        (λ later rest more grows at played.
         let to_later = prefix_trans after.moves new.moves later to_new grows in
         let is : IsForked later name from (length after.moves) = record { number = number; source = source; named = named-later after.moves later to_later from source named; made = at } in
-        inl (lt, is, kept later rest (length after.moves) more played))
+        inl (past made moved, is, kept later rest (length after.moves) more played))
 
-    module _ (seen : IsPrefix mid.moves after.moves) (none : noted ≡ places) where
-      on : IsPrefix old.moves new.moves
-      on = prefix_trans old.moves mid.moves new.moves from_old (prefix_trans mid.moves after.moves new.moves seen to_new)
+  -- a step that makes no move was done where its last look was
+  module _ (seen : IsPrefix mid.moves after.moves) (none : noted ≡ places) where
+    on : IsPrefix old.moves new.moves
+    on = prefix_trans old.moves mid.moves new.moves from_old (prefix_trans mid.moves after.moves new.moves seen to_new)
 
-      between : (last : ℕ) (later : List (Move O R)) (more : List ℕ) (Holds : List (Move O R) → Type 0) → last ≤ length old.moves → IsPrefix new.moves later → IsBelowFirst (length new.moves) more → Holds after.moves → HoldsBetween later last more Holds
-      between last later more Holds le grows below here = record {
-        before = after.moves;
-        begins = prefix_trans after.moves new.moves later to_new grows;
-        holds_last = let a = prefix_length old.moves mid.moves from_old in let b = prefix_length mid.moves after.moves seen in omega arith;
-        not_next = below-less (length after.moves) (length new.moves) more (prefix_length after.moves new.moves to_new) below;
-        here = here;
-      }
+    takes-none : (Holds : List (Move O R) → Type 0) (later : List (Move O R)) (rest : List Step) (more : List ℕ) → Holds after.moves → IsPrefix new.moves later
+        → PlayedFrom op_of later rest new.sights (length new.moves) more → TakesNone later Holds (PlayedFrom op_of later rest new.sights) (length old.moves) more
+    takes-none Holds later rest more here grows played = record {
+      before = after.moves;
+      begins = prefix_trans after.moves new.moves later to_new grows;
+      behind = prefix_length old.moves after.moves (prefix_trans old.moves mid.moves after.moves from_old seen);
+      here = here;
+      rest = played-earlier op_of later (length after.moves) (length new.moves) (prefix_length after.moves new.moves to_new) rest new.sights more played;
+    }
+
+    pub plays-looked : (session branch : List ℕ) → new.sights ≡ with_sight old.sights session branch → HasBranch branch after.moves → PlaysOn op_of (Look session branch ∷ []) old new
+    plays-looked session branch sights there =
+        plays-still op_of old new on (Look session branch) (has ∙ none ∙ sym had) sights
+        (λ later rest more grows played.
+        subst (λ s. TakesNone later (HasBranch branch) (PlayedFrom op_of later rest s) (length old.moves) more) sights (takes-none (HasBranch branch) later rest more there grows played))
+
+    module _ (same : new.sights ≡ old.sights) where
+      kept-none : (Holds : List (Move O R) → Type 0) (later : List (Move O R)) (rest : List Step) (more : List ℕ) → Holds after.moves → IsPrefix new.moves later
+          → PlayedFrom op_of later rest new.sights (length new.moves) more → TakesNone later Holds (PlayedFrom op_of later rest old.sights) (length old.moves) more
+      kept-none Holds later rest more here grows played =
+          subst (λ s. TakesNone later Holds (PlayedFrom op_of later rest s) (length old.moves) more) same (takes-none Holds later rest more here grows played)
 
       pub plays-same : (session from branch : List ℕ) → old.sights session ≡ Some branch → IsReached branch from after.moves → PlaysOn op_of (Merge session from ∷ []) old new
       plays-same session from branch sees reached =
           plays-still op_of old new on (Merge session from) (has ∙ none ∙ sym had) same
-          (λ last later rest more le grows below played.
-          subst (λ o. IfSees o (λ b. TakesOne (IsMerged later b from) (PlayedFrom op_of later rest old.sights) last more
-          ⊎ (HoldsBetween later last more (IsReached b from) × PlayedFrom op_of later rest old.sights last more))) (sym sees)
-          (inr (between last later more (IsReached branch from) le grows below reached, kept later rest last more played)))
+          (λ later rest more grows played.
+          let Rest = PlayedFrom op_of later rest old.sights in
+          subst (λ o. IfSees o (λ b. TakesOne (IsMerged later b from) Rest (length old.moves) more ⊎ TakesNone later (IsReached b from) Rest (length old.moves) more)) (sym sees)
+          (inr (kept-none (IsReached branch from) later rest more reached grows played)))
 
-      pub plays-taken : (name from : List ℕ) → IsTaken name after.moves → PlaysOn op_of (Fork name from ∷ []) old new
+      pub plays-taken : (name from : List ℕ) → IsTaken name from after.moves → PlaysOn op_of (Fork name from ∷ []) old new
       plays-taken name from taken =
-          plays-still op_of old new on (Fork name from) (has ∙ none ∙ sym had) same
-          (λ last later rest more le grows below played. inr (between last later more (IsTaken name) le grows below taken, kept later rest last more played))
+          plays-still op_of old new on (Fork name from) (has ∙ none ∙ sym had) same (λ later rest more grows played. inr (kept-none (IsTaken name from) later rest more taken grows played))
 
-      pub plays-asked : (branch : List ℕ) (query : PlainQuery) → PlaysOn op_of (Ask branch query ∷ []) old new
-      plays-asked branch query = plays-still op_of old new on (Ask branch query) (has ∙ none ∙ sym had) same (λ last later rest more le grows below played. kept later rest last more played)
-
-  pub plays-looked : (session branch : List ℕ) → IsPrefix mid.moves after.moves → noted ≡ places → new.sights ≡ with_sight old.sights session branch → PlaysOn op_of (Look session branch ∷ []) old new
-  plays-looked session branch seen none sights =
-      plays-still op_of old new (prefix_trans old.moves mid.moves new.moves from_old (prefix_trans mid.moves after.moves new.moves seen to_new)) (Look session branch) (has ∙ none ∙ sym had) sights
-      (λ last later rest more le grows below played. subst (λ s. PlayedFrom op_of later rest s last more) sights played)
+      pub plays-asked : (branch : List ℕ) (query : PlainQuery) → HasBranch branch after.moves → PlaysOn op_of (Ask branch query ∷ []) old new
+      plays-asked branch query there =
+          plays-still op_of old new on (Ask branch query) (has ∙ none ∙ sym had) same (λ later rest more grows played. kept-none (HasBranch branch) later rest more there grows played)

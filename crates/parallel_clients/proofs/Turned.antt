@@ -21,6 +21,7 @@ use Rattle.branch_history.proofs.Turns.{look-unknown, look-sees, fork-unknown, f
 use Rattle.branch_history.proofs.Stores.{branch_named-none}
 use Rattle.branch_history.proofs.Valid.{branch_named-there}
 use Rattle.branch_history.proofs.Heads.{same_branch}
+use Rattle.parallel_clients.specs.Played.{HasBranch, IsTaken}
 use Rattle.parallel_clients.proofs.Machines.{full-turned, full-refused}
 
 module _ {S O R Q A : Type 0} (meaning : Meaning S O R Q A) (limits : Limits) (moves : List (Move O R)) where
@@ -45,6 +46,10 @@ module _ {S O R Q A : Type 0} (meaning : Meaning S O R Q A) (limits : Limits) (m
           let same : k ≡ r = cc in
           let at : head_of (store_of moves).branches k ≡ h = cc in
           (some ∙ ap (λ j. Some j) same, ap (head_of (store_of moves).branches) (sym same) ∙ at)
+
+  -- so there is one
+  pub look-there : (name : List ℕ) (r h : ℕ) → turn meaning limits moves (machine.Look name) ≡ answers (machine.Sees r h) → HasBranch name moves
+  look-there name r h is = (r, (look-named name r h is).0)
 
   -- a look that was refused found none
   pub look-nameless : (name other : List ℕ) → turn meaning limits moves (machine.Look name) ≡ answers (machine.Refused (machine.UnknownBranch other)) → branch_named (store_of moves).branches name ≡ None
@@ -84,21 +89,17 @@ module _ {S O R Q A : Type 0} (meaning : Meaning S O R Q A) (limits : Limits) (m
       tests false true e = cc
       tests false false e = cc
 
-  -- a fork whose name is taken found the branch that has it
-  turn-has : (name from : List ℕ) (number : ℕ) → turn meaning limits moves (machine.Fork name from) ≡ answers (machine.Refused (machine.NameTaken number))
-      → branch_named (store_of moves).branches name ≡ Some number
+  -- a fork whose name is taken found the branch that has it, and the one that it was to be from
+  turn-has : (name from : List ℕ) (number : ℕ) → turn meaning limits moves (machine.Fork name from) ≡ answers (machine.Refused (machine.NameTaken number)) → IsTaken name from moves
   turn-has name from number is = found (branch_named (store_of moves).branches from) (branch_named (store_of moves).branches name) (fork_refusal limits moves) refl refl refl
     where
       same : (refusal : machine.Refusal) → turn meaning limits moves (machine.Fork name from) ≡ answers (machine.Refused refusal) → refusal ≡ machine.NameTaken number
       same refusal turned = let t : refused refusal ≡ refused (machine.NameTaken number) = ap outcome (sym turned ∙ is) in cc
 
       found : (there taken : Option ℕ) (o : Option machine.Refusal) → branch_named (store_of moves).branches from ≡ there → branch_named (store_of moves).branches name ≡ taken → fork_refusal limits moves ≡ o
-          → branch_named (store_of moves).branches name ≡ Some number
+          → IsTaken name from moves
       found None taken o none at turned = let e = same (machine.UnknownBranch from) (fork-unknown meaning limits moves name from none) in absurd (cc)
-      found (Some r) (Some k) o some at turned =
-          let e = same (machine.NameTaken k) (fork-taken meaning limits moves name from r k some at) in
-          let k_is : k ≡ number = cc in
-          at ∙ ap (λ j. Some j) k_is
+      found (Some r) (Some k) o some at turned = ((k, at), (r, some))
       found (Some r) None (Some refusal) some at turned = absurd (full refusal number turned (same refusal (fork-refused meaning limits moves name from r refusal some at turned)))
       found (Some r) None None some at turned =
           let t : machine.Forked (length (store_of moves).branches) (head_of (store_of moves).branches r) ≡ refused (machine.NameTaken number) = ap outcome (sym (fork-makes meaning limits moves name from r some at turned) ∙ is) in
@@ -132,7 +133,7 @@ module _ {S O R Q A : Type 0} (fixed : Fixed S O R Q A) (moves : List (Move O R)
   fork-named name from number head source is =
       turn-named fixed.meaning fixed.limits moves name from number head source (full-turned fixed moves (machine.Fork name from) (move.Fork name number source) (machine.Forked number head) is)
 
-  pub fork-has : (name from : List ℕ) (number : ℕ) → FullyRefuses fixed moves (machine.Fork name from) (machine.NameTaken number) → branch_named (store_of moves).branches name ≡ Some number
+  pub fork-has : (name from : List ℕ) (number : ℕ) → FullyRefuses fixed moves (machine.Fork name from) (machine.NameTaken number) → IsTaken name from moves
   fork-has name from number is =
       turn-has fixed.meaning fixed.limits moves name from number (full-refused fixed moves (machine.Fork name from) (machine.NameTaken number) (λ address stored fresh e. let never : ⊥ = cc in never) is)
 

@@ -1,5 +1,5 @@
 -- How clients go on: what holds of a history holds of a longer one, and steps are played one after another.
-use Rattle.std.proofs.Common.{◌≡◌, ℕ, ◌+◌, ◌-◌, ◌<◌, ◌≤◌, List, [], ◌∷◌, ◌++◌, length, refl, ap, sym, subst, ◌∙◌, append_assoc, append-nil, Some, arith, length-append}
+use Rattle.std.proofs.Common.{◌≡◌, ℕ, ◌+◌, ◌-◌, ◌<◌, ◌≤◌, List, [], ◌∷◌, ◌++◌, length, refl, ap, sym, subst, ◌∙◌, append_assoc, append-nil, Some, arith, length-append, ◌⊎◌, inl, inr, ⊎_elim, Option, None}
 use Rattle.std.specs.Prelude.{slice_get}
 use mathlib.Core.List.{IsPrefix}
 use Rattle.branch_front.proofs.Prefixes.{prefix_self, prefix_trans, prefix_length}
@@ -8,9 +8,9 @@ use Rattle.branch_history.proofs.Lists.{slice_get-append, slice_get-new}
 use Rattle.branch_doc.specs.declared.plain.PlainOp.{PlainOp}
 use Rattle.branch_script.specs.declared.step.Step.{Step}
 use Rattle.branch_script.specs.declared.step.Step.TheVariants.{Look, Fork, Merge, Do, Ask}
-use Rattle.parallel_clients.specs.Played.{Sights, no_sights, with_sight, sights_after, IsMoveAt, WasNamed, WasHead, IsBelowFirst, PlayedFrom, Played}
+use Rattle.parallel_clients.specs.Played.{Sights, no_sights, with_sight, sights_after, IsMoveAt, WasNamed, WasHead, HasBranch, IsDone, IsForked, IsMerged, IsTaken, IsReached, TakesOne, TakesNone, IfSees, PlayedFrom, Played}
 use Rattle.parallel_clients.specs.Outcomes.{ArePast}
-use Rattle.parallel_clients.specs.Sessions.{Stage, PlaysOn}
+use Rattle.parallel_clients.specs.Sessions.{Stage, GoesOn, PlaysOn}
 
 -- what stays when a history grows
 
@@ -31,15 +31,7 @@ move-last before later made grows =
     let in_later : slice_get (all ++ grows.0) (length before) ≡ Some made = slice_get-append all grows.0 (length before) (omega arith) ∙ in_all in
     ap (slice_get later) at ∙ ap (λ ms. slice_get ms (length before)) (sym grows.1) ∙ in_later
 
--- numbers below the first place
-
-pub below-less : (m n : ℕ) (places : List ℕ) → m ≤ n → IsBelowFirst n places → IsBelowFirst m places
-below-less m n [] le is = tt
-below-less m n (p ∷ ps) le is = omega arith
-
-pub below-past : (m n : ℕ) (own more : List ℕ) → m ≤ n → ArePast m own → IsBelowFirst n more → IsBelowFirst m (own ++ more)
-below-past m n [] more le past is = below-less m n more le is
-below-past m n (p ∷ ps) more le past is = past.0
+-- places behind a number
 
 pub past-less : (m n : ℕ) (places : List ℕ) → m ≤ n → ArePast n places → ArePast m places
 past-less m n [] le past = tt
@@ -58,6 +50,38 @@ sights-both (Merge session branch ∷ first) second sights = sights-both first s
 sights-both (Do session op ∷ first) second sights = sights-both first second sights
 sights-both (Ask branch query ∷ first) second sights = sights-both first second sights
 
+-- what a session that sees a branch does is something more
+pub sees-more : (Does More : List ℕ → Type 0) → ((branch : List ℕ) → Does branch → More branch) → (sight : Option (List ℕ)) → IfSees sight Does → IfSees sight More
+sees-more Does More more None is = is
+sees-more Does More more (Some branch) is = more branch is
+
+-- what was played from behind a place was played from behind an earlier one
+module _ {O R : Type 0} (op_of : PlainOp → O) (moves : List (Move O R)) (m n : ℕ) (le : m ≤ n) where
+  one-earlier : (Is : ℕ → Type 0) (Rest : ℕ → List ℕ → Type 0) (places : List ℕ) → TakesOne Is Rest n places → TakesOne Is Rest m places
+  one-earlier Is Rest [] is = is
+  one-earlier Is Rest (place ∷ places) is = let behind = is.0 in (omega (arith, behind), is.1, is.2)
+
+  none-earlier : (Holds : List (Move O R) → Type 0) (Rest : ℕ → List ℕ → Type 0) (places : List ℕ) → TakesNone moves Holds Rest n places → TakesNone moves Holds Rest m places
+  none-earlier Holds Rest places is = let behind = is.behind in record { before = is.before; begins = is.begins; behind = omega (arith, behind); here = is.here; rest = is.rest }
+
+  pub played-earlier : (steps : List Step) (sights : Sights) (places : List ℕ) → PlayedFrom op_of moves steps sights n places → PlayedFrom op_of moves steps sights m places
+  played-earlier [] sights places is = is
+  played-earlier (Look session branch ∷ steps) sights places is = none-earlier (HasBranch branch) (PlayedFrom op_of moves steps (with_sight sights session branch)) places is
+  played-earlier (Ask branch query ∷ steps) sights places is = none-earlier (HasBranch branch) (PlayedFrom op_of moves steps sights) places is
+  played-earlier (Do session op ∷ steps) sights places is =
+      let Rest = PlayedFrom op_of moves steps sights in
+      sees-more (λ branch. TakesOne (IsDone moves branch (op_of op)) Rest n places) (λ branch. TakesOne (IsDone moves branch (op_of op)) Rest m places)
+      (λ branch. one-earlier (IsDone moves branch (op_of op)) Rest places) (sights session) is
+  played-earlier (Fork new from ∷ steps) sights places is =
+      let Rest = PlayedFrom op_of moves steps sights in
+      ⊎_elim (λ one. inl (one-earlier (IsForked moves new from) Rest places one)) (λ none. inr (none-earlier (IsTaken new from) Rest places none)) is
+  played-earlier (Merge session from ∷ steps) sights places is =
+      let Rest = PlayedFrom op_of moves steps sights in
+      sees-more (λ branch. TakesOne (IsMerged moves branch from) Rest n places ⊎ TakesNone moves (IsReached branch from) Rest n places)
+      (λ branch. TakesOne (IsMerged moves branch from) Rest m places ⊎ TakesNone moves (IsReached branch from) Rest m places)
+      (λ branch both. ⊎_elim (λ one. inl (one-earlier (IsMerged moves branch from) Rest places one)) (λ none. inr (none-earlier (IsReached branch from) Rest places none)) both)
+      (sights session) is
+
 -- steps one after another
 
 module _ {O R : Type 0} (op_of : PlainOp → O) where
@@ -68,7 +92,7 @@ module _ {O R : Type 0} (op_of : PlainOp → O) where
     added = sym (append-nil s.places);
     past = tt;
     sights = refl;
-    goes_on = λ last le. (last, le, λ later rest more grows below played. played);
+    goes_on = λ later rest more grows played. played;
   }
 
   pub plays-both : (first second : List Step) (a b c : Stage (Move O R)) → PlaysOn op_of first a b → PlaysOn op_of second b c → PlaysOn op_of (first ++ second) a c
@@ -78,53 +102,42 @@ module _ {O R : Type 0} (op_of : PlainOp → O) where
     added = q.added ∙ ap (λ ps. ps ++ q.own) p.added ∙ append_assoc a.places p.own q.own;
     past = past-both (length a.moves) p.own q.own p.past (past-less (length a.moves) (length b.moves) q.own (prefix_length a.moves b.moves p.grown) q.past);
     sights = q.sights ∙ ap (sights_after second) p.sights ∙ sym (sights-both first second a.sights);
-    goes_on = λ last le.
-        let one = p.goes_on last le in
-        let two = q.goes_on one.0 one.1 in (
-          two.0,
-          two.1,
-          λ later rest more grows below played.
-              let tail = two.2 later rest more grows below played in
-              let at_b : IsPrefix b.moves later = prefix_trans b.moves c.moves later q.grown grows in
-              let below_b : IsBelowFirst (length b.moves) (q.own ++ more) = below-past (length b.moves) (length c.moves) q.own more (prefix_length b.moves c.moves q.grown) q.past below in
-              let all = one.2 later (second ++ rest) (q.own ++ more) at_b below_b tail in
-              subst (λ ss. PlayedFrom op_of later ss a.sights last ((p.own ++ q.own) ++ more)) (sym (append_assoc first second rest))
-              (subst (PlayedFrom op_of later (first ++ (second ++ rest)) a.sights last) (sym (append_assoc p.own q.own more)) all),
-        );
+    goes_on = λ later rest more grows played.
+        let tail = q.goes_on later rest more grows played in
+        let all = p.goes_on later (second ++ rest) (q.own ++ more) (prefix_trans b.moves c.moves later q.grown grows) tail in
+        subst (λ ss. PlayedFrom op_of later ss a.sights (length a.moves) ((p.own ++ q.own) ++ more)) (sym (append_assoc first second rest))
+        (subst (PlayedFrom op_of later (first ++ (second ++ rest)) a.sights (length a.moves)) (sym (append_assoc p.own q.own more)) all);
   }
 
   -- what a client has played in all
-  pub plays-played : (steps : List Step) (a b : Stage (Move O R)) (later : List (Move O R)) → PlaysOn op_of steps a b → a.sights ≡ no_sights → a.places ≡ [] → IsPrefix b.moves later → Played op_of steps b.places later
+  pub plays-played : (steps : List Step) (a b : Stage (Move O R)) (later : List (Move O R)) → PlaysOn op_of steps a b → a.sights ≡ no_sights → a.places ≡ [] → IsPrefix b.moves later
+      → Played op_of (length a.moves) steps b.places later
   unfolding Played
   plays-played steps a b later p none empty grows =
-      let on = p.goes_on 0 (omega arith) in
-      let all = on.2 later [] [] grows tt refl in
+      let all = p.goes_on later [] [] grows refl in
       let own_is : p.own ++ [] ≡ b.places = append-nil p.own ∙ sym (p.added ∙ ap (λ ps. ps ++ p.own) empty) in
-      subst (λ sights. PlayedFrom op_of later steps sights 0 b.places) none
-      (subst (λ ps. PlayedFrom op_of later steps a.sights 0 ps) own_is
-      (subst (λ ss. PlayedFrom op_of later ss a.sights 0 (p.own ++ [])) (append-nil steps) all))
+      subst (λ sights. PlayedFrom op_of later steps sights (length a.moves) b.places) none
+      (subst (λ ps. PlayedFrom op_of later steps a.sights (length a.moves) ps) own_is
+      (subst (λ ss. PlayedFrom op_of later ss a.sights (length a.moves) (p.own ++ [])) (append-nil steps) all))
 
   -- one step
 
   module _ (old new : Stage (Move O R)) (grown : IsPrefix old.moves new.moves) where
     -- one that makes no move
-    pub plays-still : (step : Step) → new.places ≡ old.places → new.sights ≡ sights_after (step ∷ []) old.sights
-        → ((last : ℕ) (later : List (Move O R)) (rest : List Step) (more : List ℕ) → last ≤ length old.moves → IsPrefix new.moves later → IsBelowFirst (length new.moves) more
-        → PlayedFrom op_of later rest new.sights last more → PlayedFrom op_of later (step ∷ rest) old.sights last more)
-        → PlaysOn op_of (step ∷ []) old new
+    pub plays-still : (step : Step) → new.places ≡ old.places → new.sights ≡ sights_after (step ∷ []) old.sights → GoesOn op_of (step ∷ []) [] old new → PlaysOn op_of (step ∷ []) old new
     plays-still step same sights goes = record {
       own = [];
       grown = grown;
       added = same ∙ sym (append-nil old.places);
       past = tt;
       sights = sights;
-      goes_on = λ last le. (last, omega (arith, prefix_length old.moves new.moves grown), λ later rest more grows below played. goes last later rest more le grows below played);
+      goes_on = goes;
     }
 
     -- one that makes a move
     pub plays-move : (step : Step) (place : ℕ) → length old.moves < place → place ≤ length new.moves → new.places ≡ old.places ++ place ∷ [] → new.sights ≡ sights_after (step ∷ []) old.sights
-        → ((last : ℕ) (later : List (Move O R)) (rest : List Step) (more : List ℕ) → last < place → IsPrefix new.moves later
-        → PlayedFrom op_of later rest new.sights place more → PlayedFrom op_of later (step ∷ rest) old.sights last (place ∷ more))
+        → ((later : List (Move O R)) (rest : List Step) (more : List ℕ) → IsPrefix new.moves later
+        → PlayedFrom op_of later rest new.sights place more → PlayedFrom op_of later (step ∷ rest) old.sights (length old.moves) (place ∷ more))
         → PlaysOn op_of (step ∷ []) old new
     plays-move step place past within noted sights goes = record {
       own = place ∷ [];
@@ -132,5 +145,5 @@ module _ {O R : Type 0} (op_of : PlainOp → O) where
       added = noted;
       past = (past, tt);
       sights = sights;
-      goes_on = λ last le. (place, within, λ later rest more grows below played. goes last later rest more (omega arith) grows played);
+      goes_on = λ later rest more grows played. goes later rest more grows (played-earlier op_of later place (length new.moves) within rest new.sights more played);
     }

@@ -27,7 +27,7 @@ abbrev pub setting : {S O R Q A : Type 0} → Fixed S O R Q A → (PlainOp → O
 setting fixed op_of opened = record { fixed = fixed; op_of = op_of; opened = opened }
 
 -- The machine refuses a client's step after a history: an operation or a merge is made from a head that the session's branch had, and a merge is of a head that the
--- other branch had.
+-- other branch had, if there is one with its name. Of a session that has not looked it is not asked.
 abbrev pub RefusesStep : {S O R Q A : Type 0} → Setting S O R Q A → List (Move O R) → Sights → Step → machine.Refusal → Type 0
 RefusesStep on moves sights (Look session branch) refusal = FullyRefuses on.fixed moves (machine.Look branch) refusal
 RefusesStep on moves sights (Ask branch query) refusal = FullyRefuses on.fixed moves (machine.Look branch) refusal
@@ -35,9 +35,9 @@ RefusesStep on moves sights (Fork new from) refusal = FullyRefuses on.fixed move
 RefusesStep on moves sights (Do session op) refusal =
     IfSees (sights session) (λ branch. (number head : ℕ) × WasHead moves branch number head × FullyRefuses on.fixed moves (machine.Land number head (on.op_of op)) refusal)
 RefusesStep on moves sights (Merge session from) refusal =
-    FullyRefuses on.fixed moves (machine.Look from) refusal
-    ⊎ IfSees (sights session) (λ branch. (number head source commit : ℕ) × WasHead moves branch number head × WasHead moves from source commit
-    × FullyRefuses on.fixed moves (machine.Merge number head commit) refusal)
+    IfSees (sights session) (λ branch. FullyRefuses on.fixed moves (machine.Look from) refusal
+    ⊎ ((number head source commit : ℕ) × WasHead moves branch number head × WasHead moves from source commit
+    × FullyRefuses on.fixed moves (machine.Merge number head commit) refusal))
 
 -- the disk has failed since the store was opened
 abbrev pub HasFailed : {S O R Q A : Type 0} → Setting S O R Q A → ℕ → Type 0
@@ -64,7 +64,7 @@ pub record IsRefused {S O R Q A : Type 0} (on : Setting S O R Q A) (old new : Li
   pub before : List (Move O R)
   pub begun : IsPrefix old before
   pub begins : IsPrefix before new
-  pub played : Played on.op_of (take number steps) places before
+  pub played : Played on.op_of (length old) (take number steps) places before
   pub refused : StepRefused on before faults (sights_after (take number steps) no_sights) step refusal
 
 -- a step names a session that has to have looked, and sees no branch
@@ -74,17 +74,17 @@ SeesNone sights (Merge session from) = sights session ≡ None
 SeesNone sights step = ⊥
 
 -- the step behind so many names a session without a look, after what the steps before it made at the places
-pub record IsUnseen {S O R Q A : Type 0} (on : Setting S O R Q A) (new : List (Move O R)) (steps : List Step) (number : ℕ) (places : List ℕ) : Type 0 where
+pub record IsUnseen {S O R Q A : Type 0} (on : Setting S O R Q A) (old new : List (Move O R)) (steps : List Step) (number : ℕ) (places : List ℕ) : Type 0 where
   pub step : Step
   pub is_step : slice_get steps number ≡ Some step
-  pub played : Played on.op_of (take number steps) places new
+  pub played : Played on.op_of (length old) (take number steps) places new
   pub unseen : SeesNone (sights_after (take number steps) no_sights) step
 
 -- what became of the steps of a client, where a history grew from an old one to a new one, and the disk has had so many faults since it was opened
 abbrev pub ComesTo : {S O R Q A : Type 0} → Setting S O R Q A → List (Move O R) → List (Move O R) → ℕ → List Step → Outcome → Type 0
-ComesTo on old new faults steps (Done places) = Played on.op_of steps places new
+ComesTo on old new faults steps (Done places) = Played on.op_of (length old) steps places new
 ComesTo on old new faults steps (Refused number refusal places) = IsRefused on old new faults steps number places refusal
-ComesTo on old new faults steps (Unseen number places) = IsUnseen on new steps number places
+ComesTo on old new faults steps (Unseen number places) = IsUnseen on old new steps number places
 
 -- the places of an outcome
 abbrev pub places_of : Outcome → List ℕ

@@ -72,8 +72,12 @@ pub record IsMerged {O R : Type 0} (moves : List (Move O R)) (branch from : List
   pub made : IsMoveAt moves place (move.Merge number commit) ⊎ IsMoveAt moves place (move.Forward number commit)
 
 -- some branch has the name
-abbrev pub IsTaken : {O R : Type 0} → List ℕ → List (Move O R) → Type 0
-IsTaken new moves = (number : ℕ) × (branch_named (store_of moves).branches new ≡ Some number)
+abbrev pub HasBranch : {O R : Type 0} → List ℕ → List (Move O R) → Type 0
+HasBranch name moves = (number : ℕ) × (branch_named (store_of moves).branches name ≡ Some number)
+
+-- a branch cannot be forked from another, which is there, since some branch has its name
+abbrev pub IsTaken : {O R : Type 0} → List ℕ → List ℕ → List (Move O R) → Type 0
+IsTaken new from moves = HasBranch new moves × HasBranch from moves
 
 -- the head of a session's branch reaches the head of another
 pub record IsReached {O R : Type 0} (branch from : List ℕ) (moves : List (Move O R)) : Type 0 where
@@ -83,23 +87,18 @@ pub record IsReached {O R : Type 0} (branch from : List ℕ) (moves : List (Move
   pub other : branch_named (store_of moves).branches from ≡ Some source
   pub reached : IsTrue (reaches (graph_of (store_of moves).commits) (head_of (store_of moves).branches number) (head_of (store_of moves).branches source))
 
--- a number below the first of some places, if there is one
-abbrev pub IsBelowFirst : ℕ → List ℕ → Type 0
-IsBelowFirst n [] = Unit {0}
-IsBelowFirst n (place ∷ places) = n < place
-
--- this holds after some first part of a history, which has the place before, and not the next one
-pub record HoldsBetween {M : Type 0} (moves : List M) (last : ℕ) (places : List ℕ) (Holds : List M → Type 0) : Type 0 where
-  pub before : List M
-  pub begins : IsPrefix before moves
-  pub holds_last : last ≤ length before
-  pub not_next : IsBelowFirst (length before) places
-  pub here : Holds before
-
 -- the first of the places is such a one, behind the last, and the others go on from it
 abbrev pub TakesOne : (ℕ → Type 0) → (ℕ → List ℕ → Type 0) → ℕ → List ℕ → Type 0
 TakesOne Is Rest last [] = ⊥
 TakesOne Is Rest last (place ∷ places) = (last < place) × Is place × Rest place places
+
+-- this holds after some first part of a history, which has the last place, and the places go on from its length
+pub record TakesNone {M : Type 0} (moves : List M) (Holds : List M → Type 0) (Rest : ℕ → List ℕ → Type 0) (last : ℕ) (places : List ℕ) : Type 0 where
+  pub before : List M
+  pub begins : IsPrefix before moves
+  pub behind : last ≤ length before
+  pub here : Holds before
+  pub rest : Rest (length before) places
 
 -- what a session that sees a branch does; one that sees none does nothing
 abbrev pub IfSees : Option (List ℕ) → (List ℕ → Type 0) → Type 0
@@ -109,23 +108,24 @@ IfSees (Some branch) Does = Does branch
 -- the moves of a history at these places, behind the last one, are those of the steps, in order, where sessions see this at first
 abbrev pub PlayedFrom : {O R : Type 0} → (PlainOp → O) → List (Move O R) → List Step → Sights → ℕ → List ℕ → Type 0
 PlayedFrom op_of moves [] sights last places = places ≡ []
-PlayedFrom op_of moves (Look session branch ∷ steps) sights last places = PlayedFrom op_of moves steps (with_sight sights session branch) last places
-PlayedFrom op_of moves (Ask branch query ∷ steps) sights last places = PlayedFrom op_of moves steps sights last places
+PlayedFrom op_of moves (Look session branch ∷ steps) sights last places = TakesNone moves (HasBranch branch) (PlayedFrom op_of moves steps (with_sight sights session branch)) last places
+PlayedFrom op_of moves (Ask branch query ∷ steps) sights last places = TakesNone moves (HasBranch branch) (PlayedFrom op_of moves steps sights) last places
 PlayedFrom op_of moves (Do session op ∷ steps) sights last places =
     IfSees (sights session) (λ branch. TakesOne (IsDone moves branch (op_of op)) (PlayedFrom op_of moves steps sights) last places)
 PlayedFrom op_of moves (Fork new from ∷ steps) sights last places =
     TakesOne (IsForked moves new from) (PlayedFrom op_of moves steps sights) last places
-    ⊎ (HoldsBetween moves last places (IsTaken new) × PlayedFrom op_of moves steps sights last places)
+    ⊎ TakesNone moves (IsTaken new from) (PlayedFrom op_of moves steps sights) last places
 PlayedFrom op_of moves (Merge session from ∷ steps) sights last places =
     IfSees (sights session) (λ branch.
     TakesOne (IsMerged moves branch from) (PlayedFrom op_of moves steps sights) last places
-    ⊎ (HoldsBetween moves last places (IsReached branch from) × PlayedFrom op_of moves steps sights last places))
+    ⊎ TakesNone moves (IsReached branch from) (PlayedFrom op_of moves steps sights) last places)
 
--- the moves of a history at these places are those of a client's steps, in order: one for each operation; one for each fork, or none where the
--- name is taken; one for each merge, or none where there is nothing to merge
-unfoldable pub Played : {O R : Type 0} → (PlainOp → O) → List Step → List ℕ → List (Move O R) → Type 0
-Played op_of steps places moves = PlayedFrom op_of moves steps no_sights 0 places
+-- The moves of a history at these places, behind its first so many, are those of a client's steps, in order: one for each operation; one for each fork, or none where
+-- the name is taken; one for each merge, or none where there is nothing to merge. A look and a query make none. Each step that makes none was done after some first
+-- part of the history, no shorter than that of the step before it: of a look and a query, one that has the branch.
+unfoldable pub Played : {O R : Type 0} → (PlainOp → O) → ℕ → List Step → List ℕ → List (Move O R) → Type 0
+Played op_of begun steps places moves = PlayedFrom op_of moves steps no_sights begun places
 
 -- what a history has of a client's steps, each longer one has
 abbrev pub StaysPlayed : {O : Type 0} (R : Type 0) → (PlainOp → O) → Type 0
-StaysPlayed {O} R op_of = (moves later : List (Move O R)) (steps : List Step) (places : List ℕ) → IsPrefix moves later → Played op_of steps places moves → Played op_of steps places later
+StaysPlayed {O} R op_of = (moves later : List (Move O R)) (begun : ℕ) (steps : List Step) (places : List ℕ) → IsPrefix moves later → Played op_of begun steps places moves → Played op_of begun steps places later

@@ -27,7 +27,7 @@ use Rattle.parallel_clients.specs.declared.outcome.ClientRefusal.TheVariants as 
 use Rattle.parallel_clients.specs.declared.outcome.Outcome.{Outcome}
 use Rattle.parallel_clients.specs.declared.outcome.Outcome.TheVariants as outcome
 use Rattle.parallel_clients.specs.declared.sessions.Session.{Session}
-use Rattle.parallel_clients.specs.Played.{Sights, no_sights, sights_after, WasNamed, WasHead, IsReached, IsBelowFirst, PlayedFrom}
+use Rattle.parallel_clients.specs.Played.{Sights, no_sights, sights_after, WasNamed, WasHead, IsReached, PlayedFrom}
 use Rattle.parallel_clients.specs.Outcomes.{Setting, ArePast, HasFailed, StepRefused, SeesNone}
 
 -- the sessions of a client: of each, the branch of its last look, and what it sees there
@@ -63,11 +63,11 @@ pub record Stage (M : Type 0) : Type 0 where
   pub sights : Sights
   pub places : List ℕ
 
--- where a client goes on from a last place, it has gone on so, from an earlier one, by some steps and places in front
-abbrev pub GoesOn : {O R : Type 0} → (PlainOp → O) → List Step → List ℕ → Stage (Move O R) → Stage (Move O R) → ℕ → ℕ → Type 0
-GoesOn {O} {R} op_of steps own old new last next =
-    (later : List (Move O R)) (rest : List Step) (more : List ℕ) → IsPrefix new.moves later → IsBelowFirst (length new.moves) more
-    → PlayedFrom op_of later rest new.sights next more → PlayedFrom op_of later (steps ++ rest) old.sights last (own ++ more)
+-- where a client goes on from a stage, it has gone on so from an earlier one, by some steps and places in front
+abbrev pub GoesOn : {O R : Type 0} → (PlainOp → O) → List Step → List ℕ → Stage (Move O R) → Stage (Move O R) → Type 0
+GoesOn {O} {R} op_of steps own old new =
+    (later : List (Move O R)) (rest : List Step) (more : List ℕ) → IsPrefix new.moves later → PlayedFrom op_of later rest new.sights (length new.moves) more
+    → PlayedFrom op_of later (steps ++ rest) old.sights (length old.moves) (own ++ more)
 
 -- a client came by these steps from one stage to another
 pub record PlaysOn {O R : Type 0} (op_of : PlainOp → O) (steps : List Step) (old new : Stage (Move O R)) : Type 0 where
@@ -76,7 +76,7 @@ pub record PlaysOn {O R : Type 0} (op_of : PlainOp → O) (steps : List Step) (o
   pub added : new.places ≡ old.places ++ own
   pub past : ArePast (length old.moves) own
   pub sights : new.sights ≡ sights_after steps old.sights
-  pub goes_on : (last : ℕ) → last ≤ length old.moves → (next : ℕ) × (next ≤ length new.moves) × GoesOn op_of steps own old new last next
+  pub goes_on : GoesOn op_of steps own old new
 
 abbrev pub stage_of : {M : Type 0} → PassView M → Sessions M → List ℕ → Stage M
 stage_of pass sessions places = record { moves = pass.moves; sights = sights_of sessions; places = places }

@@ -5,7 +5,7 @@ ghost use Rattle.branch_machine.specs.Fixed.{fix};
 ghost use Rattle.branch_machine.specs.Validity.{IsFullyValid};
 ghost use Rattle.store_seen.specs.Turns.{LookRefusedAs};
 ghost use Rattle.branch_shared.specs.Passes.{IsSeenOn, seen_by};
-ghost use Rattle.parallel_clients.specs.Played.{with_sight};
+ghost use Rattle.parallel_clients.specs.Played.{HasBranch, with_sight};
 ghost use Rattle.parallel_clients.specs.Sessions.{AreSessions, sights_of};
 
 use crate::gate::Gate;
@@ -64,6 +64,7 @@ impl<T: Plain, D: Disk + Drop, A: Address, N: Named<T::Op, T::Reply>, G: Gate, R
         ensures rest { IsSeenOn pass.old pass.new }
         ensures sessions { AreSessions N.limits pass.new.moves sessions.new.entries }
         ensures sees { OnOk result (sights_of sessions.new.entries ≡ with_sight (sights_of sessions.old.entries) session.now branch.now) }
+        ensures there { OnOk result (HasBranch branch.now pass.new.moves) }
         ensures kept { OnErr result (sights_of sessions.new.entries ≡ sights_of sessions.old.entries) }
         ensures refused { IfErr result (LookRefusedAs T.meaning (seen_by pass.new N.limits) branch.now) }
     {

@@ -1,4 +1,4 @@
-// Clients that share a store, each in a thread of its own.
+// Clients that share a store, each in a thread of its own where one is to be had.
 ghost use Rattle.std.specs.Prelude.{◌≡◌, ◌*◌, ◌-◌, ◌<◌, ◌≤◌, [], ℕ, length, vec_capacity, slice_index_or, IfOk, OnErr};
 ghost use Rattle.std.specs.List.{AllByRecursion, AllZip};
 ghost use Rattle.branch_machine.specs.Fixed.{fix};
@@ -168,11 +168,14 @@ fn leave_all<T: Plain, D: Disk + Drop, A: Address, N: Named<T::Op, T::Reply> + D
 }
 
 /// Does the steps of each script, as a client with sessions and a pass of its own, in a thread of its own; where no
-/// thread is to be had, the caller's does them. A client looks again after each of its moves, and where its landing is
-/// stale, before it repeats the step; a fork whose name is taken is passed over. Any other refusal ends it.
+/// thread is to be had, the caller's does them. Of threads no clause speaks. A client looks again after each of its moves,
+/// and where its landing is stale, before it repeats the step; a fork whose name is taken is passed over. Any other
+/// refusal ends it.
 ///
-/// There is one outcome for each script, in their order. All memory for them is taken before any client starts: after
-/// `Memory` none has, and the pass is as it was.
+/// There is one outcome for each script, in their order, by what the pass has seen when all are done: the moves of a
+/// client's steps, in order, all behind what the pass had seen before, and a moment from there on at which each step that
+/// made none was done. All memory for them is taken before any client starts: after `Memory` the pass is as it was, so no
+/// move was made.
 pub fn run_clients<
     T: Plain + Send + Sync,
     D: Disk + Drop + Send,

@@ -1,4 +1,4 @@
-//! Clients that share a store: each does the steps of its own script, in a thread of its own.
+//! Clients that share a store: each does the steps of its own script, beside the others.
 #![tactic(auto)]
 
 mod client;

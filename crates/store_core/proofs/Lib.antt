@@ -1,4 +1,6 @@
 pub mod Crosses
+pub mod Contents
+pub mod Covers
 pub mod Puts
 pub mod Waiting
 pub mod Starts

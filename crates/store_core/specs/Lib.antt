@@ -1,5 +1,7 @@
 pub mod Views
 pub mod Images
+pub mod Contents
+pub mod Laws
 pub mod Keeps
 pub mod Turns
 pub mod Inits

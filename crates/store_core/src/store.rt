@@ -3,22 +3,24 @@ ghost use Rattle.std.specs.Prelude.{◌≡◌, ◌≢◌, ◌≤◌, ◌++◌, [
 ghost use Rattle.std.specs.Option.{option_map, ForSome};
 ghost use mathlib.Core.List.{IsPrefix};
 ghost use Rattle.branch_io.specs.Causes.{HasCauseOf, Rose};
-ghost use Rattle.branch_disk.specs.Disk.{Files, LeavesOnly};
+ghost use Rattle.branch_disk.specs.Disk.{Files, LeavesOnly, Tells};
 ghost use Rattle.branch_names.specs.Heads.{Branch, branch_named};
 ghost use Rattle.branch_history.specs.History.{store_of};
 ghost use Rattle.branch_history.specs.Machine.{turn, answers};
 ghost use Rattle.branch_history.specs.Steps as machine;
 ghost use Rattle.branch_machine.specs.Fixed.{fix};
 ghost use Rattle.branch_machine.specs.Machine.{full_turn};
+ghost use Rattle.branch_machine.specs.Objects.{end_of};
 ghost use Rattle.branch_machine.specs.Validity.{IsFullyValid};
 ghost use Rattle.branch_files.specs.Reading.{Opens, ReadsAs};
 ghost use Rattle.store_seen.specs.Pairs.{IsPaired, PairRefusedAs};
 ghost use Rattle.store_seen.specs.Turns.{LookRefusedAs};
 ghost use Rattle.store_core.specs.Views.{held};
 ghost use Rattle.store_core.specs.Images.{AllStand, WithOrWithout, MayBeLeft, NoneOrEmpty};
+ghost use Rattle.store_core.specs.Contents.{HoldsExactly, IsTorn, LeavesExactly, LeavesTorn};
 ghost use Rattle.store_core.specs.Turns.{step_made, LandsAs, LandRefusedAs, LandLeaves, Forks, ForkRefusedAs, ForkLeaves};
 ghost use Rattle.store_core.specs.Inits.{IsEmpty, InitRefusedAs};
-ghost use Rattle.store_core.specs.Opens.{OpenRefusedAs, ReadsOnlyAs, ReadsAsNone};
+ghost use Rattle.store_core.specs.Opens.{OpenRefusedAs, ReadsOnlyAs, RefusedOnlyAs, ReadsAsNone};
 
 use crate::answers::{ForkRefused, InitRefused, LandRefused, OpenRefused};
 use crate::put::put;
@@ -88,11 +90,19 @@ impl<T: Mrdt, D: Disk + Drop, A: Address> Core<T, D, A> {
     /// Makes a store of an empty disk. After `Ok` each image that a crash may leave is a store of no moves. Where each
     /// image was empty, a crash at any moment leaves a disk that is no store, or one of no moves, whatever the answer.
     /// An `Err` hands the disk back; of a disk that holds bytes only the two lengths were asked for.
+    ///
+    /// Of a disk that tells its bytes, the two parts are exactly those of a store of no moves: its first objects, and
+    /// the header with a closed gate. After a fault nothing has changed but in those places; after all else, nothing.
     pub fn init(alloc: Global, disk: D, limits: Limits) -> Result<Core<T, D, A>, (InitRefused, D)>
         ensures made { IfOk result (λ core. core ≡ record { history = []; limits = limits; failed = false; disk = core.disk; opened = core.disk }) }
         ensures empty { OnOk result (ForSome (D.contents disk) IsEmpty) }
         ensures refused { IfErr result (λ e. ForSome (D.contents disk) (InitRefusedAs e.0)) }
         ensures stands { IfOk result (λ core. AllStand (fix T.meaning limits A.address) [] (D.may_leave core.disk)) }
+        ensures exact { let fixed = fix T.meaning limits A.address in
+            IfOk result (λ core. HoldsExactly fixed [] (D.contents disk) (D.contents core.disk)) }
+        ensures same { IfErr result (λ e. e.0 ≢ InitRefused.DiskFault → D.contents e.1 ≡ D.contents disk) }
+        ensures torn { let end = end_of (fix T.meaning limits A.address) [] in
+            IfErr result (λ e. Tells (IsTorn 0 end 0) (D.contents disk) (D.contents e.1)) }
         ensures any_moment { IfOk result (λ core. ((c : Files) → D.may_leave disk c → IsEmpty c) → LeavesOnly D.moment D.left_since disk core.disk (NoneOrEmpty (fix T.meaning limits A.address))) }
         ensures any_moment_err { IfErr result (λ e. ((c : Files) → D.may_leave disk c → IsEmpty c) → LeavesOnly D.moment D.left_since disk e.1 (NoneOrEmpty (fix T.meaning limits A.address))) }
         ensures untouched { IfErr result (λ e. e.0 ≢ InitRefused.DiskFault → LeavesOnly D.moment D.left_since disk e.1 (D.may_leave disk)) }
@@ -127,7 +137,7 @@ impl<T: Mrdt, D: Disk + Drop, A: Address> Core<T, D, A> {
 
     /// Opens the store that a disk holds, which a crash may have left. It syncs both parts and reads, and writes
     /// nothing. `Ok` and each refusal but `DiskFault` and `Memory` come exactly where the files read so: what it opens is
-    /// the one answer of the files, and files that it refuses read as no history. An `Err` hands the disk back.
+    /// the one answer of the files, and so is why it refuses them. An `Err` hands the disk back.
     pub fn open(alloc: Global, disk: D) -> Result<Core<T, D, A>, (OpenRefused, D)>
         ensures opened { IfOk result (λ core. core ≡ record { history = core.history; limits = core.limits; failed = false; disk = core.disk; opened = core.disk }) }
         ensures reads { IfOk result (λ core. ForSome (D.contents disk) (λ f. ReadsAs T.meaning A.address f (Opens core.limits core.history))) }
@@ -136,6 +146,10 @@ impl<T: Mrdt, D: Disk + Drop, A: Address> Core<T, D, A> {
         ensures stands { IfOk result (λ core. AllStand (fix T.meaning core.limits A.address) core.history (D.may_leave core.disk)) }
         ensures refused { IfErr result (λ e. ForSome (D.contents disk) (OpenRefusedAs T.meaning A.address e.0)) }
         ensures refused_only { IfErr result (λ e. e.0 ≢ OpenRefused.DiskFault → e.0 ≢ OpenRefused.Memory → ForSome (D.contents disk) (ReadsAsNone T.meaning A.address)) }
+        ensures only_refused { IfErr result (λ e.
+            ForSome (D.contents disk) (RefusedOnlyAs T.meaning A.address e.0)) }
+        ensures same { IfOk result (λ core. D.contents core.disk ≡ D.contents disk) }
+        ensures same_err { IfErr result (λ e. D.contents e.1 ≡ D.contents disk) }
         ensures any_moment { IfOk result (λ core. LeavesOnly D.moment D.left_since disk core.disk (D.may_leave disk)) }
         ensures any_moment_err { IfErr result (λ e. LeavesOnly D.moment D.left_since disk e.1 (D.may_leave disk)) }
         ensures no_cause { IfOk result (λ core. D.faults core.disk ≡ D.faults disk) }
@@ -234,6 +248,10 @@ impl<T: Mrdt, D: Disk + Drop, A: Address> Core<T, D, A> {
     /// `FullMoves`, before `Collision`. All memory is taken before the first device call. At every moment a crash
     /// leaves the history before, or that with the move; after `Ok`, the latter. Both are valid, so that the disk can
     /// be opened again after a fault.
+    ///
+    /// Of a disk that tells its bytes, after `Ok` the two parts begin with exactly the objects of the longer history
+    /// and its records with a closed gate, and no other byte has changed. After a fault nothing has changed but in the
+    /// move's region and from its record's gate to the next one.
     pub fn land(&mut self, prepared: Prepared<T>) -> Result<Landed<T::Reply>, LandRefused>
         requires history { IsPrefix prepared.seen.history self.old.history }
         requires limits { prepared.seen.limits ≡ self.old.limits }
@@ -247,6 +265,9 @@ impl<T: Mrdt, D: Disk + Drop, A: Address> Core<T, D, A> {
         ensures fault_leaves { result ≡ Err LandRefused.DiskFault → (c : Files) → D.may_leave self.new.disk c
             → WithOrWithout (fix T.meaning self.old.limits A.address) self.old.history (full_turn (fix T.meaning self.old.limits A.address) self.old.history (step_made prepared)).made c }
         ensures fault_valid { result ≡ Err LandRefused.DiskFault → IsFullyValid (fix T.meaning self.old.limits A.address) (self.old.history ++ (full_turn (fix T.meaning self.old.limits A.address) self.old.history (step_made prepared)).made) }
+        ensures exact { OnOk result (LeavesExactly T.meaning A.address D.contents self.old self.new) }
+        ensures torn { result ≡ Err LandRefused.DiskFault
+            → LeavesTorn T.meaning A.address D.contents self.old self.new (step_made prepared) }
         ensures cause { HasCauseOf LandRefused.DiskFault (D.faults self.old.disk) (D.faults self.new.disk) result }
     {
         self.land_addressed(Addressed::later(prepared))
@@ -270,6 +291,9 @@ impl<T: Mrdt, D: Disk + Drop, A: Address> Core<T, D, A> {
         ensures fault_leaves { result ≡ Err LandRefused.DiskFault → (c : Files) → D.may_leave self.new.disk c
             → WithOrWithout (fix T.meaning self.old.limits A.address) self.old.history (full_turn (fix T.meaning self.old.limits A.address) self.old.history (step_made prepared)).made c }
         ensures fault_valid { result ≡ Err LandRefused.DiskFault → IsFullyValid (fix T.meaning self.old.limits A.address) (self.old.history ++ (full_turn (fix T.meaning self.old.limits A.address) self.old.history (step_made prepared)).made) }
+        ensures exact { OnOk result (LeavesExactly T.meaning A.address D.contents self.old self.new) }
+        ensures torn { result ≡ Err LandRefused.DiskFault
+            → LeavesTorn T.meaning A.address D.contents self.old self.new (step_made prepared) }
         ensures cause { HasCauseOf LandRefused.DiskFault (D.faults self.old.disk) (D.faults self.new.disk) result }
     {
         if self.failed {
@@ -291,7 +315,8 @@ impl<T: Mrdt, D: Disk + Drop, A: Address> Core<T, D, A> {
 
     /// Forks a new branch from the head of another. It is refused exactly as the machine refuses it, and then
     /// nothing has changed: `UnknownBranch` before `NameTaken` before `FullBranches` before `FullMoves`. At every
-    /// moment a crash leaves the history before, or that with the fork; after `Ok`, the latter. Both are valid.
+    /// moment a crash leaves the history before, or that with the fork; after `Ok`, the latter. Both are valid. What a
+    /// disk tells is then as after `land`.
     pub fn fork(&mut self, new: Name, from: &Name) -> Result<Forked, ForkRefused>
         ensures forked { IfOk result (Forks (fix T.meaning self.old.limits A.address) new from.now self.old self.new) }
         ensures stands { OnOk result (AllStand (fix T.meaning self.old.limits A.address) self.new.history (D.may_leave self.new.disk)) }
@@ -303,6 +328,9 @@ impl<T: Mrdt, D: Disk + Drop, A: Address> Core<T, D, A> {
         ensures fault_leaves { result ≡ Err ForkRefused.DiskFault → (c : Files) → D.may_leave self.new.disk c
             → WithOrWithout (fix T.meaning self.old.limits A.address) self.old.history (full_turn (fix T.meaning self.old.limits A.address) self.old.history (machine.Fork new from.now)).made c }
         ensures fault_valid { result ≡ Err ForkRefused.DiskFault → IsFullyValid (fix T.meaning self.old.limits A.address) (self.old.history ++ (full_turn (fix T.meaning self.old.limits A.address) self.old.history (machine.Fork new from.now)).made) }
+        ensures exact { OnOk result (LeavesExactly T.meaning A.address D.contents self.old self.new) }
+        ensures torn { result ≡ Err ForkRefused.DiskFault
+            → LeavesTorn T.meaning A.address D.contents self.old self.new (machine.Fork new from.now) }
         ensures cause { HasCauseOf ForkRefused.DiskFault (D.faults self.old.disk) (D.faults self.new.disk) result }
     {
         if self.failed {
@@ -322,10 +350,13 @@ impl<T: Mrdt, D: Disk + Drop, A: Address> Core<T, D, A> {
         Ok(made.forked)
     }
 
-    /// Hands the disk back. It makes no device call, and takes no memory.
+    /// Hands the disk back. It makes no device call, and takes no memory. Each image stands for what `moves` says.
     pub fn close(self) -> D
         ensures same { result ≡ self.disk }
+        ensures valid { IsFullyValid (fix T.meaning self.limits A.address) self.history }
         ensures stands { self.failed ≡ false → AllStand (fix T.meaning self.limits A.address) self.history (D.may_leave result) }
+        ensures left { let fixed = fix T.meaning self.limits A.address in
+            (c : Files) → D.may_leave result c → MayBeLeft fixed self.history c }
     {
         self.disk
     }

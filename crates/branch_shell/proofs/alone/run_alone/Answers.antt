@@ -1,44 +1,48 @@
-use Rattle.std.proofs.Common.{◌≡◌, map, inl, subst}
+-- Each command that needs no threads, by the words that say it.
+use Rattle.std.proofs.Common.{◌≡◌, map, inl}
 use Rattle.std.specs.String.{string_bytes}
-use Rattle.branch_disk.specs.Moments.{started, weakened}
+use Rattle.branch_disk.specs.Moments.{weakened}
 use Rattle.branch_doc.specs.Document.{document}
 use Rattle.branch_names.specs.declared.limits.Limits.{Limits}
+use Rattle.branch_command.specs.Commands.{Init, Script, Check, Generate, Help}
 use Rattle.branch_command.specs.Numbers.{AreLimits}
 use Rattle.branch_command.specs.Work.{Work}
-use Rattle.branch_shell.specs.declared.status.Status.TheVariants.{ReadFault, DiskFault, Memory}
-use Rattle.branch_shell.specs.Stores.{ReadsAsNoneOrEmpty}
+use Rattle.branch_shell.specs.declared.status.Status.TheVariants.{ReadFault, DiskFault}
+use Rattle.branch_shell.specs.Generated.{SaysWork}
+use Rattle.branch_shell.specs.Stores.{ReadsAsNoneOrEmpty, SaysRefused}
 use Rattle.branch_shell.specs.Alone.{command_alone}
+use Rattle.branch_shell.specs.Ran.{LeavesInit}
 use Rattle.branch_shell.proofs.Inits.{empty_map, none_or_empty_map}
-use Rattle.branch_shell.proofs.Said.{said_init, said_script, said_check, said_generate, said_help, limits_said, same_work}
-use Rattle.branch_shell.proofs.Runs.{init_wrote, check_wrote, work_wrote, script_behind, help_wrote, memory_wrote}
-use Rattle.branch_shell.specs.Generated.{drawn_lines, SurvivesWork}
-use Rattle.branch_shell.proofs.Scripts.{crashes_nothing}
-use Rattle.branch_shell.proofs.Works.{work_undone}
+use Rattle.branch_shell.proofs.Said.{said_init, said_script, said_check, said_generate, said_help, limits_said}
+use Rattle.branch_shell.proofs.Runs.{no_usage, once_usage, said_behind, said_ran, init_ran, check_ran, help_ran, memory_ran}
 use Rattle.branch_shell.proofs.alone.run_alone.Goals as goal
 
-pub returns-in-Ok-Init-clause-wrote : goal.returns-in-Ok-Init-clause-wrote
-returns-in-Ok-Init-clause-wrote g c =
-    let words = command_alone (map string_bytes c.args.words.now) in
-    let said = said_init words c.in-Ok-Init.field-0 c.in-Ok-Init.limits c.in-Ok-Init.field-0-is c.in-Ok-Init.ensures.read in
-    init_wrote g.A.Address.address (g.D.Disk.contents c.args.disk) words said.0 said.1 c.run_init.result.0 (g.S.Source.left c.args.source.now) (g.K.Sink.given c.args.sink.now) (g.K.Sink.given c.run_init.new.sink) c.run_init.ensures.wrote
-
-pub returns-in-Ok-Init-clause-init_crashes : goal.returns-in-Ok-Init-clause-init_crashes
-returns-in-Ok-Init-clause-init_crashes g c numbers is empty =
+pub returns-in-Ok-Init-clause-ran : goal.returns-in-Ok-Init-clause-ran
+returns-in-Ok-Init-clause-ran g c command is =
     let d = g.D.Disk in
+    let laws = g.met.D.Disk in
     let address = g.A.Address.address in
     let words = command_alone (map string_bytes c.args.words.now) in
     let limits = c.in-Ok-Init.limits in
-    let are = limits_said words c.in-Ok-Init.field-0 limits c.in-Ok-Init.field-0-is c.in-Ok-Init.ensures.read numbers is in
-    weakened d.moment d.left_since c.args.disk c.run_init.result.1 (ReadsAsNoneOrEmpty document address (λ (l : Limits). l ≡ limits)) (ReadsAsNoneOrEmpty document address (AreLimits numbers)) (c.run_init.ensures.any_moment empty)
-    (none_or_empty_map document address (λ (l : Limits). l ≡ limits) (AreLimits numbers) are)
-
-pub returns-in-Ok-Init-clause-init_made : goal.returns-in-Ok-Init-clause-init_made
-returns-in-Ok-Init-clause-init_made g c numbers is done f left =
-    let address = g.A.Address.address in
-    let words = command_alone (map string_bytes c.args.words.now) in
-    let limits = c.in-Ok-Init.limits in
-    let are = limits_said words c.in-Ok-Init.field-0 limits c.in-Ok-Init.field-0-is c.in-Ok-Init.ensures.read numbers is in
-    empty_map document address (λ (l : Limits). l ≡ limits) (AreLimits numbers) are f (c.run_init.ensures.made done f left)
+    let said = said_init words c.in-Ok-Init.field-0 limits c.in-Ok-Init.field-0-is c.in-Ok-Init.ensures.read in
+    let numbers = said.0 in
+    let are = limits_said words c.in-Ok-Init.field-0 limits c.in-Ok-Init.field-0-is c.in-Ok-Init.ensures.read numbers said.1 in
+    let run = c.run_init.ensures in
+    let old = c.args.disk in
+    let new = c.run_init.result.1 in
+    let status = c.run_init.result.0 in
+    let left = g.S.Source.left c.args.source.now in
+    let given = g.K.Sink.given c.args.sink.now in
+    let gave = g.K.Sink.given c.run_init.new.sink in
+    let is_so : Limits → Type 0 = λ l. l ≡ limits in
+    let leaves : LeavesInit d address (AreLimits numbers) old new status = record {
+      any_moment = λ empty. weakened d.moment d.left_since old new (ReadsAsNoneOrEmpty document address is_so) (ReadsAsNoneOrEmpty document address (AreLimits numbers))
+          (run.any_moment empty) (none_or_empty_map document address is_so (AreLimits numbers) are);
+      made = λ done f image. empty_map document address is_so (AreLimits numbers) are f (run.made done f image);
+      kept = run.kept;
+    } in
+    said_ran address d laws.counts_now laws.only_now words (Init numbers) command said.1 is old new left left given gave status
+    (init_ran address d laws.counts_now laws.only_now old new status left given gave numbers run.wrote leaves run.refused)
 
 pub returns-in-Ok-Init-clause-reason : goal.returns-in-Ok-Init-clause-reason
 returns-in-Ok-Init-clause-reason g c = c.run_init.ensures.reason (g.S.Source.faults c.args.source.now)
@@ -46,25 +50,48 @@ returns-in-Ok-Init-clause-reason g c = c.run_init.ensures.reason (g.S.Source.fau
 pub returns-in-Ok-Init-clause-behind_disk : goal.returns-in-Ok-Init-clause-behind_disk
 returns-in-Ok-Init-clause-behind_disk g c command is fault = inl (c.run_init.ensures.no_fault fault)
 
+pub returns-in-Ok-Script-clause-usage : goal.returns-in-Ok-Script-clause-usage
+returns-in-Ok-Script-clause-usage g c usage =
+    let e = c.run_script.ensures.ran in
+    absurd (no_usage g.A.Address.address (g.D.Disk.contents c.args.disk) (g.S.Source.left c.run_script.new.source) c.run_script.result.0 e.0 e.1 e.4.wrote usage)
+
+pub returns-in-Ok-Script-clause-ran : goal.returns-in-Ok-Script-clause-ran
+returns-in-Ok-Script-clause-ran g c command is =
+    let laws = g.met.D.Disk in
+    let words = command_alone (map string_bytes c.args.words.now) in
+    let said = said_script words c.in-Ok-Script.field-0 c.in-Ok-Script.field-0-is c.in-Ok-Script.ensures.read in
+    said_ran g.A.Address.address g.D.Disk laws.counts_now laws.only_now words Script command said is c.args.disk c.run_script.result.1
+    (g.S.Source.left c.args.source.now) (g.S.Source.left c.run_script.new.source) (g.K.Sink.given c.args.sink.now) (g.K.Sink.given c.run_script.new.sink)
+    c.run_script.result.0 c.run_script.ensures.ran
+
 pub returns-in-Ok-Script-clause-behind_source : goal.returns-in-Ok-Script-clause-behind_source
 returns-in-Ok-Script-clause-behind_source g c command is fault =
     let words = command_alone (map string_bytes c.args.words.now) in
     let said = said_script words c.in-Ok-Script.field-0 c.in-Ok-Script.field-0-is c.in-Ok-Script.ensures.read in
-    script_behind g.A.Address.address (g.D.Disk.contents c.args.disk) words said ReadFault (g.S.Source.left c.args.source.now) (g.S.Source.left c.run_script.new.source) (g.K.Sink.given c.args.sink.now) (g.K.Sink.given c.run_script.new.sink)
-    (g.S.Source.faults c.run_script.new.source ≡ g.S.Source.faults c.args.source.now) (c.run_script.ensures.behind_source fault) command is
+    said_behind g.A.Address.address (g.D.Disk.contents c.args.disk) words Script command said is ReadFault
+    (g.S.Source.left c.args.source.now) (g.S.Source.left c.run_script.new.source) (g.K.Sink.given c.args.sink.now) (g.K.Sink.given c.run_script.new.sink)
+    (g.S.Source.faults c.run_script.new.source ≡ g.S.Source.faults c.args.source.now) (c.run_script.ensures.behind_source fault)
 
 pub returns-in-Ok-Script-clause-behind_disk : goal.returns-in-Ok-Script-clause-behind_disk
 returns-in-Ok-Script-clause-behind_disk g c command is fault =
     let words = command_alone (map string_bytes c.args.words.now) in
     let said = said_script words c.in-Ok-Script.field-0 c.in-Ok-Script.field-0-is c.in-Ok-Script.ensures.read in
-    script_behind g.A.Address.address (g.D.Disk.contents c.args.disk) words said DiskFault (g.S.Source.left c.args.source.now) (g.S.Source.left c.run_script.new.source) (g.K.Sink.given c.args.sink.now) (g.K.Sink.given c.run_script.new.sink)
-    (g.D.Disk.faults c.run_script.result.1 ≡ g.D.Disk.faults c.args.disk) (c.run_script.ensures.behind_disk fault) command is
+    said_behind g.A.Address.address (g.D.Disk.contents c.args.disk) words Script command said is DiskFault
+    (g.S.Source.left c.args.source.now) (g.S.Source.left c.run_script.new.source) (g.K.Sink.given c.args.sink.now) (g.K.Sink.given c.run_script.new.sink)
+    (g.D.Disk.faults c.run_script.result.1 ≡ g.D.Disk.faults c.args.disk) (c.run_script.ensures.behind_disk fault)
 
-pub returns-in-Ok-Check-clause-wrote : goal.returns-in-Ok-Check-clause-wrote
-returns-in-Ok-Check-clause-wrote g c =
+pub returns-in-Ok-Check-clause-ran : goal.returns-in-Ok-Check-clause-ran
+returns-in-Ok-Check-clause-ran g c command is =
+    let laws = g.met.D.Disk in
     let words = command_alone (map string_bytes c.args.words.now) in
     let said = said_check words c.in-Ok-Check.field-0 c.in-Ok-Check.field-0-is c.in-Ok-Check.ensures.read in
-    check_wrote g.A.Address.address (g.D.Disk.contents c.args.disk) words said c.run_check.result.0 (g.S.Source.left c.args.source.now) (g.K.Sink.given c.args.sink.now) (g.K.Sink.given c.run_check.new.sink) c.run_check.ensures.wrote
+    let run = c.run_check.ensures in
+    let left = g.S.Source.left c.args.source.now in
+    let given = g.K.Sink.given c.args.sink.now in
+    let gave = g.K.Sink.given c.run_check.new.sink in
+    said_ran g.A.Address.address g.D.Disk laws.counts_now laws.only_now words Check command said is c.args.disk c.run_check.result.1 left left given gave c.run_check.result.0
+    (check_ran g.A.Address.address g.D.Disk laws.counts_now laws.only_now c.args.disk c.run_check.result.1 c.run_check.result.0 left given gave run.wrote
+    (record { any_moment = run.any_moment; keeps = λ done store holds. run.keeps done holds.files store holds.told holds.reads }))
 
 pub returns-in-Ok-Check-clause-reason : goal.returns-in-Ok-Check-clause-reason
 returns-in-Ok-Check-clause-reason g c = c.run_check.ensures.reason (g.S.Source.faults c.args.source.now)
@@ -72,21 +99,22 @@ returns-in-Ok-Check-clause-reason g c = c.run_check.ensures.reason (g.S.Source.f
 pub returns-in-Ok-Check-clause-behind_disk : goal.returns-in-Ok-Check-clause-behind_disk
 returns-in-Ok-Check-clause-behind_disk g c command is fault = inl (c.run_check.ensures.no_fault fault)
 
-pub returns-in-Ok-Generate-clause-wrote : goal.returns-in-Ok-Generate-clause-wrote
-returns-in-Ok-Generate-clause-wrote g c =
-    let words = command_alone (map string_bytes c.args.words.now) in
+pub returns-in-Ok-Generate-clause-usage : goal.returns-in-Ok-Generate-clause-usage
+returns-in-Ok-Generate-clause-usage g c usage =
+    let told = g.D.Disk.contents c.args.disk in
     let work : Work = record { steps = c.in-Ok-Generate.steps; number = c.in-Ok-Generate.number } in
-    let said = said_generate words c.in-Ok-Generate.field-0 c.in-Ok-Generate.steps c.in-Ok-Generate.number c.in-Ok-Generate.field-0-is c.in-Ok-Generate.ensures.read in
-    work_wrote g.A.Address.address (g.D.Disk.contents c.args.disk) words work said c.run_generate.result.0 (g.S.Source.left c.args.source.now) (g.K.Sink.given c.args.sink.now) (g.K.Sink.given c.run_generate.new.sink) c.run_generate.ensures.wrote
+    let e = c.run_generate.ensures.ran (g.S.Source.left c.args.source.now) in
+    absurd (once_usage (SaysWork g.A.Address.address told work) (SaysRefused document g.A.Address.address told) c.run_generate.result.0 e.1 e.4.wrote.1 usage)
 
-pub returns-in-Ok-Generate-clause-generate_crashes : goal.returns-in-Ok-Generate-clause-generate_crashes
-returns-in-Ok-Generate-clause-generate_crashes g c other is store holds =
-    let d = g.D.Disk in
+pub returns-in-Ok-Generate-clause-ran : goal.returns-in-Ok-Generate-clause-ran
+returns-in-Ok-Generate-clause-ran g c command is =
+    let laws = g.met.D.Disk in
     let words = command_alone (map string_bytes c.args.words.now) in
     let work : Work = record { steps = c.in-Ok-Generate.steps; number = c.in-Ok-Generate.number } in
     let said = said_generate words c.in-Ok-Generate.field-0 c.in-Ok-Generate.steps c.in-Ok-Generate.number c.in-Ok-Generate.field-0-is c.in-Ok-Generate.ensures.read in
-    subst (λ (w : Work). SurvivesWork d.may_leave d.moment d.left_since g.A.Address.address store (drawn_lines w) c.args.disk c.run_generate.result.1 c.run_generate.result.0)
-    (same_work words work other said is) (c.run_generate.ensures.crashes store holds)
+    let left = g.S.Source.left c.args.source.now in
+    said_ran g.A.Address.address g.D.Disk laws.counts_now laws.only_now words (Generate work) command said is c.args.disk c.run_generate.result.1 left left
+    (g.K.Sink.given c.args.sink.now) (g.K.Sink.given c.run_generate.new.sink) c.run_generate.result.0 (c.run_generate.ensures.ran left)
 
 pub returns-in-Ok-Generate-clause-reason : goal.returns-in-Ok-Generate-clause-reason
 returns-in-Ok-Generate-clause-reason g c = c.run_generate.ensures.reason (g.S.Source.faults c.args.source.now)
@@ -94,25 +122,18 @@ returns-in-Ok-Generate-clause-reason g c = c.run_generate.ensures.reason (g.S.So
 pub returns-in-Ok-Generate-clause-behind_disk : goal.returns-in-Ok-Generate-clause-behind_disk
 returns-in-Ok-Generate-clause-behind_disk g c command is fault = inl (c.run_generate.ensures.no_fault fault)
 
-pub returns-in-Ok-Tell-clause-wrote : goal.returns-in-Ok-Tell-clause-wrote
-returns-in-Ok-Tell-clause-wrote g c =
+pub returns-in-Ok-Tell-clause-ran : goal.returns-in-Ok-Tell-clause-ran
+returns-in-Ok-Tell-clause-ran g c command is =
+    let laws = g.met.D.Disk in
     let words = command_alone (map string_bytes c.args.words.now) in
     let said = said_help words c.in-Ok-Tell.field-0 c.in-Ok-Tell.text c.in-Ok-Tell.field-0-is c.in-Ok-Tell.ensures.read in
-    help_wrote g.A.Address.address (g.D.Disk.contents c.args.disk) words said c.as_bytes.result.now c.say.result (g.S.Source.left c.args.source.now) (g.K.Sink.given c.args.sink.now) (g.K.Sink.given c.say.new.sink)
-    (g.K.Sink.faults c.args.sink.now) (g.K.Sink.faults c.say.new.sink) c.say.ensures
+    let left = g.S.Source.left c.args.source.now in
+    let given = g.K.Sink.given c.args.sink.now in
+    let gave = g.K.Sink.given c.say.new.sink in
+    said_ran g.A.Address.address g.D.Disk laws.counts_now laws.only_now words Help command said is c.args.disk c.args.disk left left given gave c.say.result
+    (help_ran g.A.Address.address g.D.Disk laws.counts_now laws.only_now c.args.disk c.as_bytes.result.now c.say.result left given gave
+    (g.K.Sink.faults c.args.sink.now) (g.K.Sink.faults c.say.new.sink) c.say.ensures)
 
-pub returns-in-Err-Memory-clause-wrote : goal.returns-in-Err-Memory-clause-wrote
-returns-in-Err-Memory-clause-wrote g c command is = memory_wrote g.A.Address.address (g.D.Disk.contents c.args.disk) (g.S.Source.left c.args.source.now) (g.K.Sink.given c.args.sink.now) command
-
-pub returns-in-Err-Memory-clause-script_crashes : goal.returns-in-Err-Memory-clause-script_crashes
-returns-in-Err-Memory-clause-script_crashes g c is store holds =
-    let d = g.D.Disk in
-    let laws = g.met.D.Disk in
-    crashes_nothing g.A.Address.address d.contents d.may_leave d.moment d.left_since laws.counts_now c.args.disk store (g.S.Source.left c.args.source.now) (g.K.Sink.given c.args.sink.now) Memory holds (λ e. cc)
-    (started d.moment d.left_since c.args.disk (d.may_leave c.args.disk) (laws.only_now c.args.disk))
-
-pub returns-in-Err-Memory-clause-generate_crashes : goal.returns-in-Err-Memory-clause-generate_crashes
-returns-in-Err-Memory-clause-generate_crashes g c work is store holds =
-    let d = g.D.Disk in
-    work_undone g.A.Address.address d.contents d.may_leave d.moment d.left_since g.met.D.Disk.counts_now c.args.disk c.args.disk store (drawn_lines work) Memory holds
-    (started d.moment d.left_since c.args.disk (d.may_leave c.args.disk) (g.met.D.Disk.only_now c.args.disk)) (λ e. cc)
+pub returns-in-Err-Memory-clause-ran : goal.returns-in-Err-Memory-clause-ran
+returns-in-Err-Memory-clause-ran g c command is =
+    memory_ran g.A.Address.address g.D.Disk g.met.D.Disk.counts_now g.met.D.Disk.only_now c.args.disk (g.S.Source.left c.args.source.now) (g.K.Sink.given c.args.sink.now) command

@@ -6,12 +6,14 @@ use Rattle.parallel_clients.specs.Sessions.{stage_of}
 use Rattle.parallel_clients.proofs.Machines.{full-answers}
 use Rattle.branch_front.proofs.Prefixes.{prefix_self}
 use Rattle.parallel_clients.proofs.Single.{plays-asked}
+use Rattle.parallel_clients.proofs.Turned.{look-there}
 use Rattle.parallel_clients.proofs.client.Client.ask.Goals as goal
 
 pub returns-in-Ok-ask-clause-plays : goal.returns-in-Ok-ask-clause-plays
 returns-in-Ok-ask-clause-plays g c = λ places.
     plays-asked g.T.Plain.op_of (stage_of c.args.pass.now c.args.sessions.now.entries places) (stage_of c.look.new.pass c.args.sessions.now.entries places)
-    c.args.pass.now c.look.new.pass (prefix_self c.args.pass.now.moves) (prefix_self c.look.new.pass.moves) places places refl refl refl c.look.ensures.prefix refl c.args.branch.now c.args.query.now
+    c.args.pass.now c.look.new.pass (prefix_self c.args.pass.now.moves) (prefix_self c.look.new.pass.moves) places places refl refl c.look.ensures.prefix refl refl c.args.branch.now c.args.query.now
+    (look-there g.T.Mrdt.meaning g.N.Named.limits c.look.new.pass.moves c.args.branch.now c.in-Ok.seen.branch c.in-Ok.seen.head c.in-Ok.ensures.sees)
 
 pub returns-in-Err-UnknownBranch-clause-stopped : goal.returns-in-Err-UnknownBranch-clause-stopped
 returns-in-Err-UnknownBranch-clause-stopped g c =

@@ -39,5 +39,5 @@ returns-in-Err-NameTaken-clause-plays g c =
     let places = c.args.places.now.items in
     let refused = rw c.in-Err-NameTaken.field-0-is at c.in-Err-NameTaken.ensures.refused in
     let number = c.in-Err-NameTaken.field-0-0 in
-    plays-taken g.T.Plain.op_of (stage_of mid sessions places) (stage_of after sessions places) mid after (prefix_self mid.moves) (prefix_self after.moves) places places refl refl refl c.fork.ensures.prefix refl name from
-    (number, fork-has (fix g.T.Mrdt.meaning g.N.Named.limits g.A.Address.address) after.moves name from number refused)
+    plays-taken g.T.Plain.op_of (stage_of mid sessions places) (stage_of after sessions places) mid after (prefix_self mid.moves) (prefix_self after.moves) places places refl refl c.fork.ensures.prefix refl refl name from
+    (fork-has (fix g.T.Mrdt.meaning g.N.Named.limits g.A.Address.address) after.moves name from number refused)

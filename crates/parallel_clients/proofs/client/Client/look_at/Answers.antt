@@ -1,5 +1,6 @@
 -- The sessions after a look.
 use Rattle.parallel_clients.proofs.Sessioned.{sessions_later, sessions-put, sessions-kept, session-looked, sights-put}
+use Rattle.parallel_clients.proofs.Turned.{look-there}
 use Rattle.parallel_clients.proofs.client.Client.look_at.Goals as goal
 
 pub returns-in_err-seen-clause-sessions : goal.returns-in_err-seen-clause-sessions
@@ -16,6 +17,9 @@ returns-in-Ok-clause-sessions g c =
 
 pub returns-in-Ok-clause-sees : goal.returns-in-Ok-clause-sees
 returns-in-Ok-clause-sees g c = sights-put c.args.sessions.now.entries c.set_session.new.sessions.entries c.args.session.now (record { branch = c.args.branch.now; seen = c.in_ok-seen.seen }) c.in-Ok.ensures.put
+
+pub returns-in-Ok-clause-there : goal.returns-in-Ok-clause-there
+returns-in-Ok-clause-there g c = look-there g.T.Mrdt.meaning g.N.Named.limits c.look.new.pass.moves c.args.branch.now c.in_ok-seen.seen.branch c.in_ok-seen.seen.head c.in_ok-seen.ensures.sees
 
 pub returns-in-Err-clause-sessions : goal.returns-in-Err-clause-sessions
 returns-in-Err-clause-sessions g c =

@@ -59,4 +59,4 @@ returns-in-Same-clause-plays g c =
     let done : HasSame (sights_of c.args.sessions.now.entries session) c.args.from.now mid after places noted =
     subst (λ sights. HasSame (sights session) c.args.from.now mid after places noted) wait.sights tried in
     plays-same g.T.Plain.op_of (stage_of c.args.pass.now c.args.sessions.now.entries c.args.places.now.items) (stage_of after c.loop.sessions.entries noted)
-    mid after wait.seen (prefix_self after.moves) places noted (sym wait.noted) refl wait.sights c.try_merge.ensures.prefix done.stayed.noted session c.args.from.now done.branch done.sees done.reached
+    mid after wait.seen (prefix_self after.moves) places noted (sym wait.noted) refl c.try_merge.ensures.prefix done.stayed.noted wait.sights session c.args.from.now done.branch done.sees done.reached

@@ -1,12 +1,11 @@
 -- A try to merge, by what became of the pair, its preparation and its landing.
-use Rattle.std.proofs.Common.{◌≡◌, inl, sym, Some, refl}
+use Rattle.std.proofs.Common.{◌≡◌, sym, Some, refl}
 use Rattle.branch_history.specs.Steps as machine
 use Rattle.branch_machine.specs.Fixed.{fix}
 use Rattle.parallel_clients.specs.Outcomes.{setting}
 use Rattle.parallel_clients.specs.Sessions.{session_named, sights_of}
-use Rattle.parallel_clients.proofs.Machines.{full-answers}
 use Rattle.parallel_clients.proofs.Sessioned.{sight-found}
-use Rattle.parallel_clients.proofs.Mergings.{stayed-earlier, merge-same, merge-unprepared, merge-begins, merge-unlanded, merge-tried}
+use Rattle.parallel_clients.proofs.Mergings.{stayed-earlier, merge-unknown, merge-same, merge-unprepared, merge-begins, merge-unlanded, merge-tried}
 use Rattle.parallel_clients.proofs.client.Client.try_merge.Goals as goal
 
 pub pair-requires-clause-history : goal.pair-requires-clause-history
@@ -25,10 +24,13 @@ pair-requires-clause-limits g c κs within =
 
 pub returns-in-Err-UnknownBranch-clause-stopped : goal.returns-in-Err-UnknownBranch-clause-stopped
 returns-in-Err-UnknownBranch-clause-stopped g c =
-    let from = c.args.from.now in
+    let s = c.in-Some.at.now in
+    let sessions = c.args.sessions.now.entries in
+    let session = c.args.session.now in
+    let found : session_named sessions session ≡ Some s = sym c.in-Some.ensures.value in
     let refused = rw c.in-Err-UnknownBranch.field-0-is at c.in-Err-UnknownBranch.ensures.refused in
     record {
-      why = inl (full-answers (fix g.T.Mrdt.meaning g.N.Named.limits g.A.Address.address) c.pair.new.pass.moves (machine.Look from) (machine.Refused (machine.UnknownBranch from)) refused.1);
+      why = merge-unknown (setting (fix g.T.Mrdt.meaning g.N.Named.limits g.A.Address.address) g.T.Plain.op_of g.N.Named.opened) c.pair.new.pass.moves (sights_of sessions) session c.args.from.now s.branch (sight-found sessions session s found) refused.1;
       stayed = record { rest = c.pair.ensures.rest; noted = refl };
     }
 

@@ -3,7 +3,7 @@ use Rattle.std.proofs.Common.{sym, ◌∙◌, ap}
 use Rattle.branch_disk.specs.Moments.{now_too}
 use Rattle.branch_history.specs.declared.moves.Move.{Move}
 use Rattle.store_core.specs.Views.{StoreView}
-use Rattle.store_core.proofs.Landings.{waits_so, moves_so, made_so, leaves_so, valid_so}
+use Rattle.store_core.proofs.Landings.{waits_so, moves_so, made_so, leaves_so, valid_so, exactly_so, torn_so}
 use Rattle.store_core.proofs.store.Core.fork.Goals as goal
 
 pub put-requires-clause-waits : goal.put-requires-clause-waits
@@ -32,3 +32,12 @@ returns-in_default-clause-refused g c = (
 pub returns-in_default-clause-fault_valid : goal.returns-in_default-clause-fault_valid
 returns-in_default-clause-fault_valid g c = λ fault.
     valid_so g.T.Mrdt.meaning g.A.Address.address c.self.inside.recorded _ _ _ _ _ _ c.in_ok-made.ensures.forked.1 _ _ _ _ c.self.view_is c.put.ensures.valid
+
+pub returns-clause-exact : goal.returns-clause-exact
+returns-clause-exact g c =
+    exactly_so g.T.Mrdt.meaning g.A.Address.address c.self.inside.recorded _ _ _ _ _ _ c.in_ok-made.ensures.forked.1 _ _ _ _ c.self.view_is
+    g.D.Disk.contents _ _ c.in-Ok.ensures.settled c.in-Ok.ensures.exact
+
+pub returns-in_default-clause-torn : goal.returns-in_default-clause-torn
+returns-in_default-clause-torn g c = λ fault.
+    torn_so g.T.Mrdt.meaning g.A.Address.address c.self.inside.recorded _ _ _ _ _ _ c.in_ok-made.ensures.forked.1 _ _ _ _ c.self.view_is g.D.Disk.contents _ c.put.ensures.torn

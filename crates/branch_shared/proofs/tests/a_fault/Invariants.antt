@@ -1,4 +1,0 @@
-use Rattle.branch_shared.proofs.tests.a_fault.Given as goal
-
-abbrev pub ghosts-fails : goal.ghosts-fails
-ghosts-fails g a = record { table = a.blank.table; begun = a.blank.core.history; limits = a.blank.core.limits; parts = a.blank.parts; opened = a.blank.opened }

@@ -1,4 +1,0 @@
-use Rattle.branch_shared.proofs.tests.two_threads.Given as goal
-
-abbrev pub ghosts-in_two_threads : goal.ghosts-in_two_threads
-ghosts-in_two_threads g a = record { table = a.blank.table; begun = a.blank.core.history; limits = a.blank.core.limits; parts = a.blank.parts; opened = a.blank.opened }

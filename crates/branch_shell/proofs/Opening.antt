@@ -1,0 +1,92 @@
+-- A store from its opening on: what is left where it was opened, and where it was not.
+use Rattle.std.proofs.Common.{◌⊎◌, ◌≡◌, ◌≢◌, ℕ, ◌≤◌, List, [], refl, ap, sym, ◌∙◌, inl, inr}
+use Rattle.branch_disk.specs.declared.disk.Disk.{Ghosts}
+use Rattle.branch_disk.specs.Disk.{Files, LeavesOnly}
+use Rattle.branch_disk.specs.Moments.{started, weakened, goes_on, now_too}
+use Rattle.branch_doc.specs.Document.{document}
+use Rattle.branch_files.specs.Reading.{Opens}
+use Rattle.branch_names.specs.declared.limits.Limits.{Limits}
+use Rattle.branch_engine.specs.Play.{History}
+use Rattle.branch_shell.specs.declared.status.Status.{Status}
+use Rattle.branch_shell.specs.declared.status.Status.TheVariants.{Done, Usage, StoreRefused, DiskFault, ReadFault, WriteFault, LineTooLong, InputTooLong, Memory}
+use Rattle.branch_shell.specs.Documents.{DocStore}
+use Rattle.branch_shell.specs.Once.{WroteOnce}
+use Rattle.branch_shell.specs.Ran.{LeavesAsBefore, LeavesAsBeforeOr, HoldsStore, FailsToOpen}
+use Rattle.branch_shell.specs.Stores.{IsOpenedAs, SaysRefused}
+
+module _ (address : List ℕ → List ℕ) {D : Type 0} (disk : Ghosts D)
+    (counts_now : (d : D) (t : ℕ) (c : Files) → t ≤ disk.moment d → disk.may_leave d c → disk.left_since d t c)
+    (only_now : (d : D) (c : Files) → disk.left_since d (disk.moment d) c → disk.may_leave d c) where
+  abbrev stored : Limits → History → DocStore
+  stored limits history = record { limits = limits; history = history }
+
+  -- the store that opening found is the one as which the files read
+  pub store_read : (old : D) (store found : DocStore) → HoldsStore disk address old store
+      → IsOpenedAs document address (disk.contents old) found → found ≡ store
+  store_read old store found holds opened =
+      let same : Opens store.limits store.history ≡ Opens found.limits found.history =
+      opened.only holds.files holds.told (Opens store.limits store.history) holds.reads in
+      let limits : found.limits ≡ store.limits = cc same in
+      let history : found.history ≡ store.history = cc same in
+      ap (λ (l : Limits). stored l found.history) limits ∙ ap (stored store.limits) history
+
+  -- what was left before the opening and at it, and then this
+  pub opened_then : (old mid new : D) (P : Files → Type 0) → LeavesAsBefore disk old mid
+      → LeavesOnly disk.moment disk.left_since mid new P → LeavesAsBeforeOr disk old new P
+  opened_then old mid new P first then =
+      goes_on disk.moment disk.left_since old mid new (λ c. disk.may_leave old c ⊎ P c) P
+      (weakened disk.moment disk.left_since old mid (disk.may_leave old) (λ c. disk.may_leave old c ⊎ P c)
+      first (λ c was. inl was)) then (λ c is. inr is)
+
+  pub only_before : (old new : D) (P : Files → Type 0) → LeavesAsBefore disk old new
+      → LeavesAsBeforeOr disk old new P
+  only_before old new P all =
+      weakened disk.moment disk.left_since old new (disk.may_leave old) (λ c. disk.may_leave old c ⊎ P c)
+      all (λ c was. inl was)
+
+  -- nothing was done
+  pub untouched : (old : D) → LeavesAsBefore disk old old
+  untouched old = started disk.moment disk.left_since old (disk.may_leave old) (only_now old)
+
+  -- files that are refused are no store
+  no_refusal : (old : D) (store : DocStore) (text : List ℕ) → HoldsStore disk address old store
+      → SaysRefused document address (disk.contents old) text → ⊥
+  no_refusal old store text holds says =
+      says.1.no_store holds.files holds.told store.limits store.history holds.reads
+
+  -- what was written of a store that was not opened: nothing
+  no_text : (old : D) (store : DocStore) (status : Status) (text : List ℕ) → HoldsStore disk address old store
+      → WroteOnce (λ whole. ⊥) (SaysRefused document address (disk.contents old)) status text
+      → (text ≡ []) × ((status ≡ DiskFault) ⊎ (status ≡ Memory))
+  no_text old store Done text holds w = absurd w
+  no_text old store Usage text holds w = absurd w
+  no_text old store StoreRefused text holds w = absurd (no_refusal old store text holds w)
+  no_text old store DiskFault text holds w = (w, inl refl)
+  no_text old store ReadFault text holds w = absurd w
+  no_text old store WriteFault text holds (whole, (inl not), part) = absurd not
+  no_text old store WriteFault text holds (whole, (inr says), part) =
+      absurd (no_refusal old store whole holds says)
+  no_text old store LineTooLong text holds w = absurd w
+  no_text old store InputTooLong text holds w = absurd w
+  no_text old store Memory text holds w = (w, inr refl)
+
+  -- a run that only failed to open its store
+  pub failed : (old new : D) (store : DocStore) (status : Status) (text : List ℕ) → HoldsStore disk address old store
+      → LeavesAsBefore disk old new
+      → WroteOnce (λ whole. ⊥) (SaysRefused document address (disk.contents old)) status text
+      → FailsToOpen disk old new status [] text
+  failed old new store status text holds all w =
+      let none = no_text old store status text holds w in
+      record {
+        why = none.1;
+        no_input = refl;
+        no_text = none.0;
+        left = now_too disk.moment disk.left_since disk.may_leave counts_now old new (disk.may_leave old) all;
+      }
+
+  pub not_done : (old new : D) (status : Status) (text : List ℕ) → FailsToOpen disk old new status [] text
+      → status ≢ Done
+  not_done old new status text fails done = elim fails.why [
+    | inl fault ↦ let bad : Done ≡ DiskFault = sym done ∙ fault in cc
+    | inr short ↦ let bad : Done ≡ Memory = sym done ∙ short in cc
+  ]

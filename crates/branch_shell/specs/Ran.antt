@@ -1,0 +1,132 @@
+-- What a run of a command did: what it wrote of the input that it read, and what a crash leaves of
+-- its disk.
+use Rattle.std.specs.Prelude.{◌≡◌, ◌⊎◌, ℕ, List, [], Some}
+use Rattle.std.specs.declared.option.Option.{Option}
+use Rattle.branch_disk.specs.declared.disk.Disk.{Ghosts}
+use Rattle.branch_disk.specs.Disk.{Files, LeavesOnly}
+use Rattle.branch_doc.specs.Document.{document}
+use Rattle.branch_names.specs.declared.limits.Limits.{Limits}
+use Rattle.branch_script.specs.Lines.{lines_of}
+use Rattle.store_core.specs.Inits.{IsEmpty}
+use Rattle.store_core.specs.Opens.{ReadsAsNone}
+use Rattle.branch_command.specs.Commands.{Said, Init, Script, Check, Generate, Clients, Help}
+use Rattle.branch_command.specs.Numbers.{AreLimits}
+use Rattle.branch_command.specs.Work.{Clients as ClientsGiven}
+use Rattle.branch_shell.specs.declared.status.Status.{Status}
+use Rattle.branch_shell.specs.declared.status.Status.TheVariants.{Done, StoreRefused, DiskFault, Memory}
+use Rattle.branch_shell.specs.Documents.{DocStore, store_after}
+use Rattle.branch_shell.specs.Generated.{drawn_lines, HoldsAfterSome}
+use Rattle.branch_shell.specs.Statuses.{Wrote, Holds, HoldsSome, HoldsAnswered}
+use Rattle.branch_shell.specs.Stores.{ReadsAsStore, ReadsAsEmpty, ReadsAsNoneOrEmpty}
+use Rattle.branch_shell.specs.Together.{RanTogether, ReadsOn}
+
+-- at each moment of a run a crash leaves only what one might have left at its start
+abbrev pub LeavesAsBefore : {D : Type 0} → Ghosts D → D → D → Type 0
+LeavesAsBefore disk old new = LeavesOnly disk.moment disk.left_since old new (disk.may_leave old)
+
+-- at each moment of a run a crash leaves what one might have left at its start, or files of which
+-- this is true
+abbrev pub LeavesAsBeforeOr : {D : Type 0} → Ghosts D → D → D → (Files → Type 0) → Type 0
+LeavesAsBeforeOr disk old new P =
+    LeavesOnly disk.moment disk.left_since old new (λ c. disk.may_leave old c ⊎ P c)
+
+-- the disk tells files that read as the store
+pub record HoldsStore {D : Type 0} (disk : Ghosts D) (address : List ℕ → List ℕ) (old : D)
+    (store : DocStore) : Type 0 where
+  pub files : Files
+  pub told : disk.contents old ≡ Some files
+  pub reads : ReadsAsStore document address store files
+
+-- The store was not opened, since the disk failed or memory was short: then nothing was read and
+-- nothing written, and a crash leaves only what one might have left at the start.
+pub record FailsToOpen {D : Type 0} (disk : Ghosts D) (old new : D) (status : Status)
+    (input text : List ℕ) : Type 0 where
+  pub why : (status ≡ DiskFault) ⊎ (status ≡ Memory)
+  pub no_input : input ≡ []
+  pub no_text : text ≡ []
+  pub left : (c : Files) → disk.may_leave new c → disk.may_leave old c
+
+-- What a crash leaves of the disk of a script over a store: at each moment what one might have left
+-- at the start, or the store after some of the lines that were read; at the end, where the store
+-- was opened, the store after the lines that were answered, or one more; and after `Done` after
+-- all.
+pub record LeavesScript {D : Type 0} (disk : Ghosts D) (address : List ℕ → List ℕ)
+    (store : DocStore) (old new : D) (left : Option (List ℕ)) (status : Status)
+    (input text : List ℕ) : Type 0 where
+  pub any_moment : LeavesAsBeforeOr disk old new (HoldsSome address store left input)
+  pub ended : FailsToOpen disk old new status input text
+      ⊎ ((c : Files) → disk.may_leave new c → HoldsAnswered address store left input text c)
+  pub complete : status ≡ Done → (c : Files) → disk.may_leave new c
+      → ReadsAsStore document address (store_after address store (lines_of input)) c
+
+-- The same of generated work, whose lines are drawn: at each moment what a crash might have left at
+-- the start, or the store after some of its lines, in order; at the end, where the store was
+-- opened, the latter; and after `Done` after all.
+pub record LeavesWork {D : Type 0} (disk : Ghosts D) (address : List ℕ → List ℕ) (store : DocStore)
+    (lines : List (List ℕ)) (old new : D) (status : Status) (input text : List ℕ) : Type 0 where
+  pub any_moment : LeavesAsBeforeOr disk old new (HoldsAfterSome address store lines)
+  pub ended : FailsToOpen disk old new status input text
+      ⊎ ((c : Files) → disk.may_leave new c → HoldsAfterSome address store lines c)
+  pub complete : status ≡ Done → (c : Files) → disk.may_leave new c
+      → ReadsAsStore document address (store_after address store lines) c
+
+-- What a command leaves that changes a store: this, of each store as which the files read at the
+-- start; and where they read as none, only what a crash might have left before.
+pub record LeavesStore {D : Type 0} (disk : Ghosts D) (address : List ℕ → List ℕ) (old new : D)
+    (P : DocStore → Type 0) : Type 0 where
+  pub over : (store : DocStore) → HoldsStore disk address old store → P store
+  pub none : (files : Files) → disk.contents old ≡ Some files → ReadsAsNone document address files
+      → LeavesAsBefore disk old new
+
+-- What `init` leaves: where each image was empty, no store or one of no moves at each moment; after
+-- `Done` the latter; and of files with a byte only what a crash might have left before.
+pub record LeavesInit {D : Type 0} (disk : Ghosts D) (address : List ℕ → List ℕ)
+    (P : Limits → Type 0) (old new : D) (status : Status) : Type 0 where
+  pub any_moment : ((c : Files) → disk.may_leave old c → IsEmpty c)
+      → LeavesOnly disk.moment disk.left_since old new (ReadsAsNoneOrEmpty document address P)
+  pub made : status ≡ Done → (c : Files) → disk.may_leave new c → ReadsAsEmpty document address P c
+  pub kept : (files : Files) → disk.contents old ≡ Some files → ¬ IsEmpty files
+      → LeavesAsBefore disk old new
+
+-- What `check` leaves: only what a crash might have left before; and after `Done` the store,
+-- whatever might have been left of it.
+pub record LeavesChecked {D : Type 0} (disk : Ghosts D) (address : List ℕ → List ℕ) (old new : D)
+    (status : Status) : Type 0 where
+  pub any_moment : LeavesAsBefore disk old new
+  pub keeps : status ≡ Done → (store : DocStore) → HoldsStore disk address old store → (c : Files)
+      → disk.may_leave new c → ReadsAsStore document address store c
+
+-- What clients leave: after `Done` the store with the history whose report was written; and however
+-- they end the store with or without moves behind its history.
+pub record LeavesTogether {D : Type 0} (disk : Ghosts D) (address : List ℕ → List ℕ)
+    (clients : ClientsGiven) (old new : D) (status : Status) (text : List ℕ) : Type 0 where
+  pub ran : status ≡ Done → RanTogether disk.may_leave address (disk.contents old) clients new text
+  pub crashes : (store : DocStore) → Holds disk.contents disk.may_leave address old store
+      → (c : Files) → disk.may_leave new c → ReadsOn address store c
+  pub none : (files : Files) → disk.contents old ≡ Some files → ReadsAsNone document address files
+      → LeavesAsBefore disk old new
+
+-- what a crash leaves of the disk of a command
+abbrev pub Leaves : {D : Type 0} → Ghosts D → (List ℕ → List ℕ) → Said → D → D → Option (List ℕ)
+    → Status → List ℕ → List ℕ → Type 0
+Leaves disk address (Init numbers) old new left status input text =
+    LeavesInit disk address (AreLimits numbers) old new status
+Leaves disk address Script old new left status input text =
+    LeavesStore disk address old new
+    (λ store. LeavesScript disk address store old new left status input text)
+Leaves disk address Check old new left status input text = LeavesChecked disk address old new status
+Leaves disk address (Generate work) old new left status input text =
+    LeavesStore disk address old new
+    (λ store. LeavesWork disk address store (drawn_lines work) old new status input text)
+Leaves disk address (Clients clients) old new left status input text =
+    LeavesTogether disk address clients old new status text
+Leaves disk address Help old new left status input text = new ≡ old
+
+-- What a run of a command did, which ended with this status: what it wrote of the input that it
+-- read, behind which this is left of its source; and what a crash leaves of its disk, of which it
+-- changed nothing where it was refused.
+pub record Ran {D : Type 0} (disk : Ghosts D) (address : List ℕ → List ℕ) (command : Said)
+    (old new : D) (left : Option (List ℕ)) (status : Status) (input text : List ℕ) : Type 0 where
+  pub wrote : Wrote address command (disk.contents old) left status input text
+  pub leaves : Leaves disk address command old new left status input text
+  pub refused : status ≡ StoreRefused → LeavesAsBefore disk old new
