@@ -75,9 +75,11 @@ fn first_other_line(alloc: Global, found: &str, wanted: &str) -> Result<String, 
         let other = rest.next().unwrap_or("");
         if line != other {
             let number = index.saturating_add(1);
-            return format!(in alloc; "its line {number} is `{line}`, and not `{other}`");
+            return format!(in alloc;
+                "line {number} of what it wrote is `{line}`, and not `{other}`"
+            );
         }
     }
     let other = rest.next().unwrap_or("");
-    format!(in alloc; "it wrote no line `{other}`")
+    format!(in alloc; "what it wrote ends before `{other}`")
 }

@@ -51,6 +51,9 @@ pub(crate) fn bytes(alloc: Global, line: usize, word: &str) -> Result<Vec<u8>, F
     }
 }
 
+// How many bytes a line may stand for, at most.
+const MOST: u64 = 16_777_216;
+
 /// So many times the bytes that a word spells.
 pub(crate) fn bytes_times(
     alloc: Global,
@@ -59,6 +62,9 @@ pub(crate) fn bytes_times(
     word: &str,
 ) -> Result<Vec<u8>, Failure> {
     let (count, once) = (number(line, count)?, bytes(alloc, line, word)?);
+    if (once.len() as u64).saturating_mul(count) > MOST || count > MOST {
+        return Err(malformed(line, "a line stands for 16 MiB at most"));
+    }
     let mut all = Vec::new(alloc);
     for _ in 0..count {
         all.extend_from_slice(&once)?;
