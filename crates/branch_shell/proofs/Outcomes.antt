@@ -1,13 +1,13 @@
 -- The lines of clients, what became of these, and what is left of the store on which they worked.
 use Rattle.std.proofs.Common.{suc, ◌≡◌, ℕ, ◌+◌, ◌<◌, List, [], ◌∷◌, ◌++◌, length, take, length-take-le, refl, ap, sym, subst, ◌∙◌, append_assoc, append-nil, inl, inr, arith}
-use Rattle.std.specs.Prelude.{Option, Some, None, IfSome, IsSome, slice_get}
+use Rattle.std.specs.Prelude.{Option, Some, None, IfSome, IsSome, IfOk, OnErr, Result, Ok, Err, slice_get}
 use Rattle.std.specs.Io.KnownBytes.{Appends}
 use Rattle.std.specs.List.{AllByRecursion}
 use mathlib.Core.List.{IsPrefix}
 use Rattle.branch_io.specs.Causes.{Rose}
 use Rattle.branch_disk.specs.Disk.{Files}
 use Rattle.branch_doc.specs.Document.{document}
-use Rattle.branch_doc.specs.Forms.{DocOp, DocReply}
+use Rattle.branch_doc.specs.Forms.{doc_op}
 use Rattle.branch_files.specs.Laws.{ReadsWhatStands}
 use Rattle.branch_history.specs.declared.moves.Move.{Move}
 use Rattle.branch_machine.specs.Validity.{IsFullyValid}
@@ -18,7 +18,7 @@ use Rattle.parallel_clients.specs.declared.outcome.ClientRefusal.{ClientRefusal}
 use Rattle.parallel_clients.specs.declared.outcome.ClientRefusal.TheVariants as refused
 use Rattle.parallel_clients.specs.declared.outcome.Outcome.{Outcome}
 use Rattle.parallel_clients.specs.declared.outcome.Outcome.TheVariants as outcome
-use Rattle.parallel_clients.specs.Outcomes.{Setting}
+use Rattle.parallel_clients.specs.Outcomes.{Setting, setting}
 use Rattle.client_runs.specs.Worked.{HasWorked, HaveWorked}
 use Rattle.store_core.specs.Images.{AllStand, MayBeLeft}
 use Rattle.branch_shell.specs.declared.status.Status.{Status}
@@ -27,7 +27,7 @@ use Rattle.branch_shell.specs.Counts.{HasReason, SaysReason}
 use Rattle.branch_shell.specs.Once.{Answers, WroteOnce}
 use Rattle.branch_shell.specs.Stores.{ReadsAsStore}
 use Rattle.branch_shell.specs.Documents.{DocStore, fixed_of}
-use Rattle.branch_shell.specs.Together.{client_line, both_texts, client_lines, SaysTogether, RanTogether, with_history, ReadsOn, FindsBranch, FindsAll, IsFault, TellsFault, SomeTellFault, StopsFor}
+use Rattle.branch_shell.specs.Together.{client_line, both_texts, client_lines, SaysTogether, RanTogether, with_history, CameTogether, ReadsUpTo, FindsBranch, FindsAll, IsFault, TellsFault, SomeTellFault, StopsFor}
 
 -- two texts that there are
 record BothThere (a b : Option (List ℕ)) (text : List ℕ) : Type 0 where
@@ -136,17 +136,20 @@ module _ {S O R Q A : Type 0} (on : Setting S O R Q A) (old new : List (Move O R
   pub fault_rose : SomeTellFault outcomes → Rose on.opened (on.opened + faults)
   fault_rose some = fault_of_one some.0 some.1 (worked.each some.0 some.1 some.2) some.3
 
--- what may be left of a store reads as it, with or without a move behind its history
-module _ (address : List ℕ → List ℕ) (reads : ReadsWhatStands document) (store : DocStore) (history : History) (grown : IsPrefix store.history history) (valid : IsFullyValid (fixed_of address store) history) where
-  one_move_more : (made : Move DocOp DocReply) → IsPrefix store.history (history ++ made ∷ [])
-  one_move_more made = (grown.0 ++ made ∷ [], sym (append_assoc store.history grown.0 (made ∷ [])) ∙ ap (λ (h : History). h ++ made ∷ []) grown.1)
-
-  pub reads_on : (c : Files) → MayBeLeft (fixed_of address store) history c → ReadsOn address store c
-  reads_on c (inl stands) = (history, grown, reads store.limits address history c valid stands)
-  reads_on c (inr more) = (history ++ more.0 ∷ [], one_move_more more.0, reads store.limits address (history ++ more.0 ∷ []) c more.2 more.1)
+-- what may be left of a store reads as it, after a fault of the disk with or without a move behind its history
+module _ (address : List ℕ → List ℕ) (reads : ReadsWhatStands document) (store : DocStore) (history : History) (valid : IsFullyValid (fixed_of address store) history) where
+  pub reads_failed : (c : Files) → MayBeLeft (fixed_of address store) history c → ReadsUpTo address store history DiskFault c
+  reads_failed c (inl stands) = inl (reads store.limits address history c valid stands)
+  reads_failed c (inr more) = inr (refl, (more.0, reads store.limits address (history ++ more.0 ∷ []) c more.2 more.1))
 
   pub reads_all : (images : Files → Type 0) → AllStand (fixed_of address store) history images → (c : Files) → images c → ReadsAsStore document address (with_history store history) c
   reads_all images stand c left = reads store.limits address history c valid (stand c left)
+
+-- the history that a store came to by clients, or by none
+pub came_together : {E : Type 0} (address : List ℕ → List ℕ) (store : DocStore) (clients : Clients) (history : History) (opened since : ℕ) (r : Result (List Outcome) E) → IsPrefix store.history history → IsFullyValid (fixed_of address store) history
+    → IfOk r (HaveWorked (setting (fixed_of address store) doc_op opened) store.history history since clients.count clients.work.steps clients.work.number) → OnErr r (history ≡ store.history) → CameTogether address store clients history
+came_together address store clients history opened since (Ok outcomes) grown valid worked idle = inr (outcomes, record { opened = opened; since = since; grown = grown; valid = valid; worked = worked })
+came_together address store clients history opened since (Err e) grown valid worked idle = inl idle
 
 -- the counts where the disk's count stays as it was: it may stand at its last value
 pub reason_stays : (success refused : List ℕ → Type 0) (n k0 k1 d0 d1 : ℕ) (g0 g1 : Option (List ℕ)) (status : Status) → Answers success refused status g0 g1 → d1 ≡ d0 → (status ≡ DiskFault → Rose d0 d1)
@@ -171,4 +174,4 @@ all_said success refused status g0 g1 w is = (w.0, w.1, subst (λ (s : Status). 
 -- what clients wrote, without what they left
 pub says_ran : {D : Type 0} (may_leave : D → Files → Type 0) (address : List ℕ → List ℕ) (told : Option Files) (clients : Clients) (new : D) (text : List ℕ)
     → RanTogether may_leave address told clients new text → SaysTogether address told clients text
-says_ran may_leave address told clients new text ran = (ran.0, ran.1, (ran.2.history, ran.2.grown, ran.2.worked))
+says_ran may_leave address told clients new text ran = (ran.0, ran.1, (ran.2.history, ran.2.told))

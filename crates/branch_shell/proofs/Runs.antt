@@ -1,5 +1,5 @@
 -- What a run did of each command, of the words that say it.
-use Rattle.std.proofs.Common.{◌≡◌, ◌⊎◌, ℕ, ◌≤◌, List, [], refl, subst, append-nil, inl, inr}
+use Rattle.std.proofs.Common.{◌≡◌, ◌⊎◌, ℕ, ◌≤◌, List, [], refl, subst, inl, inr}
 use Rattle.std.specs.Prelude.{Option, Some}
 use Rattle.std.specs.Io.KnownBytes.{Appends}
 use Rattle.std.proofs.KnownBytes.{Consumes-nil, Appends-nil}
@@ -17,7 +17,7 @@ use Rattle.branch_shell.specs.Reading.{Exchanges}
 use Rattle.branch_shell.specs.Once.{WroteOnce, Answers, Says}
 use Rattle.branch_shell.specs.Stores.{SaysReady, SaysNotEmpty, SaysReport, SaysRefused, ReadsAsNoneOrEmpty}
 use Rattle.branch_shell.specs.Documents.{DocStore}
-use Rattle.branch_shell.specs.Together.{RanTogether, SaysTogether, ReadsOn}
+use Rattle.branch_shell.specs.Together.{RanTogether, SaysTogether, LeftTogether}
 use Rattle.branch_shell.specs.Statuses.{Wrote, ScriptWrote, Holds}
 use Rattle.branch_shell.specs.Ran.{LeavesAsBefore, LeavesInit, LeavesChecked, Ran}
 use Rattle.branch_shell.proofs.Once.{wrote_map}
@@ -82,7 +82,7 @@ module _ (address : List ℕ → List ℕ) {D : Type 0} (disk : Ghosts D)
 
     pub clients_ran : (clients : ClientsGiven)
         → Answers (RanTogether disk.may_leave address (disk.contents old) clients new) (SaysRefused document address (disk.contents old)) status g0 g1
-        → ((store : DocStore) → Holds disk.contents disk.may_leave address old store → (c : Files) → disk.may_leave new c → ReadsOn address store c)
+        → ((store : DocStore) → Holds disk.contents disk.may_leave address old store → LeftTogether disk.may_leave address store clients status new)
         → ((files : Files) → disk.contents old ≡ Some files → ReadsAsNone document address files → LeavesAsBefore disk old new)
         → (status ≡ StoreRefused → LeavesAsBefore disk old new)
         → Exchanges l l g0 g1 (Ran disk address (Clients clients) old new l status)
@@ -168,7 +168,7 @@ module _ (address : List ℕ → List ℕ) {D : Type 0} (disk : Ghosts D)
           wrote = (refl, refl);
           leaves = record {
             ran = λ done. absurd (cc);
-            crashes = λ store holds c left. (store.history, ([], append-nil store.history), holds.images c left);
+            crashes = λ store holds. record { history = store.history; came = inl refl; reads = λ c left. inl (holds.images c left) };
             none = λ files told none. same;
           };
           refused = λ refused. same;

@@ -18,7 +18,7 @@ use Rattle.branch_shell.specs.Documents.{DocStore, store_after}
 use Rattle.branch_shell.specs.Generated.{drawn_lines, HoldsAfterSome}
 use Rattle.branch_shell.specs.Statuses.{Wrote, Holds, HoldsSome, HoldsAnswered}
 use Rattle.branch_shell.specs.Stores.{ReadsAsStore, ReadsAsEmpty, ReadsAsNoneOrEmpty}
-use Rattle.branch_shell.specs.Together.{RanTogether, ReadsOn}
+use Rattle.branch_shell.specs.Together.{RanTogether, LeftTogether}
 
 -- at each moment of a run a crash leaves only what one might have left at its start
 abbrev pub LeavesAsBefore : {D : Type 0} → Ghosts D → D → D → Type 0
@@ -97,12 +97,13 @@ pub record LeavesChecked {D : Type 0} (disk : Ghosts D) (address : List ℕ → 
       → disk.may_leave new c → ReadsAsStore document address store c
 
 -- What clients leave: after `Done` the store with the history whose report was written; and however
--- they end the store with or without moves behind its history.
+-- they end the store with the history that it came to by them, or after a fault of the disk with one
+-- move more.
 pub record LeavesTogether {D : Type 0} (disk : Ghosts D) (address : List ℕ → List ℕ)
     (clients : ClientsGiven) (old new : D) (status : Status) (text : List ℕ) : Type 0 where
   pub ran : status ≡ Done → RanTogether disk.may_leave address (disk.contents old) clients new text
   pub crashes : (store : DocStore) → Holds disk.contents disk.may_leave address old store
-      → (c : Files) → disk.may_leave new c → ReadsOn address store c
+      → LeftTogether disk.may_leave address store clients status new
   pub none : (files : Files) → disk.contents old ≡ Some files → ReadsAsNone document address files
       → LeavesAsBefore disk old new
 

@@ -1,11 +1,13 @@
 -- Clients that work side by side on one store: what is written of them, and what a crash leaves.
-use Rattle.std.specs.Prelude.{◌≡◌, ℕ, ◌+◌, List, [], ◌∷◌, ◌++◌, codes, length, slice_get, Some, None, option_map}
+use Rattle.std.specs.Prelude.{◌≡◌, ℕ, ◌+◌, ◌⊎◌, List, [], ◌∷◌, ◌++◌, codes, length, slice_get, Some, None, option_map}
 use Rattle.std.specs.declared.option.Option.{Option}
 use mathlib.Core.List.{IsPrefix}
 use Rattle.branch_disk.specs.Disk.{Files}
 use Rattle.branch_doc.specs.Document.{document}
-use Rattle.branch_doc.specs.Forms.{doc_op}
+use Rattle.branch_doc.specs.Forms.{DocOp, DocReply, doc_op}
+use Rattle.branch_history.specs.declared.moves.Move.{Move}
 use Rattle.branch_history.specs.Steps as machine
+use Rattle.branch_machine.specs.Validity.{IsFullyValid}
 use Rattle.branch_print.specs.Texts.{refusal_text, line_end}
 use Rattle.branch_print.specs.Reports.{report_text}
 use Rattle.branch_print.specs.Clients.{client_text, client_done_text}
@@ -62,18 +64,24 @@ pub record TellsClients (outcomes : List Outcome) (history : History) (text : Li
   pub told : client_lines 0 outcomes ≡ Some lines
   pub text_is : text ≡ lines ++ report_text history
 
--- Clients worked on the store, which came to this history, and this is their text. No line tells how many faults the disk had had when the store was opened, and how
--- many since.
-pub record WorkedTogether (address : List ℕ → List ℕ) (store : DocStore) (clients : Clients) (history : History) (text : List ℕ) : Type 0 where
+-- Clients worked on the store, which came to this history. How many faults the disk had had when the store was opened, and how many since, matters only to refusals
+-- that have no line.
+pub record WorkedTogether (address : List ℕ → List ℕ) (store : DocStore) (clients : Clients) (history : History) (outcomes : List Outcome) : Type 0 where
   pub opened : ℕ
   pub since : ℕ
-  pub outcomes : List Outcome
+  pub grown : IsPrefix store.history history
+  pub valid : IsFullyValid (fixed_of address store) history
   pub worked : HaveWorked (setting (fixed_of address store) doc_op opened) store.history history since clients.count clients.work.steps clients.work.number outcomes
+
+-- clients worked on the store, which came to this history, and this is their text
+pub record ToldTogether (address : List ℕ → List ℕ) (store : DocStore) (clients : Clients) (history : History) (text : List ℕ) : Type 0 where
+  pub outcomes : List Outcome
+  pub worked : WorkedTogether address store clients history outcomes
   pub tells : TellsClients outcomes history text
 
--- the text of clients that worked on a store, which came to a history that begins with the store's
+-- the text of clients that worked on a store
 abbrev pub SaysOver : (List ℕ → List ℕ) → DocStore → Clients → List ℕ → Type 0
-SaysOver address store clients text = (history : History) × IsPrefix store.history history × WorkedTogether address store clients history text
+SaysOver address store clients text = (history : History) × ToldTogether address store clients history text
 
 -- the text of clients that worked on the store that opening found
 abbrev pub SaysTogether : (List ℕ → List ℕ) → Option Files → Clients → List ℕ → Type 0
@@ -86,17 +94,28 @@ with_history store history = record { limits = store.limits; history = history }
 -- clients worked on a store and this is their text, and each image of the disk reads as the store with the history that they came to
 pub record RanOver {D : Type 0} (may_leave : D → Files → Type 0) (address : List ℕ → List ℕ) (store : DocStore) (clients : Clients) (new : D) (text : List ℕ) : Type 0 where
   pub history : History
-  pub grown : IsPrefix store.history history
-  pub worked : WorkedTogether address store clients history text
+  pub told : ToldTogether address store clients history text
   pub reads : (c : Files) → may_leave new c → ReadsAsStore document address (with_history store history) c
 
 -- clients worked so on the store that opening found
 abbrev pub RanTogether : {D : Type 0} → (D → Files → Type 0) → (List ℕ → List ℕ) → Option Files → Clients → D → List ℕ → Type 0
 RanTogether may_leave address told clients new text = (store : DocStore) × IsOpenedAs document address told store × RanOver may_leave address store clients new text
 
--- the files read as the store, with or without moves behind its history
-abbrev pub ReadsOn : (List ℕ → List ℕ) → DocStore → Files → Type 0
-ReadsOn address store c = (history : History) × IsPrefix store.history history × ReadsAsStore document address (with_history store history) c
+-- the store came to this history by clients, or has its own still, since none of them began
+abbrev pub CameTogether : (List ℕ → List ℕ) → DocStore → Clients → History → Type 0
+CameTogether address store clients history = (history ≡ store.history) ⊎ ((outcomes : List Outcome) × WorkedTogether address store clients history outcomes)
+
+-- the files read as the store with this history; or with one move more, where the disk failed
+abbrev pub ReadsUpTo : (List ℕ → List ℕ) → DocStore → History → Status → Files → Type 0
+ReadsUpTo address store history status c =
+    ReadsAsStore document address (with_history store history) c
+    ⊎ ((status ≡ DiskFault) × ((made : Move DocOp DocReply) × ReadsAsStore document address (with_history store (history ++ made ∷ [])) c))
+
+-- However clients ended, each image of the disk reads as the store with the history that it came to by them.
+pub record LeftTogether {D : Type 0} (may_leave : D → Files → Type 0) (address : List ℕ → List ℕ) (store : DocStore) (clients : Clients) (status : Status) (new : D) : Type 0 where
+  pub history : History
+  pub came : CameTogether address store clients history
+  pub reads : (c : Files) → may_leave new c → ReadsUpTo address store history status c
 
 -- a client's step was not refused for a branch that is not there
 abbrev pub FindsBranch : ClientRefusal → Type 0

@@ -9,7 +9,7 @@ ghost use Rattle.branch_shell.specs.Once.{Answers};
 ghost use Rattle.branch_shell.specs.Stores.{SaysRefused};
 ghost use Rattle.branch_shell.specs.Documents.{DocStore};
 ghost use Rattle.branch_shell.specs.Statuses.{Holds};
-ghost use Rattle.branch_shell.specs.Together.{FindsBranch, FindsAll, IsFault, TellsFault, SomeTellFault, StopsFor, TellsClients, RanOver, RanTogether, ReadsOn, client_line, client_lines, machine_refusal};
+ghost use Rattle.branch_shell.specs.Together.{FindsBranch, FindsAll, IsFault, TellsFault, SomeTellFault, StopsFor, TellsClients, RanOver, RanTogether, LeftTogether, client_line, client_lines, machine_refusal};
 ghost use Rattle.branch_print.specs.Texts.{refusal_text, line_end};
 
 use crate::answer::{put_report, refuse, say};
@@ -130,7 +130,12 @@ fn together_over<K: Sink, D: Disk + Drop + Send, A: Address + Send, R: Threads +
     requires { core.opened ≡ core.disk }
     ensures wrote { Answers (RanOver D.may_leave A.address (record { limits = core.limits; history = core.history }) (record { count = work.count; work = record { steps = work.steps; number = work.number } }) result.1)
         (λ whole. ⊥) result.0 (K.given sink.old) (K.given sink.new) }
-    ensures survives { (c : Files) → D.may_leave result.1 c → ReadsOn A.address (record { limits = core.limits; history = core.history }) c }
+    ensures survives { LeftTogether D.may_leave A.address
+        (record { limits = core.limits; history = core.history })
+        (record {
+          count = work.count;
+          work = record { steps = work.steps; number = work.number };
+        }) result.0 result.1 }
     ensures reason { (n : ℕ) → HasReason (record { source = n; sink = K.faults sink.old; disk = D.faults core.disk })
         (record { source = n; sink = K.faults sink.new; disk = D.faults result.1 }) result.0 }
     // Where the sink failed, the disk did not.
@@ -163,8 +168,14 @@ pub(crate) fn run_together<
 >(rt: &R, alloc: Global, work: Work, sink: &mut K, disk: D) -> (Status, D)
     ensures wrote { Answers (RanTogether D.may_leave A.address (D.contents disk) (record { count = work.count; work = record { steps = work.steps; number = work.number } }) result.1)
         (SaysRefused document A.address (D.contents disk)) result.0 (K.given sink.old) (K.given sink.new) }
-    // However clients end, the files that are left read as the store with or without moves behind its history.
-    ensures crashes { (store : DocStore) → Holds D.contents D.may_leave A.address disk store → (c : Files) → D.may_leave result.1 c → ReadsOn A.address store c }
+    // However clients end, each image of the disk reads as the store with the history that it came to by them; where the
+    // disk failed, also as it with one move more.
+    ensures crashes { (store : DocStore) → Holds D.contents D.may_leave A.address disk store
+        → LeftTogether D.may_leave A.address store
+        (record {
+          count = work.count;
+          work = record { steps = work.steps; number = work.number };
+        }) result.0 result.1 }
     // Where the files are refused, they read as no store, and a crash leaves only what it might have left at the start.
     ensures refused { result.0 ≡ Status.StoreRefused → LeavesOnly D.moment D.left_since disk result.1 (D.may_leave disk) }
     ensures refused_only { result.0 ≡ Status.StoreRefused → (f : Files) → D.contents disk ≡ Some f → ReadsAsNone document A.address f }

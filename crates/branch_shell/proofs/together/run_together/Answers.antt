@@ -1,5 +1,5 @@
 -- Clients over the store that opening found, and what is left of files that are no store.
-use Rattle.std.proofs.Common.{◌≡◌, ℕ, [], subst, append-nil}
+use Rattle.std.proofs.Common.{◌≡◌, ℕ, refl, subst, inl}
 use Rattle.std.specs.Prelude.{Some}
 use Rattle.branch_disk.specs.Disk.{LeavesOnly}
 use Rattle.branch_disk.specs.Moments.{now_too}
@@ -9,7 +9,7 @@ use Rattle.branch_shell.specs.Counts.{HasReason}
 use Rattle.branch_shell.specs.Refusals.{open_refusal_text}
 use Rattle.branch_shell.specs.Stores.{IsOpenedAs, SaysRefused}
 use Rattle.branch_shell.specs.Documents.{DocStore}
-use Rattle.branch_shell.specs.Together.{RanOver, RanTogether, ReadsOn}
+use Rattle.branch_shell.specs.Together.{RanOver, RanTogether, LeftTogether}
 use Rattle.branch_shell.proofs.Once.{answers_map, says_refused, none_refused, not_behind}
 use Rattle.branch_shell.proofs.Scripts.{same_store}
 use Rattle.branch_shell.proofs.Works.{never_refused}
@@ -28,15 +28,16 @@ returns-in-Ok-clause-wrote g c =
     c.together_over.result.0 (g.K.Sink.given c.args.sink.now) (g.K.Sink.given c.together_over.new.sink) c.together_over.ensures.wrote
 
 pub returns-in-Ok-clause-crashes : goal.returns-in-Ok-clause-crashes
-returns-in-Ok-clause-crashes g c store holds i left =
+returns-in-Ok-clause-crashes g c store holds =
     let d = g.D.Disk in
     let address = g.A.Address.address in
     let core = c.in-Ok.core in
     let opened = c.in-Ok.ensures in
     let found : DocStore = record { limits = core.limits; history = core.history } in
+    let clients : Clients = record { count = c.args.work.count; work = record { steps = c.args.work.steps; number = c.args.work.number } } in
     let is : IsOpenedAs document address (d.contents c.args.disk) found = record { valid = opened.valid; reads = opened.reads; only = opened.only } in
     let same = same_store address d.contents d.may_leave d.moment d.left_since (g.met.D.Disk g.world.𝓛 g.world.𝓜 g.world.𝓡 ((λ s x. x), (λ x. x), (λ x. x), λ x. x)).counts_now c.args.disk store found holds is in
-    subst (λ (s : DocStore). ReadsOn address s i) same (c.together_over.ensures.survives i left)
+    subst (λ (s : DocStore). LeftTogether d.may_leave address s clients c.together_over.result.0 c.together_over.result.1) same c.together_over.ensures.survives
 
 pub returns-in-Ok-clause-refused : goal.returns-in-Ok-clause-refused
 returns-in-Ok-clause-refused g c refused =
@@ -73,10 +74,14 @@ returns-in-Err-clause-wrote g c =
     c.refuse.result (g.K.Sink.given c.args.sink.now) (g.K.Sink.given c.refuse.new.sink) c.refuse.ensures.wrote
 
 pub returns-in-Err-clause-crashes : goal.returns-in-Err-clause-crashes
-returns-in-Err-clause-crashes g c store holds i left =
+returns-in-Err-clause-crashes g c store holds =
     let d = g.D.Disk in
-    let was = now_too d.moment d.left_since d.may_leave (g.met.D.Disk g.world.𝓛 g.world.𝓜 g.world.𝓡 ((λ s x. x), (λ x. x), (λ x. x), λ x. x)).counts_now c.args.disk c.in-Err.disk (d.may_leave c.args.disk) c.in-Err.ensures.any_moment_err i left in
-    (store.history, ([], append-nil store.history), holds.images i was)
+    let counts_now = (g.met.D.Disk g.world.𝓛 g.world.𝓜 g.world.𝓡 ((λ s x. x), (λ x. x), (λ x. x), λ x. x)).counts_now in
+    record {
+      history = store.history;
+      came = inl refl;
+      reads = λ i left. inl (holds.images i (now_too d.moment d.left_since d.may_leave counts_now c.args.disk c.in-Err.disk (d.may_leave c.args.disk) c.in-Err.ensures.any_moment_err i left));
+    }
 
 pub returns-in-Err-clause-refused_only : goal.returns-in-Err-clause-refused_only
 returns-in-Err-clause-refused_only g c refused f told =

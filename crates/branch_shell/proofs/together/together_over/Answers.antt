@@ -1,5 +1,5 @@
 -- Clients over a store that was opened, which may have failed meanwhile.
-use Rattle.std.proofs.Common.{◌≡◌, ◌+◌, ℕ, List, ap, sym, subst, ◌∙◌, arith}
+use Rattle.std.proofs.Common.{◌≡◌, ◌+◌, ℕ, List, ap, sym, subst, ◌∙◌, inl, arith}
 use Rattle.std.specs.Prelude.{IfOk}
 use Rattle.std.specs.List.{AllByRecursion}
 use Rattle.branch_io.specs.Causes.{Rose}
@@ -16,18 +16,24 @@ use Rattle.store_core.specs.Images.{AllStand, MayBeLeft}
 use Rattle.branch_shell.specs.Documents.{DocStore}
 use Rattle.branch_shell.specs.Together.{FindsAll, TellsClients, RanOver}
 use Rattle.branch_shell.proofs.Once.{answers_map}
-use Rattle.branch_shell.proofs.Outcomes.{reads_on, reads_all, finds_all, fault_rose, reason_stays}
+use Rattle.branch_shell.proofs.Outcomes.{reads_failed, reads_all, came_together, finds_all, fault_rose, reason_stays}
 use Rattle.branch_shell.proofs.together.together_over.Goals as goal
 
 pub returns-then-has_failed-clause-survives : goal.returns-then-has_failed-clause-survives
-returns-then-has_failed-clause-survives g c i left =
+returns-then-has_failed-clause-survives g c =
     let d = g.D.Disk in
     let address = g.A.Address.address in
-    let store : DocStore = record { limits = c.args.core.limits; history = c.args.core.history } in
+    let core = c.args.core in
+    let store : DocStore = record { limits = core.limits; history = core.history } in
+    let clients : Clients = record { count = c.args.work.count; work = record { steps = c.args.work.steps; number = c.args.work.number } } in
     let after = c.run_on-core.result.core in
     let ran = c.run_on-core.ensures in
-    reads_on address c.reads_what_stands.ensures store after.history ran.grows ran.valid i
-    (subst (λ (l : Limits). MayBeLeft (fix document l address) after.history i) ran.limits (c.moves.ensures.left i (subst (λ k. d.may_leave k i) c.close.ensures.same left)))
+    record {
+      history = after.history;
+      came = came_together address store clients after.history (d.faults core.opened) (faults_since d.faults after) c.run_on-core.result.outcomes ran.grows ran.valid ran.worked ran.idle;
+      reads = λ i left. reads_failed address c.reads_what_stands.ensures store after.history ran.valid i
+          (subst (λ (l : Limits). MayBeLeft (fix document l address) after.history i) ran.limits (c.moves.ensures.left i (subst (λ k. d.may_leave k i) c.close.ensures.same left)));
+    }
 
 pub say_together-requires : goal.say_together-requires
 say_together-requires g c =
@@ -59,27 +65,36 @@ returns-in-Ok-clause-wrote g c =
     answers_map (TellsClients seen after.history) (λ whole. ⊥) (RanOver d.may_leave address store clients c.close-in-Ok.result) (λ whole. ⊥)
     (λ whole tells. record {
       history = after.history;
-      grown = ran.grows;
-      worked = record {
-        opened = d.faults core.opened;
-        since = since;
+      told = record {
         outcomes = seen;
-        worked = subst (λ (os : List Outcome). HaveWorked on core.history after.history since work.count work.steps work.number os) (sym c.as_slice.ensures) worked;
+        worked = record {
+          opened = d.faults core.opened;
+          since = since;
+          grown = ran.grows;
+          valid = ran.valid;
+          worked = subst (λ (os : List Outcome). HaveWorked on core.history after.history since work.count work.steps work.number os) (sym c.as_slice.ensures) worked;
+        };
         tells = tells;
       };
-      reads = λ i left. reads_all address c.reads_what_stands.ensures store after.history ran.grows ran.valid (d.may_leave after.disk) stands i (subst (λ k. d.may_leave k i) c.close-in-Ok.ensures.same left);
+      reads = λ i left. reads_all address c.reads_what_stands.ensures store after.history ran.valid (d.may_leave after.disk) stands i (subst (λ k. d.may_leave k i) c.close-in-Ok.ensures.same left);
     })
     (λ whole no. no) c.say_together.result (g.K.Sink.given c.args.sink.now) (g.K.Sink.given c.say_together.new.sink) c.say_together.ensures.wrote
 
 pub returns-in-Ok-clause-survives : goal.returns-in-Ok-clause-survives
-returns-in-Ok-clause-survives g c i left =
+returns-in-Ok-clause-survives g c =
     let d = g.D.Disk in
     let address = g.A.Address.address in
-    let store : DocStore = record { limits = c.args.core.limits; history = c.args.core.history } in
+    let core = c.args.core in
+    let store : DocStore = record { limits = core.limits; history = core.history } in
+    let clients : Clients = record { count = c.args.work.count; work = record { steps = c.args.work.steps; number = c.args.work.number } } in
     let after = c.run_on-core.result.core in
     let ran = c.run_on-core.ensures in
-    reads_on address c.reads_what_stands.ensures store after.history ran.grows ran.valid i
-    (subst (λ (l : Limits). MayBeLeft (fix document l address) after.history i) ran.limits (c.moves.ensures.left i (subst (λ k. d.may_leave k i) c.close-in-Ok.ensures.same left)))
+    let stands = subst (λ (l : Limits). AllStand (fix document l address) after.history (d.may_leave after.disk)) ran.limits (c.moves.ensures.stands (sym c.has_failed.ensures ∙ c.if-has_failed.false)) in
+    record {
+      history = after.history;
+      came = came_together address store clients after.history (d.faults core.opened) (faults_since d.faults after) c.run_on-core.result.outcomes ran.grows ran.valid ran.worked ran.idle;
+      reads = λ i left. inl (reads_all address c.reads_what_stands.ensures store after.history ran.valid (d.may_leave after.disk) stands i (subst (λ k. d.may_leave k i) c.close-in-Ok.ensures.same left));
+    }
 
 pub returns-in-Ok-clause-reason : goal.returns-in-Ok-clause-reason
 returns-in-Ok-clause-reason g c n =
@@ -106,11 +121,17 @@ returns-in-Ok-clause-reason g c n =
     c.say_together.ensures.reason
 
 pub returns-in-Err-clause-survives : goal.returns-in-Err-clause-survives
-returns-in-Err-clause-survives g c i left =
+returns-in-Err-clause-survives g c =
     let d = g.D.Disk in
     let address = g.A.Address.address in
-    let store : DocStore = record { limits = c.args.core.limits; history = c.args.core.history } in
+    let core = c.args.core in
+    let store : DocStore = record { limits = core.limits; history = core.history } in
+    let clients : Clients = record { count = c.args.work.count; work = record { steps = c.args.work.steps; number = c.args.work.number } } in
     let after = c.run_on-core.result.core in
     let ran = c.run_on-core.ensures in
-    reads_on address c.reads_what_stands.ensures store after.history ran.grows ran.valid i
-    (subst (λ (l : Limits). MayBeLeft (fix document l address) after.history i) ran.limits (c.moves.ensures.left i (subst (λ k. d.may_leave k i) c.close-in-Err.ensures.same left)))
+    let stands = subst (λ (l : Limits). AllStand (fix document l address) after.history (d.may_leave after.disk)) ran.limits (c.moves.ensures.stands (sym c.has_failed.ensures ∙ c.if-has_failed.false)) in
+    record {
+      history = after.history;
+      came = came_together address store clients after.history (d.faults core.opened) (faults_since d.faults after) c.run_on-core.result.outcomes ran.grows ran.valid ran.worked ran.idle;
+      reads = λ i left. inl (reads_all address c.reads_what_stands.ensures store after.history ran.valid (d.may_leave after.disk) stands i (subst (λ k. d.may_leave k i) c.close-in-Err.ensures.same left));
+    }
