@@ -7,8 +7,6 @@ pub mod clients;
 mod draws;
 mod pieces;
 pub mod scripts;
-#[cfg(test)]
-mod tests;
 
 pub use clients::client_steps;
 pub use scripts::script_text;

@@ -1,8 +1,8 @@
 -- A store from its opening on: what is left where it was opened, and where it was not.
-use Rattle.std.proofs.Common.{◌⊎◌, ◌≡◌, ◌≢◌, ℕ, ◌≤◌, List, [], refl, ap, sym, ◌∙◌, inl, inr}
+use Rattle.std.proofs.Common.{◌⊎◌, ◌≡◌, ℕ, ◌≤◌, List, [], refl, ap, ◌∙◌, inl, inr}
 use Rattle.branch_disk.specs.declared.disk.Disk.{Ghosts}
-use Rattle.branch_disk.specs.Disk.{Files, LeavesOnly}
-use Rattle.branch_disk.specs.Moments.{started, weakened, goes_on, now_too}
+use Rattle.branch_disk.specs.Disk.{Files}
+use Rattle.branch_disk.specs.Moments.{started}
 use Rattle.branch_doc.specs.Document.{document}
 use Rattle.branch_files.specs.Reading.{Opens}
 use Rattle.branch_names.specs.declared.limits.Limits.{Limits}
@@ -11,7 +11,7 @@ use Rattle.branch_shell.specs.declared.status.Status.{Status}
 use Rattle.branch_shell.specs.declared.status.Status.TheVariants.{Done, Usage, StoreRefused, DiskFault, ReadFault, WriteFault, LineTooLong, InputTooLong, Memory}
 use Rattle.branch_shell.specs.Documents.{DocStore}
 use Rattle.branch_shell.specs.Once.{WroteOnce}
-use Rattle.branch_shell.specs.Ran.{LeavesAsBefore, LeavesAsBeforeOr, HoldsStore, FailsToOpen}
+use Rattle.branch_shell.specs.Ran.{LeavesAsBefore, HoldsStore, FailsToOpen}
 use Rattle.branch_shell.specs.Stores.{IsOpenedAs, SaysRefused}
 
 module _ (address : List ℕ → List ℕ) {D : Type 0} (disk : Ghosts D)
@@ -29,20 +29,6 @@ module _ (address : List ℕ → List ℕ) {D : Type 0} (disk : Ghosts D)
       let limits : found.limits ≡ store.limits = cc same in
       let history : found.history ≡ store.history = cc same in
       ap (λ (l : Limits). stored l found.history) limits ∙ ap (stored store.limits) history
-
-  -- what was left before the opening and at it, and then this
-  pub opened_then : (old mid new : D) (P : Files → Type 0) → LeavesAsBefore disk old mid
-      → LeavesOnly disk.moment disk.left_since mid new P → LeavesAsBeforeOr disk old new P
-  opened_then old mid new P first then =
-      goes_on disk.moment disk.left_since old mid new (λ c. disk.may_leave old c ⊎ P c) P
-      (weakened disk.moment disk.left_since old mid (disk.may_leave old) (λ c. disk.may_leave old c ⊎ P c)
-      first (λ c was. inl was)) then (λ c is. inr is)
-
-  pub only_before : (old new : D) (P : Files → Type 0) → LeavesAsBefore disk old new
-      → LeavesAsBeforeOr disk old new P
-  only_before old new P all =
-      weakened disk.moment disk.left_since old new (disk.may_leave old) (λ c. disk.may_leave old c ⊎ P c)
-      all (λ c was. inl was)
 
   -- nothing was done
   pub untouched : (old : D) → LeavesAsBefore disk old old
@@ -81,12 +67,5 @@ module _ (address : List ℕ → List ℕ) {D : Type 0} (disk : Ghosts D)
         why = none.1;
         no_input = refl;
         no_text = none.0;
-        left = now_too disk.moment disk.left_since disk.may_leave counts_now old new (disk.may_leave old) all;
+        any_moment = all;
       }
-
-  pub not_done : (old new : D) (status : Status) (text : List ℕ) → FailsToOpen disk old new status [] text
-      → status ≢ Done
-  not_done old new status text fails done = elim fails.why [
-    | inl fault ↦ let bad : Done ≡ DiskFault = sym done ∙ fault in cc
-    | inr short ↦ let bad : Done ≡ Memory = sym done ∙ short in cc
-  ]

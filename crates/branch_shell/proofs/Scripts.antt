@@ -18,10 +18,10 @@ use Rattle.branch_shell.specs.Stores.{IsOpenedAs, SaysRefused}
 use Rattle.branch_shell.specs.Once.{WroteOnce}
 use Rattle.branch_shell.specs.Documents.{DocStore, fixed_of, script_text}
 use Rattle.branch_shell.specs.Ran.{LeavesAsBefore, HoldsStore, LeavesScript, Ran}
-use Rattle.branch_shell.specs.Statuses.{WroteOver, Wrote, Holds, HoldsSome, Runs, TellsWholeLines, TellsPart}
+use Rattle.branch_shell.specs.Statuses.{WroteOver, Wrote, Holds, Runs, TellsWholeLines, TellsPart}
 use Rattle.branch_shell.proofs.Told.{whole_part, text_from-append}
 use Rattle.branch_shell.proofs.Ends.{script_text-is}
-use Rattle.branch_shell.proofs.Opening.{store_read, opened_then, only_before, failed, not_done}
+use Rattle.branch_shell.proofs.Opening.{store_read, failed}
 
 pub exchanges_map : (l0 l1 g0 g1 : Option (List ℕ)) (P Q : List ℕ → List ℕ → Type 0) → ((input text : List ℕ) → P input text → Q input text) → Exchanges l0 l1 g0 g1 P → Exchanges l0 l1 g0 g1 Q
 exchanges_map l0 l1 g0 g1 P Q f e = (e.0, e.1, e.2, e.3, f e.0 e.1 e.4)
@@ -99,11 +99,13 @@ module _ (address : List ℕ → List ℕ) where
           let r : Runs disk.may_leave disk.moment disk.left_since address store mid new left status input text =
           subst (λ (s : DocStore). Runs disk.may_leave disk.moment disk.left_since address s mid new left status input text)
           (store_read address disk counts_now only_now old store found holds is) runs in
-          record {
-            any_moment = opened_then address disk counts_now only_now old mid new (HoldsSome address store left input) first r.survives.any_moment;
-            ended = inr r.survives.answered;
+          inr (record {
+            opened = mid;
+            before = first;
+            any_moment = r.survives.any_moment;
+            at_end = r.survives.answered;
             complete = r.survives.complete;
-          }
+          })
 
       never_refused : status ≡ StoreRefused → ⊥
       never_refused refused =
@@ -125,13 +127,7 @@ module _ (address : List ℕ → List ℕ) where
         (w : WroteOnce (λ whole. ⊥) (SaysRefused document address (disk.contents old)) status text) where
       script_unopened : (store : DocStore) → HoldsStore disk address old store
           → LeavesScript disk address store old new left status [] text
-      script_unopened store holds =
-          let fails = failed address disk counts_now only_now old new store status text holds all w in
-          record {
-            any_moment = only_before address disk counts_now only_now old new (HoldsSome address store left []) all;
-            ended = inl fails;
-            complete = λ done. absurd (not_done address disk counts_now only_now old new status text fails done);
-          }
+      script_unopened store holds = inl (failed address disk counts_now only_now old new store status text holds all w)
 
       pub script_refused : Ran disk address Script old new left status [] text
       script_refused = record {

@@ -24,7 +24,7 @@ use Rattle.branch_shell.specs.Generated.{drawn_lines, work_text, SaysWork, Holds
 use Rattle.branch_shell.specs.Ran.{LeavesAsBefore, HoldsStore, LeavesWork, Ran}
 use Rattle.branch_shell.proofs.Ends.{after_lines-is}
 use Rattle.branch_shell.proofs.Once.{wrote_map}
-use Rattle.branch_shell.proofs.Opening.{store_read, opened_then, only_before, failed, not_done}
+use Rattle.branch_shell.proofs.Opening.{store_read, failed}
 
 -- what stopped the lines is not that all was done
 pub stopped_undone : (before now : ℕ) (status : Status) → StopsCounting before now status → status ≢ Done
@@ -93,13 +93,14 @@ module _ (address : List ℕ → List ℕ) where
           let s : SurvivesWork disk.may_leave disk.moment disk.left_since address store (drawn_lines work) mid new status =
           subst (λ (k : DocStore). SurvivesWork disk.may_leave disk.moment disk.left_since address k (drawn_lines work) mid new status)
           (store_read address disk counts_now only_now old store found holds is) survives in
-          record {
-            any_moment = opened_then address disk counts_now only_now old mid new (HoldsAfterSome address store (drawn_lines work))
-                first s.any_moment;
-            ended = inr (now_too disk.moment disk.left_since disk.may_leave counts_now mid new
-                (HoldsAfterSome address store (drawn_lines work)) s.any_moment);
+          inr (record {
+            opened = mid;
+            before = first;
+            any_moment = s.any_moment;
+            at_end = now_too disk.moment disk.left_since disk.may_leave counts_now mid new
+                (HoldsAfterSome address store (drawn_lines work)) s.any_moment;
             complete = s.complete;
-          }
+          })
 
       pub work_opened : Ran disk address (Generate work) old new left status [] text
       work_opened = record {
@@ -123,13 +124,7 @@ module _ (address : List ℕ → List ℕ) where
         (w : WroteOnce (λ whole. ⊥) (SaysRefused document address (disk.contents old)) status text) where
       work_unopened : (store : DocStore) → HoldsStore disk address old store
           → LeavesWork disk address store (drawn_lines work) old new status [] text
-      work_unopened store holds =
-          let fails = failed address disk counts_now only_now old new store status text holds all w in
-          record {
-            any_moment = only_before address disk counts_now only_now old new (HoldsAfterSome address store (drawn_lines work)) all;
-            ended = inl fails;
-            complete = λ done. absurd (not_done address disk counts_now only_now old new status text fails done);
-          }
+      work_unopened store holds = inl (failed address disk counts_now only_now old new store status text holds all w)
 
       pub work_refused : Ran disk address (Generate work) old new left status [] text
       work_refused = record {

@@ -24,12 +24,6 @@ use Rattle.branch_shell.specs.Together.{RanTogether, LeftTogether}
 abbrev pub LeavesAsBefore : {D : Type 0} → Ghosts D → D → D → Type 0
 LeavesAsBefore disk old new = LeavesOnly disk.moment disk.left_since old new (disk.may_leave old)
 
--- at each moment of a run a crash leaves what one might have left at its start, or files of which
--- this is true
-abbrev pub LeavesAsBeforeOr : {D : Type 0} → Ghosts D → D → D → (Files → Type 0) → Type 0
-LeavesAsBeforeOr disk old new P =
-    LeavesOnly disk.moment disk.left_since old new (λ c. disk.may_leave old c ⊎ P c)
-
 -- the disk tells files that read as the store
 pub record HoldsStore {D : Type 0} (disk : Ghosts D) (address : List ℕ → List ℕ) (old : D)
     (store : DocStore) : Type 0 where
@@ -37,38 +31,46 @@ pub record HoldsStore {D : Type 0} (disk : Ghosts D) (address : List ℕ → Lis
   pub told : disk.contents old ≡ Some files
   pub reads : ReadsAsStore document address store files
 
--- The store was not opened, since the disk failed or memory was short: then nothing was read and
--- nothing written, and a crash leaves only what one might have left at the start.
+-- The store was not opened, since the disk failed or memory was short: nothing was read or written,
+-- and a crash leaves only what one might have left at the start.
 pub record FailsToOpen {D : Type 0} (disk : Ghosts D) (old new : D) (status : Status)
     (input text : List ℕ) : Type 0 where
   pub why : (status ≡ DiskFault) ⊎ (status ≡ Memory)
   pub no_input : input ≡ []
   pub no_text : text ≡ []
-  pub left : (c : Files) → disk.may_leave new c → disk.may_leave old c
+  pub any_moment : LeavesAsBefore disk old new
 
--- What a crash leaves of the disk of a script over a store: at each moment what one might have left
--- at the start, or the store after some of the lines that were read; at the end, where the store
--- was opened, the store after the lines that were answered, or one more; and after `Done` after
--- all.
-pub record LeavesScript {D : Type 0} (disk : Ghosts D) (address : List ℕ → List ℕ)
-    (store : DocStore) (old new : D) (left : Option (List ℕ)) (status : Status)
-    (input text : List ℕ) : Type 0 where
-  pub any_moment : LeavesAsBeforeOr disk old new (HoldsSome address store left input)
-  pub ended : FailsToOpen disk old new status input text
-      ⊎ ((c : Files) → disk.may_leave new c → HoldsAnswered address store left input text c)
-  pub complete : status ≡ Done → (c : Files) → disk.may_leave new c
-      → ReadsAsStore document address (store_after address store (lines_of input)) c
+-- The store was opened at some moment. Before it a crash leaves only what one might have left at the
+-- start, and from it on files that are some of these; at the end one of those, and after `Done` what
+-- all came to.
+pub record LeavesOpened {D : Type 0} (disk : Ghosts D) (old new : D) (status : Status)
+    (some ended all : Files → Type 0) : Type 0 where
+  pub opened : D
+  pub before : LeavesAsBefore disk old opened
+  pub any_moment : LeavesOnly disk.moment disk.left_since opened new some
+  pub at_end : (c : Files) → disk.may_leave new c → ended c
+  pub complete : status ≡ Done → (c : Files) → disk.may_leave new c → all c
 
--- The same of generated work, whose lines are drawn: at each moment what a crash might have left at
--- the start, or the store after some of its lines, in order; at the end, where the store was
--- opened, the latter; and after `Done` after all.
-pub record LeavesWork {D : Type 0} (disk : Ghosts D) (address : List ℕ → List ℕ) (store : DocStore)
-    (lines : List (List ℕ)) (old new : D) (status : Status) (input text : List ℕ) : Type 0 where
-  pub any_moment : LeavesAsBeforeOr disk old new (HoldsAfterSome address store lines)
-  pub ended : FailsToOpen disk old new status input text
-      ⊎ ((c : Files) → disk.may_leave new c → HoldsAfterSome address store lines c)
-  pub complete : status ≡ Done → (c : Files) → disk.may_leave new c
-      → ReadsAsStore document address (store_after address store lines) c
+-- What a crash leaves of the disk of a script over a store: from the opening on the store after some
+-- of the lines that were read; at the end after those that were answered, or one more; and after
+-- `Done` after all.
+abbrev pub LeavesScript : {D : Type 0} → Ghosts D → (List ℕ → List ℕ) → DocStore → D → D
+    → Option (List ℕ) → Status → List ℕ → List ℕ → Type 0
+LeavesScript disk address store old new left status input text =
+    FailsToOpen disk old new status input text
+    ⊎ LeavesOpened disk old new status (HoldsSome address store left input)
+    (HoldsAnswered address store left input text)
+    (ReadsAsStore document address (store_after address store (lines_of input)))
+
+-- The same of generated work, whose lines are drawn: from the opening on the store after some of its
+-- lines, in order; and after `Done` after all.
+abbrev pub LeavesWork : {D : Type 0} → Ghosts D → (List ℕ → List ℕ) → DocStore → List (List ℕ) → D
+    → D → Status → List ℕ → List ℕ → Type 0
+LeavesWork disk address store lines old new status input text =
+    FailsToOpen disk old new status input text
+    ⊎ LeavesOpened disk old new status (HoldsAfterSome address store lines)
+    (HoldsAfterSome address store lines)
+    (ReadsAsStore document address (store_after address store lines))
 
 -- What a command leaves that changes a store: this, of each store as which the files read at the
 -- start; and where they read as none, only what a crash might have left before.

@@ -42,11 +42,10 @@ fn read_alone(alloc: Global, words: &[String]) -> Result<Command, CommandRefused
 /// fault comes only where the count of faults of that object rose, and no other count rises, but where the sink cannot
 /// finish behind a fault.
 ///
-/// A crash at any moment of a script leaves what one might have left before, or files that read as the store after some
-/// of the lines that were read; at the end, where the store was opened, after those that were answered, or one more; and
-/// after `Done` after all. A crash at any moment of `generate` leaves what one might have left before, or files that read
-/// as the store after some of its lines, in order; and after `Done` after all. So a run may follow one that ended with a
-/// fault of the disk: opening makes sure of what reads give then.
+/// Until a script's store is opened a crash leaves only what one might have left before; from then on, at any moment,
+/// files that read as the store after some of the lines that were read; at the end after those that were answered, or one
+/// more; and after `Done` after all. The same holds of `generate` and its lines, in order. So a run may follow one that
+/// ended with a fault of the disk: opening makes sure of what reads give then.
 pub fn run_alone<S: Source, K: Sink, D: Disk + Drop, A: Address>(
     alloc: Global,
     words: &[String],

@@ -64,11 +64,10 @@ fn read_clients(alloc: Global, words: &[String]) -> Result<Option<ClientWork>, M
 /// comes only where the count of faults of that object rose, and no other count rises, but where the sink cannot finish
 /// behind a fault.
 ///
-/// A crash at any moment of a script leaves what one might have left before, or files that read as the store after some
-/// of the lines that were read; at the end, where the store was opened, after those that were answered, or one more; and
-/// after `Done` after all. A crash at any moment of `generate` leaves what one might have left before, or files that read
-/// as the store after some of its lines, in order; and after `Done` after all. So a run may follow one that ended with a
-/// fault of the disk: opening makes sure of what reads give then.
+/// Until a script's store is opened a crash leaves only what one might have left before; from then on, at any moment,
+/// files that read as the store after some of the lines that were read; at the end after those that were answered, or one
+/// more; and after `Done` after all. The same holds of `generate` and its lines, in order. So a run may follow one that
+/// ended with a fault of the disk: opening makes sure of what reads give then.
 ///
 /// `clients COUNT STEPS NUMBER` starts up to so many threads, and may wait for a lock or for a thread. All clients are
 /// joined before the store is closed, and before anything is written. After `Done` the files read as the store with the

@@ -3,7 +3,5 @@
 #![tactic(auto)]
 
 pub mod doc;
-#[cfg(test)]
-mod tests;
 
 pub use doc::Doc;

@@ -6,12 +6,12 @@ use std::alloc::{AllocError, Global};
 use std::str;
 
 /// What came differs so from what a line wants.
-pub fn difference(line: usize, how: String) -> Failure {
+pub(crate) fn difference(line: usize, how: String) -> Failure {
     Failure::Differs { line, how }
 }
 
 /// Whether a number is the one that is wanted.
-pub fn compare_number(
+pub(crate) fn compare_number(
     alloc: Global,
     line: usize,
     of: &str,
@@ -26,7 +26,7 @@ pub fn compare_number(
 }
 
 /// Whether some bytes have the length and the hash that are wanted.
-pub fn compare_sum(
+pub(crate) fn compare_sum(
     alloc: Global,
     line: usize,
     of: &str,
@@ -43,7 +43,7 @@ pub fn compare_sum(
 }
 
 /// Whether a run wrote the lines that are wanted.
-pub fn compare_bytes(
+pub(crate) fn compare_bytes(
     alloc: Global,
     line: usize,
     found: &[u8],

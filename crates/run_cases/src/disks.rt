@@ -14,7 +14,7 @@ pub struct Pair {
 }
 
 /// A disk that holds these bytes, of which the listed calls from now on fail.
-pub fn disk_of(
+pub(crate) fn disk_of(
     alloc: Global,
     objects: &[u8],
     heads: &[u8],
@@ -35,12 +35,12 @@ pub fn disk_of(
 }
 
 /// How many calls were made of a disk since it held the first bytes.
-pub fn calls_of(disk: &MemoryDisk) -> u64 {
+pub(crate) fn calls_of(disk: &MemoryDisk) -> u64 {
     disk.calls().saturating_sub(MADE)
 }
 
 /// The bytes that a disk holds. None of its next four calls is to fail.
-pub fn pair_of(alloc: Global, disk: &mut MemoryDisk) -> Result<Pair, Failure> {
+pub(crate) fn pair_of(alloc: Global, disk: &mut MemoryDisk) -> Result<Pair, Failure> {
     let objects = read_whole(alloc, disk, Part::Objects);
     let heads = read_whole(alloc, disk, Part::Heads);
     match (objects, heads) {
@@ -50,7 +50,7 @@ pub fn pair_of(alloc: Global, disk: &mut MemoryDisk) -> Result<Pair, Failure> {
 }
 
 /// The disk that a stop leaves when so many of the calls are done and the next one has begun.
-pub fn stopped(disk: &MemoryDisk, calls: u64, fill: Fill) -> Result<MemoryDisk, Failure> {
+pub(crate) fn stopped(disk: &MemoryDisk, calls: u64, fill: Fill) -> Result<MemoryDisk, Failure> {
     match disk.image(calls.saturating_add(MADE), fill) {
         Ok(image) => Ok(image),
         Err(_) => Err(Failure::Memory),

@@ -23,7 +23,7 @@ pub struct Ended {
 }
 
 /// Runs the program.
-pub fn run_over<R: Threads + Wait + Sync>(
+pub(crate) fn run_over<R: Threads + Wait + Sync>(
     rt: &R,
     alloc: Global,
     of: &Run,

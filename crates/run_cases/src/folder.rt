@@ -13,7 +13,7 @@ pub struct Folder {
 
 impl Folder {
     /// No files.
-    pub fn new(alloc: Global) -> Folder {
+    pub(crate) fn new(alloc: Global) -> Folder {
         Folder {
             alloc,
             files: BTreeMap::new(alloc),
@@ -21,7 +21,7 @@ impl Folder {
     }
 
     /// The bytes of a file.
-    pub fn bytes(&self, file: &str) -> &[u8] {
+    pub(crate) fn bytes(&self, file: &str) -> &[u8] {
         match self.files.get(file) {
             Some(bytes) => bytes.as_slice(),
             None => &[],
@@ -29,14 +29,14 @@ impl Folder {
     }
 
     /// A file gets these bytes.
-    pub fn put(&mut self, file: &str, bytes: Vec<u8>) -> Result<(), AllocError> {
+    pub(crate) fn put(&mut self, file: &str, bytes: Vec<u8>) -> Result<(), AllocError> {
         let name = String::from_str(self.alloc, file)?;
         self.files.insert(name, bytes)?;
         Ok(())
     }
 
     /// From a place on some bytes of a file become these.
-    pub fn change(
+    pub(crate) fn change(
         &mut self,
         line: usize,
         file: &str,
@@ -55,7 +55,7 @@ impl Folder {
     }
 
     /// A file keeps so many bytes.
-    pub fn cut(&mut self, line: usize, file: &str, length: u64) -> Result<(), Failure> {
+    pub(crate) fn cut(&mut self, line: usize, file: &str, length: u64) -> Result<(), Failure> {
         let mut bytes = self.bytes(file).to_vec(self.alloc)?;
         if (bytes.len() as u64) < length {
             return Err(malformed(line, "the file is shorter than that"));
@@ -65,20 +65,20 @@ impl Folder {
     }
 
     /// Bytes come behind a file.
-    pub fn append(&mut self, file: &str, more: &[u8]) -> Result<(), AllocError> {
+    pub(crate) fn append(&mut self, file: &str, more: &[u8]) -> Result<(), AllocError> {
         let mut bytes = self.bytes(file).to_vec(self.alloc)?;
         bytes.extend_from_slice(more)?;
         self.put(file, bytes)
     }
 
     /// A file gets the bytes of another one.
-    pub fn copy(&mut self, from: &str, to: &str) -> Result<(), AllocError> {
+    pub(crate) fn copy(&mut self, from: &str, to: &str) -> Result<(), AllocError> {
         let bytes = self.bytes(from).to_vec(self.alloc)?;
         self.put(to, bytes)
     }
 
     /// The first file with some bytes that is not among these, if there is one.
-    pub fn other_than(&self, names: &[String]) -> Option<&str> {
+    pub(crate) fn other_than(&self, names: &[String]) -> Option<&str> {
         for (name, bytes) in self.files.iter() {
             if !bytes.is_empty() && !names.contains(name) {
                 return Some(name.as_str());

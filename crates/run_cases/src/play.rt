@@ -48,7 +48,7 @@ struct Player {
 }
 
 /// Plays the steps of a case, up to the first that is not as it wants.
-pub fn play<R: Threads + Wait + Sync>(
+pub(crate) fn play<R: Threads + Wait + Sync>(
     rt: &R,
     alloc: Global,
     steps: &[Step],

@@ -5,7 +5,7 @@ use crate::words::{bytes, bytes_times, fill, malformed, number, numbers, sum, wo
 use std::alloc::Global;
 
 /// The steps of a case, in order. The first line that is none is refused.
-pub fn read_case(alloc: Global, text: &str) -> Result<Vec<Step>, Failure> {
+pub(crate) fn read_case(alloc: Global, text: &str) -> Result<Vec<Step>, Failure> {
     let mut reader = Reader {
         alloc,
         steps: Vec::new(alloc),

@@ -75,7 +75,7 @@ pub struct Run {
 
 impl Run {
     /// A run over no input, which writes nothing, and of which no call fails. Its status is yet to be told.
-    pub fn new(alloc: Global, store: String, words: Vec<String>) -> Run {
+    pub(crate) fn new(alloc: Global, store: String, words: Vec<String>) -> Run {
         Run {
             store,
             words,
@@ -98,7 +98,7 @@ pub struct Failing {
 
 impl Failing {
     /// None.
-    pub fn new(alloc: Global) -> Failing {
+    pub(crate) fn new(alloc: Global) -> Failing {
         Failing {
             disk: Vec::new(alloc),
             source: Vec::new(alloc),

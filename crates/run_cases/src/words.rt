@@ -6,7 +6,7 @@ use hex::FromHex;
 use std::alloc::{AllocError, Global};
 
 /// The words of a text, with a space between two.
-pub fn words_of(alloc: Global, text: &str) -> Result<Vec<String>, AllocError> {
+pub(crate) fn words_of(alloc: Global, text: &str) -> Result<Vec<String>, AllocError> {
     let mut words = Vec::new(alloc);
     for word in text.split(' ') {
         if !word.is_empty() {
@@ -17,12 +17,12 @@ pub fn words_of(alloc: Global, text: &str) -> Result<Vec<String>, AllocError> {
 }
 
 /// The refusal of a line.
-pub fn malformed(line: usize, why: &'static str) -> Failure {
+pub(crate) fn malformed(line: usize, why: &'static str) -> Failure {
     Failure::Malformed { line, why }
 }
 
 /// The number that a word is.
-pub fn number(line: usize, word: &str) -> Result<u64, Failure> {
+pub(crate) fn number(line: usize, word: &str) -> Result<u64, Failure> {
     match word.parse::<u64>() {
         Ok(number) => Ok(number),
         Err(_) => Err(malformed(line, "a number is wanted")),
@@ -30,7 +30,7 @@ pub fn number(line: usize, word: &str) -> Result<u64, Failure> {
 }
 
 /// The numbers, from 1, that some words are.
-pub fn numbers(alloc: Global, line: usize, words: &[String]) -> Result<Vec<u64>, Failure> {
+pub(crate) fn numbers(alloc: Global, line: usize, words: &[String]) -> Result<Vec<u64>, Failure> {
     let mut list = Vec::new(alloc);
     for word in words {
         let number = number(line, word.as_str())?;
@@ -43,7 +43,7 @@ pub fn numbers(alloc: Global, line: usize, words: &[String]) -> Result<Vec<u64>,
 }
 
 /// The bytes that a word spells.
-pub fn bytes(alloc: Global, line: usize, word: &str) -> Result<Vec<u8>, Failure> {
+pub(crate) fn bytes(alloc: Global, line: usize, word: &str) -> Result<Vec<u8>, Failure> {
     match hex::decode(alloc, word) {
         Ok(bytes) => Ok(bytes),
         Err(hex::FromHexError::OutOfMemory) => Err(Failure::Memory),
@@ -52,7 +52,7 @@ pub fn bytes(alloc: Global, line: usize, word: &str) -> Result<Vec<u8>, Failure>
 }
 
 /// So many times the bytes that a word spells.
-pub fn bytes_times(
+pub(crate) fn bytes_times(
     alloc: Global,
     line: usize,
     count: &str,
@@ -67,7 +67,7 @@ pub fn bytes_times(
 }
 
 /// The length and the hash that two words are.
-pub fn sum(line: usize, length: &str, hash: &str) -> Result<Sum, Failure> {
+pub(crate) fn sum(line: usize, length: &str, hash: &str) -> Result<Sum, Failure> {
     let length = number(line, length)?;
     match <[u8; 32] as FromHex>::from_hex(hash) {
         Ok(hash) => Ok(Sum { length, hash }),
@@ -76,7 +76,7 @@ pub fn sum(line: usize, length: &str, hash: &str) -> Result<Sum, Failure> {
 }
 
 /// What becomes of pending bytes, by a word.
-pub fn fill(line: usize, word: &str) -> Result<Fill, Failure> {
+pub(crate) fn fill(line: usize, word: &str) -> Result<Fill, Failure> {
     match word {
         "old" => Ok(Fill::Old),
         "new" => Ok(Fill::New),

@@ -1,5 +1,5 @@
 // Flags.
-use crate::steps::{after, at, is_op_spelled, is_op_spelling, is_spelled, is_spelling};
+use crate::steps::{at, is_op_spelled, is_op_spelling, is_spelled, is_spelling, merged};
 use mrdt_flag::{Flag, FlagOp, FlagQuery};
 use mrdt_model::Mrdt;
 use std::test::Fail;
@@ -9,21 +9,27 @@ const ONE: &[u8] = b"\
 \x00\x00\x00\x00\x00\x00\x00\x01\
 \x00\x00\x00\x00\x00\x00\x00\x01\x00\x00\x00\x02";
 
-// One side has enabled and disabled, the other has enabled: on. Then the other disables, over the base of its
-// own Enable: off.
+const ENABLE: &[u8] = b"\x01";
+
+const DISABLE: &[u8] = b"\x02";
+
+// One side has enabled and disabled, the other has enabled: on.
 #[test]
-fn enables_win_until_they_are_seen(rt: HostRuntime) -> Result<(), Fail> {
+fn an_enable_wins(rt: HostRuntime) -> Result<(), Fail> {
     let alloc = rt.alloc();
-    let fresh = Flag::initial(alloc);
-    let left = after(&fresh, &FlagOp::Enable, at(1, 1))?;
-    let left = after(&left, &FlagOp::Disable, at(2, 1))?;
-    let right = after(&fresh, &FlagOp::Enable, at(1, 2))?;
-    let first = Flag::merge(&fresh, &left, &right)?.copy()?;
-    assert!(rt; first.answer(&FlagQuery::IsOn) == Ok(true));
-    assert!(rt; first.same(&right) && is_spelled(alloc, &first, ONE));
-    let newer = after(&right, &FlagOp::Disable, at(2, 2))?;
-    let second = Flag::merge(&right, &first, &newer)?;
-    assert!(rt; !second.is_on() && second.same(&first.disabled()));
+    let left = [(ENABLE, at(1, 1)), (DISABLE, at(2, 1))];
+    let both: Flag = merged(alloc, &[], &left, &[(ENABLE, at(1, 2))])?;
+    assert!(rt; both.answer(&FlagQuery::IsOn) == Ok(true) && is_spelled(alloc, &both, ONE));
+    assert!(rt; both.copy()?.same(&both) && !both.same(&both.disabled()));
+    Ok(())
+}
+
+// A side disables what both have seen: off.
+#[test]
+fn a_disable_takes_what_it_has_seen(rt: HostRuntime) -> Result<(), Fail> {
+    let base = [(ENABLE, at(1, 0))];
+    let off: Flag = merged(rt.alloc(), &base, &[(DISABLE, at(2, 1))], &[])?;
+    assert!(rt; !off.is_on());
     Ok(())
 }
 

@@ -1,5 +1,7 @@
 // Logs.
-use crate::steps::{after, are_listed, at, is_op_spelled, is_op_spelling, is_spelled, is_spelling};
+use crate::steps::{
+    are_listed, at, is_op_spelled, is_op_spelling, is_spelled, is_spelling, merged,
+};
 use mrdt_log::{Log, LogAnswer, LogOp, LogQuery};
 use mrdt_model::{Bytes, Memory, Mrdt};
 use std::alloc::Global;
@@ -31,13 +33,11 @@ fn has_entries(alloc: Global, log: &Log, want: &[u8]) -> bool {
 #[test]
 fn both_appends_are_read_newest_first(rt: HostRuntime) -> Result<(), Fail> {
     let alloc = rt.alloc();
-    let base = Log::initial(alloc);
-    let left = after(&base, &append(alloc, b"u")?, at(1, 1))?;
-    let right = after(&base, &append(alloc, b"v")?, at(1, 2))?;
-    let both = Log::merge(&base, &left, &right)?.copy()?;
-    assert!(rt; has_entries(alloc, &both, NEWEST_FIRST));
+    let both: Log = merged(alloc, &[], &[(b"u", at(1, 1))], &[(b"v", at(1, 2))])?;
+    assert!(rt; has_entries(alloc, &both, NEWEST_FIRST) && is_spelled(alloc, &both, BOTH));
     assert!(rt; matches!(both.answer(&LogQuery::Length), Ok(LogAnswer::OnLength(2))));
-    assert!(rt; both.length() == 2 && !both.same(&left) && is_spelled(alloc, &both, BOTH));
+    assert!(rt; both.length() == 2 && both.copy()?.same(&both));
+    assert!(rt; !both.same(&Log::initial(alloc)));
     Ok(())
 }
 

@@ -1,7 +1,7 @@
 // The product of a counter and a flag.
 use crate::steps::{
-    after, at, does_reply, is_op_spelled, is_op_spelling, is_reply_spelling, is_spelled,
-    is_spelling,
+    at, does_reply, is_op_spelled, is_op_spelling, is_reply_spelling, is_spelled, is_spelling,
+    merged,
 };
 use mrdt_both::{Both, Side};
 use mrdt_counter::{Counter, CounterOp, CounterQuery};
@@ -21,6 +21,10 @@ const FIVE_AND_ON: &[u8] = b"\
 // The counter's operation that adds 5.
 const ADD_FIVE: &[u8] = b"\x01\x00\x00\x00\x00\x00\x00\x00\x05";
 
+const ADD_TWO: &[u8] = b"\x01\x00\x00\x00\x00\x00\x00\x00\x02";
+
+const ENABLE: &[u8] = b"\x02\x01";
+
 fn add(amount: i64) -> Side<CounterOp, FlagOp> {
     Side::First(CounterOp::Add(amount))
 }
@@ -32,16 +36,22 @@ fn enable() -> Side<CounterOp, FlagOp> {
 #[test]
 fn each_side_goes_its_own_way(rt: HostRuntime) -> Result<(), Fail> {
     let alloc = rt.alloc();
-    let fresh: Both<Counter, Flag> = Both::initial(alloc);
-    let base = after(&fresh, &add(5), at(1, 0))?;
-    let left = after(&base, &enable(), at(2, 0))?;
-    assert!(rt; is_spelled(alloc, &left, FIVE_AND_ON) && !base.same(&left));
-    let right = after(&base, &add(2), at(3, 1))?;
-    let both = Both::merge(&base, &left, &right)?.copy()?;
+    let base = [(ADD_FIVE, at(1, 0))];
+    let left = [(ENABLE, at(2, 0))];
+    let both: Both<Counter, Flag> = merged(alloc, &base, &left, &[(ADD_TWO, at(3, 1))])?;
     let sum = both.answer(&Side::First(CounterQuery::Value));
     assert!(rt; matches!(sum, Ok(Side::First(7))));
     let is_on = both.answer(&Side::Second(FlagQuery::IsOn));
     assert!(rt; matches!(is_on, Ok(Side::Second(true))));
+    Ok(())
+}
+
+#[test]
+fn an_unchanged_side_of_a_product_is_not_merged(rt: HostRuntime) -> Result<(), Fail> {
+    let alloc = rt.alloc();
+    let base = [(ADD_FIVE, at(1, 0))];
+    let both: Both<Counter, Flag> = merged(alloc, &base, &[], &[(ENABLE, at(2, 0))])?;
+    assert!(rt; is_spelled(alloc, &both, FIVE_AND_ON) && both.copy()?.same(&both));
     Ok(())
 }
 
@@ -51,8 +61,8 @@ fn operations_and_replies_begin_with_their_side(rt: HostRuntime) {
     let fresh: Both<Counter, Flag> = Both::initial(alloc);
     assert!(rt; is_spelling::<Both<Counter, Flag>>(alloc, FIVE_AND_ON));
     assert!(rt; is_op_spelled::<Both<Counter, Flag>>(alloc, &add(5), ADD_FIVE));
-    assert!(rt; is_op_spelled::<Both<Counter, Flag>>(alloc, &enable(), b"\x02\x01"));
-    for bytes in [ADD_FIVE, b"\x01", b"\x02\x01", b"\x02\x02"] {
+    assert!(rt; is_op_spelled::<Both<Counter, Flag>>(alloc, &enable(), ENABLE));
+    for bytes in [ADD_FIVE, b"\x01", ENABLE, b"\x02\x02"] {
         assert!(rt; is_op_spelling::<Both<Counter, Flag>>(alloc, bytes));
     }
     assert!(rt; does_reply(alloc, &fresh, &add(5), b"\x01"));

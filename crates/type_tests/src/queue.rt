@@ -1,7 +1,7 @@
 // Queues.
 use crate::steps::{
-    after, are_listed, at, does_reply, is_op_spelled, is_op_spelling, is_reply_spelling,
-    is_spelled, is_spelling,
+    after_all, are_listed, at, does_reply, is_op_spelled, is_op_spelling, is_reply_spelling,
+    is_spelled, is_spelling, merged,
 };
 use mrdt_model::{Bytes, Memory, Mrdt};
 use mrdt_queue::{Queue, QueueAnswer, QueueOp, QueueQuery};
@@ -31,15 +31,25 @@ const TWO: &[u8] = b"\
 \x00\x00\x00\x00\x00\x00\x00\x04\x00\x00\x00\x00\
 \x00\x00\x00\x00\x00\x00\x00\x01z";
 
+// `x` at 1.0 and `y` at 2.0, as they are kept.
+const X_THEN_Y: &[u8] = b"\
+\x00\x00\x00\x00\x00\x00\x00\x02\
+\x00\x00\x00\x00\x00\x00\x00\x01\x00\x00\x00\x00\
+\x00\x00\x00\x00\x00\x00\x00\x01x\
+\x00\x00\x00\x00\x00\x00\x00\x02\x00\x00\x00\x00\
+\x00\x00\x00\x00\x00\x00\x00\x01y";
+
 fn enqueue(alloc: Global, payload: &[u8]) -> Result<QueueOp, Memory> {
     Ok(QueueOp::Enqueue(Bytes::from_slice(alloc, payload)?))
 }
 
-// `x` is enqueued at 1.0 and `y` at 2.0.
-fn two(alloc: Global) -> Result<Queue, Memory> {
-    let one = after(&Queue::initial(alloc), &enqueue(alloc, b"x")?, at(1, 0))?;
-    after(&one, &enqueue(alloc, b"y")?, at(2, 0))
-}
+const ENQUEUE_X: &[u8] = b"\x01x";
+
+const ENQUEUE_Y: &[u8] = b"\x01y";
+
+const ENQUEUE_Z: &[u8] = b"\x01z";
+
+const DEQUEUE: &[u8] = b"\x02";
 
 fn has_items(alloc: Global, queue: &Queue, want: &[u8]) -> bool {
     match queue.answer(&QueueQuery::Items) {
@@ -59,12 +69,8 @@ fn is_first(queue: &Queue, payload: &[u8]) -> bool {
 #[test]
 fn both_sides_dequeue_the_same(rt: HostRuntime) -> Result<(), Fail> {
     let alloc = rt.alloc();
-    let base = two(alloc)?;
-    assert!(rt; is_first(&base, b"x") && has_items(alloc, &base, X_AND_Y));
-    assert!(rt; does_reply(alloc, &base, &QueueOp::Dequeue, TOOK_X));
-    let left = after(&base, &QueueOp::Dequeue, at(3, 0))?;
-    let right = after(&base, &QueueOp::Dequeue, at(3, 1))?;
-    let both = Queue::merge(&base, &left, &right)?.copy()?;
+    let base = [(ENQUEUE_X, at(1, 0)), (ENQUEUE_Y, at(2, 0))];
+    let both: Queue = merged(alloc, &base, &[(DEQUEUE, at(3, 0))], &[(DEQUEUE, at(3, 1))])?;
     assert!(rt; has_items(alloc, &both, Y) && is_spelled(alloc, &both, ONE));
     assert!(rt;
         matches!(
@@ -72,6 +78,17 @@ fn both_sides_dequeue_the_same(rt: HostRuntime) -> Result<(), Fail> {
             Ok(QueueAnswer::OnLength(1))
         )
     );
+    assert!(rt; both.copy()?.same(&both) && !both.same(&Queue::initial(alloc)));
+    Ok(())
+}
+
+#[test]
+fn a_dequeue_takes_the_oldest(rt: HostRuntime) -> Result<(), Fail> {
+    let alloc = rt.alloc();
+    let steps = [(ENQUEUE_X, at(1, 0)), (ENQUEUE_Y, at(2, 0))];
+    let two: Queue = after_all(alloc, &Queue::initial(alloc), &steps)?;
+    assert!(rt; is_first(&two, b"x") && has_items(alloc, &two, X_AND_Y));
+    assert!(rt; does_reply(alloc, &two, &QueueOp::Dequeue, TOOK_X));
     Ok(())
 }
 
@@ -79,12 +96,10 @@ fn both_sides_dequeue_the_same(rt: HostRuntime) -> Result<(), Fail> {
 #[test]
 fn queues_are_compared(rt: HostRuntime) -> Result<(), Fail> {
     let alloc = rt.alloc();
-    let one = after(&two(alloc)?, &QueueOp::Dequeue, at(3, 0))?;
-    let split = after(&one, &enqueue(alloc, b"z")?, at(4, 0))?;
-    assert!(rt; split.length() == 2 && is_spelled(alloc, &split, TWO) && !split.same(&one));
-    let Ok(whole) = Queue::get(alloc, TWO) else {
-        panic!(rt; "no queue");
-    };
+    let steps = [(DEQUEUE, at(3, 0)), (ENQUEUE_Z, at(4, 0))];
+    let split: Queue = after_all(alloc, &Queue::get(alloc, X_THEN_Y)?, &steps)?;
+    assert!(rt; split.length() == 2 && is_spelled(alloc, &split, TWO));
+    let whole = Queue::get(alloc, TWO)?;
     assert!(rt; split.same(&whole));
     Ok(())
 }

@@ -1,9 +1,9 @@
 // Sequences.
 use crate::steps::{
-    after, are_listed, at, does_reply, is_op_spelled, is_op_spelling, is_reply_spelling,
-    is_spelled, is_spelling,
+    after, after_all, are_listed, at, does_reply, is_op_spelled, is_op_spelling, is_reply_spelling,
+    is_spelled, is_spelling, merged,
 };
-use mrdt_model::{Bytes, Memory, Mrdt};
+use mrdt_model::{Bytes, Memory, Mrdt, Time};
 use mrdt_sequence::{Sequence, SequenceAnswer, SequenceOp, SequenceQuery};
 use std::alloc::Global;
 use std::test::Fail;
@@ -29,6 +29,30 @@ const DELETED: &[u8] = b"\
 // The reply that names 1.0.
 const FIRST: &[u8] = b"\x01\x00\x00\x00\x00\x00\x00\x00\x01\x00\x00\x00\x00";
 
+const INSERT_A: &[u8] = b"\x01\x00\x00\x00\x01a";
+
+const INSERT_B: &[u8] = b"\x01\x00\x00\x00\x01b";
+
+const DELETE_FIRST: &[u8] = b"\x02\x00\x00\x00\x00";
+
+// `h` at 1.0, and behind it `i` at 2.0.
+const WORD: [(&[u8], Time); 2] = [
+    (
+        b"\x01\x00\x00\x00\x00h",
+        Time {
+            clock: 1,
+            origin: 0,
+        },
+    ),
+    (
+        b"\x01\x00\x00\x00\x07i",
+        Time {
+            clock: 2,
+            origin: 0,
+        },
+    ),
+];
+
 fn insert(alloc: Global, place: u32, payload: &[u8]) -> Result<SequenceOp, Memory> {
     Ok(SequenceOp::Insert(place, Bytes::from_slice(alloc, payload)?))
 }
@@ -51,42 +75,25 @@ fn typed(alloc: Global, base: &Sequence, first: u32, origin: u32) -> Result<Sequ
     Ok(sequence)
 }
 
-// `h` at 1.0, and behind it `i` at 2.0.
-fn word(alloc: Global) -> Result<Sequence, Memory> {
-    let one = after(
-        &Sequence::initial(alloc),
-        &insert(alloc, 0, b"h")?,
-        at(1, 0),
-    )?;
-    after(&one, &insert(alloc, 7, b"i")?, at(2, 0))
-}
-
-// `b` is inserted behind the first item, which is deleted then.
-fn deleted(alloc: Global, base: &Sequence) -> Result<Sequence, Memory> {
-    let more = after(base, &insert(alloc, 1, b"b")?, at(3, 1))?;
-    after(&more, &SequenceOp::Delete(0), at(4, 1))
-}
-
 // Two sides insert behind the same item, and one of them deletes it.
 #[test]
 fn two_inserts_behind_a_deleted_item(rt: HostRuntime) -> Result<(), Fail> {
     let alloc = rt.alloc();
-    let base = word(alloc)?;
-    let left = after(&base, &insert(alloc, 1, b"a")?, at(3, 0))?;
-    let right = deleted(alloc, &base)?;
-    let merged = Sequence::merge(&base, &left, &right)?;
-    assert!(rt; has_items(alloc, &merged, MERGED) && !merged.same(&left));
-    let other = Sequence::merge(&base, &right, &left)?;
-    assert!(rt; merged.same(&other) && merged.length() == 3);
+    let left = [(INSERT_A, at(3, 0))];
+    let right = [(INSERT_B, at(3, 1)), (DELETE_FIRST, at(4, 1))];
+    let one: Sequence = merged(alloc, &WORD, &left, &right)?;
+    assert!(rt; has_items(alloc, &one, MERGED) && one.length() == 3);
+    let other: Sequence = merged(alloc, &WORD, &right, &left)?;
+    assert!(rt; one.copy()?.same(&other) && !one.same(&Sequence::initial(alloc)));
     Ok(())
 }
 
 #[test]
 fn sequences_are_spelled(rt: HostRuntime) -> Result<(), Fail> {
     let alloc = rt.alloc();
-    let base = word(alloc)?;
+    let base: Sequence = after_all(alloc, &Sequence::initial(alloc), &WORD)?;
     assert!(rt; does_reply(alloc, &base, &SequenceOp::Delete(0), FIRST));
-    let one = after(&base, &SequenceOp::Delete(0), at(3, 0))?;
+    let one = after_all(alloc, &base, &[(DELETE_FIRST, at(3, 0))])?;
     assert!(rt; is_spelled(alloc, &one, DELETED) && is_spelling::<Sequence>(alloc, DELETED));
     let answer = one.answer(&SequenceQuery::Length);
     assert!(rt; matches!(answer, Ok(SequenceAnswer::OnLength(1))));
@@ -113,11 +120,11 @@ fn operations_and_replies_of_sequences_are_read(rt: HostRuntime) -> Result<(), F
 #[test]
 fn long_sides_merge_in_both_orders(rt: HostRuntime) -> Result<(), Fail> {
     let alloc = rt.alloc();
-    let base = word(alloc)?;
+    let base: Sequence = after_all(alloc, &Sequence::initial(alloc), &WORD)?;
     let left = typed(alloc, &base, 1, 0)?;
     let right = typed(alloc, &base, 2, 1)?;
-    let merged = Sequence::merge(&base, &left, &right)?;
+    let one = Sequence::merge(&base, &left, &right)?;
     let other = Sequence::merge(&base, &right, &left)?;
-    assert!(rt; merged.length() == 998 && merged.same(&other));
+    assert!(rt; one.length() == 998 && one.same(&other));
     Ok(())
 }

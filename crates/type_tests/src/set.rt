@@ -1,5 +1,7 @@
 // Sets.
-use crate::steps::{after, are_joined, at, is_op_spelled, is_op_spelling, is_spelled, is_spelling};
+use crate::steps::{
+    are_joined, at, is_op_spelled, is_op_spelling, is_spelled, is_spelling, merged,
+};
 use mrdt_model::{Bytes, Memory, Mrdt};
 use mrdt_set::{Set, SetAnswer, SetOp, SetQuery};
 use std::alloc::Global;
@@ -11,6 +13,14 @@ const ONE: &[u8] = b"\
 \x00\x00\x00\x00\x00\x00\x00\x01x\
 \x00\x00\x00\x00\x00\x00\x00\x01\
 \x00\x00\x00\x00\x00\x00\x00\x01\x00\x00\x00\x01";
+
+const ADD_X: &[u8] = b"\x01x";
+
+const ADD_Y: &[u8] = b"\x01y";
+
+const REMOVE_X: &[u8] = b"\x02x";
+
+const CLEAR: &[u8] = b"\x03";
 
 fn add(alloc: Global, element: &[u8]) -> Result<SetOp, Memory> {
     Ok(SetOp::Add(Bytes::from_slice(alloc, element)?))
@@ -28,41 +38,41 @@ fn has_members(alloc: Global, set: &Set, want: &[u8]) -> bool {
     }
 }
 
-// The set after it was told to add `x` and `y`, and to forget what it then had.
-fn cleared(alloc: Global, set: &Set) -> Result<Set, Memory> {
-    let one = after(set, &add(alloc, b"x")?, at(1, 2))?;
-    let two = after(&one, &add(alloc, b"y")?, at(2, 2))?;
-    after(&two, &SetOp::Clear, at(3, 2))
-}
-
 // One side adds `x`. The other adds `x` and `y`, and clears what it has seen: `x` stays.
 #[test]
 fn a_clear_takes_what_it_has_seen(rt: HostRuntime) -> Result<(), Fail> {
     let alloc = rt.alloc();
-    let base = Set::initial(alloc);
-    let left = after(&base, &add(alloc, b"x")?, at(1, 1))?;
-    let right = cleared(alloc, &base)?;
-    assert!(rt; right.size() == 0 && right.same(&left.cleared()));
-    let both = Set::merge(&base, &left, &right)?.copy()?;
-    assert!(rt; has_members(alloc, &both, b"x,"));
-    assert!(rt; both.same(&left) && is_spelled(alloc, &both, ONE));
+    let left = [(ADD_X, at(1, 1))];
+    let right = [(ADD_X, at(1, 2)), (ADD_Y, at(2, 2)), (CLEAR, at(3, 2))];
+    let both: Set = merged(alloc, &[], &left, &right)?;
+    assert!(rt; has_members(alloc, &both, b"x,") && is_spelled(alloc, &both, ONE));
+    assert!(rt; both.cleared().same(&Set::initial(alloc)) && both.copy()?.same(&both));
     Ok(())
 }
 
-// Both sides add `x`, and merge. One side then removes its own Add alone: `x` stays.
+// One side removes `x`. The other adds it again, which the Remove has not seen: it stays, and so does `y`.
 #[test]
 fn a_remove_takes_what_it_has_seen(rt: HostRuntime) -> Result<(), Fail> {
     let alloc = rt.alloc();
-    let base = Set::initial(alloc);
-    let left = after(&base, &add(alloc, b"x")?, at(1, 1))?;
-    let right = after(&base, &add(alloc, b"x")?, at(1, 2))?;
-    let first = Set::merge(&base, &left, &right)?;
-    let newer = after(&right, &remove(alloc, b"x")?, at(2, 2))?;
-    assert!(rt; !newer.contains(b"x"));
-    let second = Set::merge(&right, &first, &newer)?;
-    let query = SetQuery::Contains(Bytes::from_slice(alloc, b"x")?);
-    assert!(rt; matches!(second.answer(&query), Ok(SetAnswer::IsIn(true))));
-    assert!(rt; matches!(second.answer(&SetQuery::Size), Ok(SetAnswer::Count(1))));
+    let base = [(ADD_X, at(1, 0)), (ADD_Y, at(2, 0))];
+    let both: Set = merged(alloc, &base, &[(REMOVE_X, at(3, 1))], &[(ADD_X, at(3, 2))])?;
+    assert!(rt; both.size() == 2 && has_members(alloc, &both, b"x,y,"));
+    let gone: Set = merged(alloc, &base, &[(REMOVE_X, at(3, 1))], &[(ADD_Y, at(3, 2))])?;
+    assert!(rt; !gone.contains(b"x") && has_members(alloc, &gone, b"y,"));
+    Ok(())
+}
+
+fn is_in(alloc: Global, set: &Set, element: &[u8]) -> Result<bool, Memory> {
+    let query = SetQuery::Contains(Bytes::from_slice(alloc, element)?);
+    Ok(matches!(set.answer(&query)?, SetAnswer::IsIn(true)))
+}
+
+#[test]
+fn sets_are_asked(rt: HostRuntime) -> Result<(), Fail> {
+    let alloc = rt.alloc();
+    let one = Set::get(alloc, ONE)?;
+    assert!(rt; is_in(alloc, &one, b"x")? && !is_in(alloc, &one, b"y")?);
+    assert!(rt; matches!(one.answer(&SetQuery::Size), Ok(SetAnswer::Count(1))));
     Ok(())
 }
 

@@ -1,7 +1,7 @@
 // Steps that the tests take, through the bound of a mergeable type alone.
 use branch_wire::put_time;
 use live_set::Kept;
-use mrdt_model::{Bytes, Memory, Mrdt, Time};
+use mrdt_model::{Bytes, Memory, Mrdt, Time, Unread};
 use std::alloc::Global;
 
 pub(crate) fn at(clock: u64, origin: u32) -> Time {
@@ -12,6 +12,38 @@ pub(crate) fn at(clock: u64, origin: u32) -> Time {
 pub(crate) fn after<M: Mrdt>(state: &M, op: &M::Op, time: Time) -> Result<M, Memory> {
     let (next, _) = state.apply(op, time)?;
     Ok(next)
+}
+
+// The value after an operation that is spelled by these bytes.
+fn next<M: Mrdt>(alloc: Global, state: &M, bytes: &[u8], time: Time) -> Result<M, Unread> {
+    let op = M::get_op(alloc, bytes)?;
+    Ok(after(state, &op, time)?)
+}
+
+// The value after operations, each as its bytes and its time.
+pub(crate) fn after_all<M: Mrdt>(
+    alloc: Global,
+    state: &M,
+    steps: &[(&[u8], Time)],
+) -> Result<M, Unread> {
+    let mut value = state.copy()?;
+    for (bytes, time) in steps {
+        value = next(alloc, &value, bytes, *time)?;
+    }
+    Ok(value)
+}
+
+// The merge of two sides over what they begin with, each by its operations.
+pub(crate) fn merged<M: Mrdt>(
+    alloc: Global,
+    base: &[(&[u8], Time)],
+    left: &[(&[u8], Time)],
+    right: &[(&[u8], Time)],
+) -> Result<M, Unread> {
+    let base = after_all(alloc, &M::initial(alloc), base)?;
+    let left = after_all(alloc, &base, left)?;
+    let right = after_all(alloc, &base, right)?;
+    Ok(M::merge(&base, &left, &right)?)
 }
 
 // Whether the value is spelled by these bytes.

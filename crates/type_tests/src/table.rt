@@ -1,7 +1,7 @@
 // Maps of counters.
 use crate::steps::{
     after, are_joined, at, is_op_spelled, is_op_spelling, is_reply_spelling, is_spelled,
-    is_spelling,
+    is_spelling, merged,
 };
 use mrdt_counter::{Counter, CounterOp, CounterQuery};
 use mrdt_map::{Map, MapAnswer, MapQuery, OnKey};
@@ -20,21 +20,22 @@ const HITS: &[u8] = b"\
 
 const ADD_FIVE: &[u8] = b"\x00\x00\x00\x00\x00\x00\x00\x04hits\x00\x00\x00\x00\x00\x00\x00\x05";
 
+// Operations that add 5, 2 and -3 to `a`, 0 to `b` and 1 to `c`.
+const A_5: &[u8] = b"\x00\x00\x00\x00\x00\x00\x00\x01a\x00\x00\x00\x00\x00\x00\x00\x05";
+
+const A_2: &[u8] = b"\x00\x00\x00\x00\x00\x00\x00\x01a\x00\x00\x00\x00\x00\x00\x00\x02";
+
+const A_LESS_3: &[u8] = b"\x00\x00\x00\x00\x00\x00\x00\x01a\xff\xff\xff\xff\xff\xff\xff\xfd";
+
+const B_0: &[u8] = b"\x00\x00\x00\x00\x00\x00\x00\x01b\x00\x00\x00\x00\x00\x00\x00\x00";
+
+const C_1: &[u8] = b"\x00\x00\x00\x00\x00\x00\x00\x01c\x00\x00\x00\x00\x00\x00\x00\x01";
+
 pub(crate) fn add(alloc: Global, name: &[u8], amount: i64) -> Result<OnKey<CounterOp>, Memory> {
     Ok(OnKey {
         key: Bytes::from_slice(alloc, name)?,
         operation: CounterOp::Add(amount),
     })
-}
-
-// A base of `a` at 5. The left side adds 2 there and 1 at `c`, the right side takes 3 away and adds 0 at `b`.
-fn merged(alloc: Global) -> Result<Map<Counter>, Memory> {
-    let base = after(&Map::initial(alloc), &add(alloc, b"a", 5)?, at(1, 0))?;
-    let left = after(&base, &add(alloc, b"a", 2)?, at(2, 1))?;
-    let left = after(&left, &add(alloc, b"c", 1)?, at(3, 1))?;
-    let right = after(&base, &add(alloc, b"a", -3)?, at(2, 2))?;
-    let right = after(&right, &add(alloc, b"b", 0)?, at(3, 2))?;
-    Map::merge(&base, &left, &right)
 }
 
 // Whether the counter at a key has this value.
@@ -51,10 +52,13 @@ fn has_keys(alloc: Global, map: &Map<Counter>, want: &[u8]) -> bool {
     }
 }
 
+// A base of `a` at 5. The left side adds 2 there and 1 at `c`, the right side takes 3 away and adds 0 at `b`.
 #[test]
 fn both_sides_are_merged_at_each_key(rt: HostRuntime) -> Result<(), Fail> {
     let alloc = rt.alloc();
-    let both = merged(alloc)?;
+    let left = [(A_2, at(2, 1)), (C_1, at(3, 1))];
+    let right = [(A_LESS_3, at(2, 2)), (B_0, at(3, 2))];
+    let both: Map<Counter> = merged(alloc, &[(A_5, at(1, 0))], &left, &right)?;
     for (name, want) in [(b"a", 4), (b"b", 0), (b"c", 1), (b"d", 0)] {
         assert!(rt; has_value(alloc, &both, name, want)?);
     }
@@ -74,15 +78,15 @@ fn maps_are_spelled(rt: HostRuntime) -> Result<(), Fail> {
     Ok(())
 }
 
-// A base of `k` at 1, which one side leaves. The other side adds 2 there.
+// A base of `a` at 5, which one side leaves. The other side adds 2 there.
 #[test]
 fn an_unchanged_side_is_not_merged(rt: HostRuntime) -> Result<(), Fail> {
     let alloc = rt.alloc();
-    let base: Map<Counter> = after(&Map::initial(alloc), &add(alloc, b"k", 1)?, at(1, 0))?;
-    let left = base.copy()?;
-    let right = after(&base, &add(alloc, b"k", 2)?, at(2, 0))?;
-    assert!(rt; base.same(&left) && !base.same(&right));
-    assert!(rt; Map::merge(&base, &left, &right)?.same(&right));
-    assert!(rt; Map::merge(&base, &right, &left)?.same(&right));
+    let base = [(A_5, at(1, 0))];
+    let change = [(A_2, at(2, 0))];
+    let forth: Map<Counter> = merged(alloc, &base, &[], &change)?;
+    let back: Map<Counter> = merged(alloc, &base, &change, &[])?;
+    assert!(rt; forth.same(&back) && back.same(&forth) && forth.copy()?.same(&forth));
+    assert!(rt; has_value(alloc, &back, b"a", 7)?);
     Ok(())
 }

@@ -1,17 +1,8 @@
 // Generated work, with expected values of a program that was written from the format alone.
-use crate::{client_steps, script_text};
 use branch_doc::PlainOp;
+use branch_gen::{client_steps, script_text};
 use branch_script::Step;
 use std::test::Fail;
-
-#[test]
-fn the_first_line_of_number_0(rt: HostRuntime) -> Result<(), Fail> {
-    let text = script_text(rt.alloc(), 1, 0)?;
-    let expected =
-        b"fork g1 main\nfork g2 main\nfork g3 main\nlook s0 main\nlook s1 g1\nlook s2 g2\nlook s3 g3\ndo s3 multi k1 set w20\n";
-    assert!(rt; text.as_slice() == expected.as_slice());
-    Ok(())
-}
 
 #[test]
 fn a_long_script(rt: HostRuntime) -> Result<(), Fail> {

@@ -1,6 +1,6 @@
 // A document through the bound of mergeable types.
-use crate::Doc;
 use branch_doc::{PlainAnswer, PlainOp, PlainQuery, answer, op, query};
+use mrdt_doc::Doc;
 use mrdt_model::{Bytes, Memory, Mrdt, Time};
 use std::alloc::Global;
 use std::test::Fail;
