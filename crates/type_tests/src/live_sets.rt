@@ -1,8 +1,8 @@
 // Live sets.
 use crate::steps::at;
-use branch_wire::Cursor;
+use branch_wire::{Cursor, put_time, put_u64};
 use live_set::{Live, Payload, shared_text};
-use mrdt_model::{Bytes, Memory, Shared, Time};
+use mrdt_model::{Bytes, Shared, Time, Unread};
 use std::alloc::Global;
 use std::test::Fail;
 
@@ -25,12 +25,14 @@ const LATER: &[u8] = b"\
 
 const NO_TEXT: &[u8] = b"\x00\x00\x00\x00\x00\x00\x00\x00";
 
-fn of_times(alloc: Global, times: &[Time]) -> Result<Live<()>, Memory> {
-    let mut live = Live::new(alloc);
+// The live set of these times, which rise, each with nothing beside it.
+fn of_times(alloc: Global, times: &[Time]) -> Result<Live<()>, Unread> {
+    let mut bytes = Vec::new(alloc);
+    put_u64(times.len() as u64, &mut bytes)?;
     for time in times {
-        live.add(*time, ())?;
+        put_time(*time, &mut bytes)?;
     }
-    Ok(live)
+    Live::get(alloc, &bytes)
 }
 
 // What one side has dropped goes, what the other has put stays, and so does what both have.
