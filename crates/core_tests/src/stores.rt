@@ -1,8 +1,8 @@
-// Stores of counters on a disk in memory.
+// Stores of sums on a disk in memory.
 use branch_address::Address;
 use branch_disk::MemoryDisk;
 use branch_names::{Limits, Name};
-use mrdt_counter::{Counter, CounterOp};
+use mrdt_counter::{Sum, SumOp};
 use std::alloc::Global;
 use std::process::Abort;
 use store_core::{Core, LandRefused, Landed};
@@ -12,7 +12,7 @@ pub fn fresh<A: Address>(
     rt: &impl Abort,
     alloc: Global,
     failing: Vec<u64>,
-) -> Core<Counter, MemoryDisk, A> {
+) -> Core<Sum, MemoryDisk, A> {
     match Core::init(alloc, MemoryDisk::new(failing), Limits::default()) {
         Ok(core) => core,
         Err(_) => panic!(rt; "no store"),
@@ -22,12 +22,10 @@ pub fn fresh<A: Address>(
 // Adds to what `main` has now.
 pub fn add<A: Address>(
     rt: &impl Abort,
-    core: &mut Core<Counter, MemoryDisk, A>,
+    core: &mut Core<Sum, MemoryDisk, A>,
     amount: i64,
 ) -> Result<Landed<()>, LandRefused> {
     let seen = core.look(&Name::main()).expect(rt, "main");
-    let prepared = seen
-        .prepare(CounterOp::Add(amount))
-        .expect(rt, "an addition");
+    let prepared = seen.prepare(SumOp::Add(amount)).expect(rt, "an addition");
     core.land(prepared)
 }

@@ -85,13 +85,17 @@ fn colliding_objects_are_not_read(rt: HostRuntime) -> Result<(), Fail> {
     let input = b"look a main\ndo a counter c add 1\n";
     let output = b"a sees main at #0\nlanded #1 at 1.0\n";
     let mut disk = after(&rt, alloc, input, output)?;
-    let objects = bytes_of(&rt, alloc, &mut disk, Part::Objects);
-    let heads = bytes_of(&rt, alloc, &mut disk, Part::Heads);
+    let mut objects = bytes_of(&rt, alloc, &mut disk, Part::Objects);
+    let mut heads = bytes_of(&rt, alloc, &mut disk, Part::Heads);
     assert_eq!(rt; (objects.len(), heads.len()), (478, 129));
     let region = second_region(alloc, between(&objects, 191, 478))?;
     let record = second_record(alloc, between(&heads, 64, 128))?;
-    assert!(rt; disk.write_at(Part::Objects, 478, &region).is_ok());
-    assert!(rt; disk.write_at(Part::Heads, 128, &record).is_ok());
+    objects.extend_from_slice(&region)?;
+    heads.truncate(128);
+    heads.extend_from_slice(&record)?;
+    let mut disk = MemoryDisk::new(Vec::new(alloc));
+    assert!(rt; disk.write_at(Part::Objects, 0, &objects).is_ok());
+    assert!(rt; disk.write_at(Part::Heads, 0, &heads).is_ok());
     let wanted: (Status, &[u8]) = (Status::StoreRefused, b"refused commit 2\n");
     let _disk = says::<WeakAddress>(&rt, alloc, "check", b"", disk, wanted)?;
     Ok(())
