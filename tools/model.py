@@ -171,8 +171,8 @@ def reply_bytes(kind, verb, reply):
 
 
 class Commit:
-    def __init__(self, parents, branch, clock, reach, event, value, address):
-        self.parents, self.branch, self.clock, self.reach = parents, branch, clock, reach
+    def __init__(self, parents, origin, clock, reach, event, value, address):
+        self.parents, self.origin, self.clock, self.reach = parents, origin, clock, reach
         self.event, self.value, self.address = event, value, address
 
 
@@ -184,20 +184,20 @@ def value_object(value):
     return b"\1" + sized(value)
 
 
-def commit_object(parents, branch, clock, value, action):
-    body = u64(len(parents)) + b"".join(parents) + u32(branch) + u64(clock) + value + action
+def commit_object(parents, origin, clock, value, action):
+    body = u64(len(parents)) + b"".join(parents) + u32(origin) + u64(clock) + value + action
     return b"\2" + sized(body)
 
 
 class Store:
-    """A store: its commits, its branches and the bytes of both files."""
+    """A store: its commits, its branches and the bytes of both files. Branch r has the origin that lies r above the first."""
 
-    def __init__(self, **limits):
-        self.limits = {**LIMITS, **limits}
+    def __init__(self, origin=0, **limits):
+        self.limits, self.origin = {**LIMITS, **limits}, origin
         self.commits, self.branches, self.moves = [], [[b"main", 0]], 0
         self.stored = {}
         self.objects = b"MRDTOBJS" + u32(VERSION) + bytes(4)
-        self.heads = b"\1MRDTHEAD" + u32(VERSION) + self.limit_bytes() + bytes(19) + b"\0"
+        self.heads = b"\1MRDTHEAD" + u32(VERSION) + self.limit_bytes() + b"\0" + u32(origin) + bytes(14) + b"\0"
         value = self.put_object(value_object(document([])))
         root = self.put_object(commit_object([], 0, 0, value, b"\0"))
         self.commits.append(Commit([], 0, 0, 1, None, document([]), root))
@@ -231,14 +231,14 @@ class Store:
     def reaches(self, above, below):
         return bool(self.commits[above].reach >> below & 1)
 
-    def add_commit(self, parents, branch, clock, event, action, value):
+    def add_commit(self, parents, origin, clock, event, action, value):
         number, reach = len(self.commits), 1 << len(self.commits)
         for parent in parents:
             reach |= self.commits[parent].reach
         stored = self.put_object(value_object(value))
         above = [self.commits[p].address for p in parents]
-        name = self.put_object(commit_object(above, branch, clock, stored, action))
-        self.commits.append(Commit(parents, branch, clock, reach, event, value, name))
+        name = self.put_object(commit_object(above, origin, clock, stored, action))
+        self.commits.append(Commit(parents, origin, clock, reach, event, value, name))
         return number, name
 
     def check_land(self, branch, seen, makes_commit):
@@ -262,7 +262,7 @@ class Store:
         head = self.commits[seen]
         if head.clock == self.limits["clock"]:
             raise Refused(f"error exhausted {head.clock}")
-        time = (head.clock + 1, branch)
+        time = (head.clock + 1, self.origin + branch)
         before = self.visible(seen)
         reply = None
         if verb == "dequeue":
@@ -274,7 +274,7 @@ class Store:
         self.check_value(len(value) + len(op) + len(back))
         self.check_land(branch, seen, True)
         action = b"\1" + sized(op) + sized(back)
-        number, name = self.add_commit([seen], branch, time[0], event, action, value)
+        number, name = self.add_commit([seen], time[1], time[0], event, action, value)
         self.branches[branch][1] = number
         self.put_record(2, branch, 0, name)
         return number, time, reply
@@ -293,7 +293,7 @@ class Store:
         self.check_value(len(value))
         self.check_land(branch, seen, True)
         clock = max(self.commits[seen].clock, self.commits[other].clock)
-        number, name = self.add_commit([seen, other], branch, clock, None, b"\2", value)
+        number, name = self.add_commit([seen, other], self.origin + branch, clock, None, b"\2", value)
         self.branches[branch][1] = number
         self.put_record(3, branch, other, name)
         return "merged", number

@@ -40,6 +40,10 @@ After step images c = (d : Files) × images d × step d c
 abbrev pub Tells : (Files → Files → Type 0) → Option Files → Option Files → Type 0
 Tells step old new = (f : Files) → old ≡ Some f → (g : Files) × (new ≡ Some g) × step f g
 
+-- what is told goes on to be told, by whatever step
+abbrev pub StillTells : Option Files → Option Files → Type 0
+StillTells old new = (f : Files) → old ≡ Some f → (g : Files) × (new ≡ Some g)
+
 -- each image has in this part what is told
 abbrev pub IsSure : Part → Option Files → (Files → Type 0) → Type 0
 IsSure part told images = (f : Files) → told ≡ Some f → (c : Files) → images c → bytes_of part c ≡ bytes_of part f

@@ -2,7 +2,7 @@
 ghost use Rattle.std.specs.Prelude.{◌≡◌, ◌+◌, ◌-◌, ◌^◌, ◌≤◌, Option, Some, ℕ, length, take, drop, IfOk, OnOk};
 ghost use Rattle.std.specs.Option.{ForSome};
 ghost use Rattle.branch_io.specs.Causes.{HasCause};
-ghost use Rattle.branch_disk.specs.Disk.{Files, bytes_of, OnPart, Holds, Torn, After, Tells, IsSure, LeavesOnly};
+ghost use Rattle.branch_disk.specs.Disk.{Files, bytes_of, OnPart, Holds, Torn, After, Tells, StillTells, IsSure, LeavesOnly};
 
 use crate::Part;
 use thiserror::Error;
@@ -77,4 +77,7 @@ pub trait Disk {
 
     // Of a disk that does not tell no image is told.
     ghost told: { (disk : Self) (c : Files) → may_leave disk c → (f : Files) × (contents disk ≡ Some f) };
+
+    // Where one disk of the type tells what it holds, each does.
+    ghost all_tell: { (one other : Self) → StillTells (contents one) (contents other) };
 }

@@ -223,6 +223,8 @@ where
 
     ghost told = { λ d c now. absurd now };
 
+    ghost all_tell = { λ d e f is. absurd (Prim.cc is) };
+
     fn length(&mut self, part: Part) -> Result<u64, DiskFailed> {
         counted(
             &mut self.faults,

@@ -177,6 +177,8 @@ impl Disk for MemoryDisk {
 
     ghost told = { λ m c image. (record { objects = m.objects.items; heads = m.heads.items }, refl) };
 
+    ghost all_tell = { λ m n f is. (record { objects = n.objects.items; heads = n.heads.items }, refl) };
+
     fn length(&mut self, part: Part) -> Result<u64, DiskFailed>
         ensures told { IfOk result (λ n. ForSome (contents self.old) (λ f. n ≡ length (bytes_of part f))) }
         ensures same { contents self.new ≡ contents self.old }

@@ -7,7 +7,7 @@ use Rattle.mrdt_model.specs.Spelled.{AppendsPart}
 use Rattle.branch_io.specs.Causes.{Rose, HasCauseOf}
 use Rattle.branch_disk.specs.Disk.{Files, LeavesOnly}
 use Rattle.branch_disk.specs.Moments.{started}
-use Rattle.branch_names.specs.declared.limits.Limits.{Limits}
+use Rattle.branch_names.specs.declared.terms.Terms.{Terms}
 use Rattle.branch_history.specs.declared.moves.Move.{Move}
 use Rattle.branch_doc.specs.Forms.{DocOp, DocReply}
 use Rattle.branch_engine.specs.declared.refused.TellRefused.{TellRefused}
@@ -33,24 +33,24 @@ short-of (Ok done) never = absurd never
 short-of (Err e) is = ap Err is
 
 module _ {D : Type 0} (m : Members D) (address : List ℕ → List ℕ) where
-  abbrev Is : Limits → EngineView D → Play → Type 0
-  Is limits engine p = IsAt m.may_leave (doc_fixed address limits) engine p
+  abbrev Is : Terms → EngineView D → Play → Type 0
+  Is terms engine p = IsAt m.may_leave (doc_fixed address terms) engine p
 
   abbrev pub DoesSo : Telling → EngineView D → EngineView D → List ℕ → List ℕ → Result (Unit {0}) TellRefused → Type 0
   DoesSo told old new out out' r = Does m.may_leave m.moment m.left_since m.faults address told old new out out' r
 
   -- these words are told, and the engine then stands for what is left
   abbrev pub IsTold : Telling → EngineView D → EngineView D → List ℕ → Type 0
-  IsTold told old new words = (limits : Limits) (p : Play) → Is limits old p → Is limits new (told (doc_fixed address limits) p).after × ((told (doc_fixed address limits) p).text ≡ words)
+  IsTold told old new words = (terms : Terms) (p : Play) → Is terms old p → Is terms new (told (doc_fixed address terms) p).after × ((told (doc_fixed address terms) p).text ≡ words)
 
   -- what is told is this, and the engine stands for what that leaves
-  pub told-by : (limits : Limits) (new : EngineView D) (told it : Told) (words : List ℕ) → told ≡ it → Is limits new it.after → it.text ≡ words → Is limits new told.after × (told.text ≡ words)
-  told-by limits new told it words is after text = (subst (Is limits new) (sym (ap (λ (t : Told). t.after) is)) after, ap (λ (t : Told). t.text) is ∙ text)
+  pub told-by : (terms : Terms) (new : EngineView D) (told it : Told) (words : List ℕ) → told ≡ it → Is terms new it.after → it.text ≡ words → Is terms new told.after × (told.text ≡ words)
+  told-by terms new told it words is after text = (subst (Is terms new) (sym (ap (λ (t : Told). t.after) is)) after, ap (λ (t : Told). t.text) is ∙ text)
 
   -- these words are told, and the engine stands for the history before or behind, in which each session sees what it saw
   abbrev pub IsHalfTold : Telling → EngineView D → EngineView D → List ℕ → Type 0
   IsHalfTold told old new words =
-      (limits : Limits) (p : Play) → Is limits old p → StandsEitherWay m.may_leave (doc_fixed address limits) new p (told (doc_fixed address limits) p) × ((told (doc_fixed address limits) p).text ≡ words)
+      (terms : Terms) (p : Play) → Is terms old p → StandsEitherWay m.may_leave (doc_fixed address terms) new p (told (doc_fixed address terms) p) × ((told (doc_fixed address terms) p).text ≡ words)
 
   -- the disk has not failed, and a crash leaves either history
   pub record Works (told : Telling) (old new : EngineView D) : Type 0 where
@@ -62,8 +62,8 @@ module _ {D : Type 0} (m : Members D) (address : List ℕ → List ℕ) where
   pub works-still : (told : Telling) (old new : EngineView D) → old.core.failed ≡ false → new.core ≡ old.core → Works told old new
   works-still told old new worked core = record {
     working = ap (λ (k : Store D). k.failed) core ∙ worked;
-    moments = λ limits p at.
-        let Either = ReadAsEither (doc_fixed address limits) p.moves (told (doc_fixed address limits) p).after.moves in
+    moments = λ terms p at.
+        let Either = ReadAsEither (doc_fixed address terms) p.moves (told (doc_fixed address terms) p).after.moves in
         subst (λ (k : Store D). LeavesOnly m.moment m.left_since old.core.disk k.disk Either) (sym core)
         (started m.moment m.left_since old.core.disk Either (λ c left. inl (at.images c (m.only_now old.core.disk c left))));
     same = ap (λ (k : Store D). m.faults k.disk) core;
@@ -95,7 +95,7 @@ module _ {D : Type 0} (m : Members D) (address : List ℕ → List ℕ) where
 
   -- the disk failed
   pub does-fault : (told : Telling) (old new : EngineView D) (out : List ℕ) → new.core ≡ record old.core { failed = true; disk = new.core.disk } → KeepsLooks old.sessions new.sessions
-      → ((limits : Limits) (p : Play) → Is limits old p → Moves p (told (doc_fixed address limits) p).after) → LeavesEither m.may_leave m.moment m.left_since address told old new
+      → ((terms : Terms) (p : Play) → Is terms old p → Moves p (told (doc_fixed address terms) p).after) → LeavesEither m.may_leave m.moment m.left_since address told old new
       → m.faults old.core.disk ≤ m.faults new.core.disk → Rose (m.faults old.core.disk) (m.faults new.core.disk) → DoesSo told old new out out (Err refusal.DiskFault)
   does-fault told old new out core kept moves moments later rose = record {
     ok = tt;
@@ -109,18 +109,18 @@ module _ {D : Type 0} (m : Members D) (address : List ℕ → List ℕ) where
   pub nothing_done : (told : Telling) (old new : EngineView D) (out : List ℕ) (r : Result (Unit {0}) TellRefused) → r ≡ Err refusal.Memory → old.core.failed ≡ false → new ≡ old → DoesSo told old new out out r
   nothing_done told old new out r is worked same =
       let works = works-still told old new worked (ap (λ (v : EngineView D). v.core) same) in
-      does-memory told old new out out r is works (works.working, λ limits p at. (inl (subst (λ (v : EngineView D). Is limits v p) (sym same) at), (0, sym (append-nil out))))
+      does-memory told old new out out r is works (works.working, λ terms p at. (inl (subst (λ (v : EngineView D). Is terms v p) (sym same) at), (0, sym (append-nil out))))
 
   -- a first part of the words was written
   pub part_written : (told : Telling) (old new : EngineView D) (out out' words : List ℕ) (r : Result (Unit {0}) TellRefused) → r ≡ Err refusal.Memory → Works told old new → IsHalfTold told old new words → AppendsPart out out' words
       → DoesSo told old new out out' r
   part_written told old new out out' words r is works it part =
-      does-memory told old new out out' r is works (works.working, λ limits p at. let t = it limits p at in (t.0, subst (AppendsPart out out') (sym t.1) part))
+      does-memory told old new out out' r is works (works.working, λ terms p at. let t = it terms p at in (t.0, subst (AppendsPart out out') (sym t.1) part))
 
   -- the words were written
   all_written : (told : Telling) (old new : EngineView D) (out out' words : List ℕ) (r : Result (Unit {0}) TellRefused) → r ≡ Ok tt → Works told old new → IsTold told old new words → out' ≡ out ++ words → DoesSo told old new out out' r
   all_written told old new out out' words r is works it written =
-      does-ok told old new out out' r is works (λ limits p at. let t = it limits p at in (t.0, written ∙ ap (λ (w : List ℕ). out ++ w) (sym t.1)))
+      does-ok told old new out out' r is works (λ terms p at. let t = it terms p at in (t.0, written ∙ ap (λ (w : List ℕ). out ++ w) (sym t.1)))
 
   -- the words were written, or a first part of them; the call answers so
   pub ends_so : (told : Telling) (old new : EngineView D) (out out' words : List ℕ) (w : Result (Unit {0}) Memory) (r : Result (Unit {0}) TellRefused) → OnOk w (r ≡ Ok tt) → OnErr w (r ≡ Err refusal.Memory)
@@ -133,7 +133,7 @@ module _ {D : Type 0} (m : Members D) (address : List ℕ → List ℕ) where
       → old.core.failed ≡ false → new ≡ old → IsTold told old old words → OnOk w (out' ≡ out ++ words) → OnErr w (AppendsPart out out' words) → DoesSo told old new out out' r
   stays_so told old new out out' words w r through short worked same it ok err =
       subst (λ (v : EngineView D). DoesSo told old v out out' r) (sym same)
-      (ends_so told old old out out' words w r through short (works-still told old old worked refl) it (λ limits p at. (inl at, (it limits p at).1)) ok err)
+      (ends_so told old old out out' words w r through short (works-still told old old worked refl) it (λ terms p at. (inl at, (it terms p at).1)) ok err)
 
   -- all words were written, and then a session came to see something or, for want of memory, sees what it saw
   pub sees_so : (told : Telling) (old new : EngineView D) (out out' words : List ℕ) (w : Result (Unit {0}) Memory) (r : Result (Unit {0}) TellRefused) → OnOk w (r ≡ Ok tt) → OnErr w (r ≡ Err refusal.Memory)
@@ -144,14 +144,14 @@ module _ {D : Type 0} (m : Members D) (address : List ℕ → List ℕ) where
 
   -- what is told one way is told another way
   module _ (told other : Telling) (old new : EngineView D) (out out' : List ℕ)
-      (same : (limits : Limits) (p : Play) → Is limits old p → told (doc_fixed address limits) p ≡ other (doc_fixed address limits) p) where
+      (same : (terms : Terms) (p : Play) → Is terms old p → told (doc_fixed address terms) p ≡ other (doc_fixed address terms) p) where
     breaks_as : (e : TellRefused) → BreaksOff m.may_leave address other old new out out' e → BreaksOff m.may_leave address told old new out out' e
-    breaks_as refusal.DiskFault (written, core, kept, moves) = (written, core, kept, λ limits p at. subst (λ (t : Told). Moves p t.after) (sym (same limits p at)) (moves limits p at))
+    breaks_as refusal.DiskFault (written, core, kept, moves) = (written, core, kept, λ terms p at. subst (λ (t : Told). Moves p t.after) (sym (same terms p at)) (moves terms p at))
     breaks_as refusal.Memory (worked, half) =
-        (worked, λ limits p at. subst (λ (t : Told). StandsEitherWay m.may_leave (doc_fixed address limits) new p t × AppendsPart out out' t.text) (sym (same limits p at)) (half limits p at))
+        (worked, λ terms p at. subst (λ (t : Told). StandsEitherWay m.may_leave (doc_fixed address terms) new p t × AppendsPart out out' t.text) (sym (same terms p at)) (half terms p at))
 
     replies_as : Replies m.may_leave address other old new out out' → Replies m.may_leave address told old new out out'
-    replies_as replies limits p at = subst (λ (t : Told). Is limits new t.after × (out' ≡ out ++ t.text)) (sym (same limits p at)) (replies limits p at)
+    replies_as replies terms p at = subst (λ (t : Told). Is terms new t.after × (out' ≡ out ++ t.text)) (sym (same terms p at)) (replies terms p at)
 
     ok_as : (r : Result (Unit {0}) TellRefused) → OnOk r (Replies m.may_leave address other old new out out') → OnOk r (Replies m.may_leave address told old new out out')
     ok_as (Ok done) replies = replies_as replies
@@ -166,6 +166,6 @@ module _ {D : Type 0} (m : Members D) (address : List ℕ → List ℕ) where
       ok = ok_as r does.ok;
       working = does.working;
       err = err_as r does.err;
-      moments = λ limits p at. subst (λ (t : Told). LeavesOnly m.moment m.left_since old.core.disk new.core.disk (ReadAsEither (doc_fixed address limits) p.moves t.after.moves)) (sym (same limits p at)) (does.moments limits p at);
+      moments = λ terms p at. subst (λ (t : Told). LeavesOnly m.moment m.left_since old.core.disk new.core.disk (ReadAsEither (doc_fixed address terms) p.moves t.after.moves)) (sym (same terms p at)) (does.moments terms p at);
       cause = does.cause;
     }

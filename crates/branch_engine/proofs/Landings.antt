@@ -1,15 +1,18 @@
 -- Where a branch stands after a move on it.
-use Rattle.std.proofs.Common.{◌≡◌, ℕ, ◌<◌, Bool, true, false, cond, List, [], ◌∷◌, ◌++◌, length, refl, ap, sym, subst, ◌∙◌, None, Some}
+use Rattle.std.proofs.Common.{◌≡◌, ℕ, ◌+◌, ◌<◌, Bool, true, false, cond, List, [], ◌∷◌, ◌++◌, length, refl, ap, sym, subst, ◌∙◌, None, Some}
 use Rattle.std.specs.Prelude.{Option}
-use Rattle.branch_names.specs.declared.limits.Limits.{Limits}
-use Rattle.branch_names.specs.Heads.{head_of}
+use Rattle.branch_names.specs.declared.terms.Terms.{Terms}
+use Rattle.branch_names.specs.Heads.{head_of, is_dropped, with_head}
+use Rattle.branch_graph.specs.Graph.{reaches}
 use Rattle.branch_history.specs.declared.moves.Move.{Move}
 use Rattle.branch_history.specs.declared.moves.Move.TheVariants as move
+use Rattle.branch_history.specs.Commits.{graph_of}
+use Rattle.branch_history.specs.Merging.{brought}
 use Rattle.branch_history.specs.History.{store_of}
 use Rattle.branch_history.specs.Steps as machine
-use Rattle.branch_history.specs.Machine.{turn, answers, unless, makes, operation_refusal, merge_refusal, forward_refusal, commit_refusal, event_made}
-use Rattle.branch_history.proofs.Valid.{store_of-more}
-use Rattle.branch_history.proofs.Stores.{head_of-same}
+use Rattle.branch_history.specs.Machine.{turn, unless, makes, operation_refusal, merge_refusal, forward_refusal, commit_refusal, event_made, merge_turn}
+use Rattle.branch_history.proofs.Valid.{store_of-more, commit-tells, forward-tells}
+use Rattle.branch_history.proofs.Stores.{head_of-same, is_dropped-with_head}
 use Rattle.store_seen.specs.declared.answers.Kind.{Kind}
 use Rattle.store_seen.specs.declared.answers.Kind.TheVariants as kind
 use Rattle.store_seen.specs.Turns.{step_of, move_of, outcome_of}
@@ -37,70 +40,109 @@ OneMove = Move DocOp DocReply
 abbrev pub sight_at : ℕ → ℕ → Sight
 sight_at b h = record { branch = b; head = h }
 
--- what holds of a move and its outcome holds of the move that was made unless it was refused
-made_once : (P : Outcome → OneMove → Type 0) (a : Option machine.Refusal) (m made : OneMove) (o told : Outcome) → P o m → unless a (makes m o) ≡ makes made told → P told made
+-- what holds of a move and its outcome, where nothing refuses it, holds of the move that was made
+made_once : (P : Outcome → OneMove → Type 0) (a : Option machine.Refusal) (m made : OneMove) (o told : Outcome) → (a ≡ None → P o m) → unless a (makes m o) ≡ makes made told → P told made
 made_once P (Some x) m made o told holds is = let bad : [] ≡ made ∷ [] = ap (λ (t : Turn). t.made) is in absurd (let no : ⊥ = cc in no)
 made_once P None m made o told holds is =
     let outcome : o ≡ told = ap (λ (t : Turn). t.outcome) is in
     let moved : m ∷ [] ≡ made ∷ [] = ap (λ (t : Turn). t.made) is in
     let move : m ≡ made = cc in
-    subst (λ x. P x made) outcome (subst (P o) move holds)
+    subst (λ x. P x made) outcome (subst (P o) move (holds refl))
 
-made_twice : (P : Outcome → OneMove → Type 0) (a b : Option machine.Refusal) (m made : OneMove) (o told : Outcome) → P o m → unless a (unless b (makes m o)) ≡ makes made told → P told made
+made_twice : (P : Outcome → OneMove → Type 0) (a b : Option machine.Refusal) (m made : OneMove) (o told : Outcome) → (b ≡ None → P o m) → unless a (unless b (makes m o)) ≡ makes made told → P told made
 made_twice P (Some x) b m made o told holds is = let bad : [] ≡ made ∷ [] = ap (λ (t : Turn). t.made) is in absurd (let no : ⊥ = cc in no)
 made_twice P None b m made o told holds is = made_once P b m made o told holds is
 
 -- a merge moves up, or makes a commit
-made_either : (P : Outcome → OneMove → Type 0) (above below : Bool) (up a b : Option machine.Refusal) (m f made : OneMove) (o g told : Outcome) → P g f → P o m
-    → cond above (answers machine.Same) (cond below (unless up (makes f g)) (unless a (unless b (makes m o)))) ≡ makes made told → P told made
-made_either P true below up a b m f made o g told holds_up holds is = let bad : [] ≡ made ∷ [] = ap (λ (t : Turn). t.made) is in absurd (let no : ⊥ = cc in no)
-made_either P false true up a b m f made o g told holds_up holds is = made_once P up f made g told holds_up is
-made_either P false false up a b m f made o g told holds_up holds is = made_twice P a b m made o told holds is
+made_either : (P : Outcome → OneMove → Type 0) (below : Bool) (up a b : Option machine.Refusal) (m f made : OneMove) (o g told : Outcome) → (up ≡ None → P g f) → (b ≡ None → P o m)
+    → cond below (unless up (makes f g)) (unless a (unless b (makes m o))) ≡ makes made told → P told made
+made_either P true up a b m f made o g told holds_up holds is = made_once P up f made g told holds_up is
+made_either P false up a b m f made o g told holds_up holds is = made_twice P a b m made o told holds is
 
-module _ (limits : Limits) (moves : History) (r : ℕ) (there : r < length (store_of moves).branches) where
-  -- who made this move with this outcome sees the branch's new head
+module _ (terms : Terms) (moves : History) (r : ℕ) (there : r < length (store_of terms.origin moves).branches) where
+  -- the branch has this head, and was not dropped
+  abbrev StandsAt : ℕ → History → Type 0
+  StandsAt head history = let branches = (store_of terms.origin history).branches in (head_of branches r ≡ head) × (is_dropped branches r ≡ false)
+
+  -- who made this move with this outcome sees the branch's new head, and the branch was not dropped
   abbrev SeesNew : Outcome → OneMove → Type 0
-  SeesNew outcome made = sight_after r outcome ≡ Some (sight_at r (head_of (store_of (moves ++ made ∷ [])).branches r))
+  SeesNew outcome made =
+      let branches = (store_of terms.origin (moves ++ made ∷ [])).branches in
+      (sight_after r outcome ≡ Some (sight_at r (head_of branches r))) × (is_dropped branches r ≡ false)
 
-  operation_head : (op : DocOp) (reply : DocReply) → head_of (store_of (moves ++ move.Operation r op reply ∷ [])).branches r ≡ length (store_of moves).commits
-  operation_head op reply = ap (λ s. head_of s.branches r) (store_of-more moves (move.Operation r op reply)) ∙ head_of-same (store_of moves).branches r (length (store_of moves).commits) there
+  -- a move of the branch to a head
+  moved_to : (head : ℕ) (made : OneMove) → (store_of terms.origin (moves ++ made ∷ [])).branches ≡ with_head (store_of terms.origin moves).branches r head → is_dropped (store_of terms.origin moves).branches r ≡ false
+      → StandsAt head (moves ++ made ∷ [])
+  moved_to head made is here =
+      let branches = (store_of terms.origin moves).branches in
+      (ap (λ bs. head_of bs r) is ∙ head_of-same branches r head there, ap (λ bs. is_dropped bs r) is ∙ is_dropped-with_head branches r head r ∙ here)
 
-  merge_head : (m : ℕ) → head_of (store_of (moves ++ move.Merge r m ∷ [])).branches r ≡ length (store_of moves).commits
-  merge_head m = ap (λ s. head_of s.branches r) (store_of-more moves (move.Merge r m)) ∙ head_of-same (store_of moves).branches r (length (store_of moves).commits) there
+  sees_moved : (head : ℕ) (outcome : Outcome) (made : OneMove) → sight_after r outcome ≡ Some (sight_at r head) → StandsAt head (moves ++ made ∷ []) → SeesNew outcome made
+  sees_moved head outcome made sees stands = (sees ∙ ap (λ n. Some (sight_at r n)) (sym stands.0), stands.1)
 
-  forward_head : (m : ℕ) → head_of (store_of (moves ++ move.Forward r m ∷ [])).branches r ≡ m
-  forward_head m = ap (λ s. head_of s.branches r) (store_of-more moves (move.Forward r m)) ∙ head_of-same (store_of moves).branches r m there
+  operation_stands : (op : DocOp) (reply : DocReply) → is_dropped (store_of terms.origin moves).branches r ≡ false → StandsAt (length (store_of terms.origin moves).commits) (moves ++ move.Operation r op reply ∷ [])
+  operation_stands op reply here =
+      moved_to (length (store_of terms.origin moves).commits) (move.Operation r op reply) (ap (λ s. s.branches) (store_of-more terms.origin moves (move.Operation r op reply))) here
 
-  pub land-sees : (h : ℕ) (op : DocOp) (outcome : Outcome) (made : OneMove) → turn document limits moves (machine.Land r h op) ≡ makes made outcome → SeesNew outcome made
+  merge_stands : (m : ℕ) → is_dropped (store_of terms.origin moves).branches r ≡ false → StandsAt (length (store_of terms.origin moves).commits) (moves ++ move.Merge r m ∷ [])
+  merge_stands m here = moved_to (length (store_of terms.origin moves).commits) (move.Merge r m) (ap (λ s. s.branches) (store_of-more terms.origin moves (move.Merge r m))) here
+
+  join_stands : (ms : List ℕ) → is_dropped (store_of terms.origin moves).branches r ≡ false → StandsAt (length (store_of terms.origin moves).commits) (moves ++ move.Join r ms ∷ [])
+  join_stands ms here = moved_to (length (store_of terms.origin moves).commits) (move.Join r ms) (ap (λ s. s.branches) (store_of-more terms.origin moves (move.Join r ms))) here
+
+  forward_stands : (m : ℕ) → is_dropped (store_of terms.origin moves).branches r ≡ false → StandsAt m (moves ++ move.Forward r m ∷ [])
+  forward_stands m here = moved_to m (move.Forward r m) (ap (λ s. s.branches) (store_of-more terms.origin moves (move.Forward r m))) here
+
+  pub land-sees : (h : ℕ) (op : DocOp) (outcome : Outcome) (made : OneMove) → turn document terms moves (machine.Land r h op) ≡ makes made outcome → SeesNew outcome made
   unfolding turn
   land-sees h op outcome made is =
-      let commits = (store_of moves).commits in
-      let e = event_made document commits r h op in
-      made_twice SeesNew (operation_refusal document limits commits r h op) (commit_refusal limits moves r h) (move.Operation r op e.reply) made (machine.Landed (length commits) e.time e.reply) outcome
-      (ap (λ n. Some (sight_at r n)) (sym (operation_head op e.reply))) is
+      let commits = (store_of terms.origin moves).commits in
+      let e = event_made document commits (terms.origin + r) h op in
+      let o = machine.Landed (length commits) e.time e.reply in
+      made_twice SeesNew (operation_refusal document terms.limits commits (terms.origin + r) h op) (commit_refusal terms moves r h) (move.Operation r op e.reply) made o outcome
+      (λ none. sees_moved (length commits) o (move.Operation r op e.reply) refl (operation_stands op e.reply (commit-tells document terms moves r h none).0)) is
 
-  pub merge-sees : (h m : ℕ) (outcome : Outcome) (made : OneMove) → turn document limits moves (machine.Merge r h m) ≡ makes made outcome → SeesNew outcome made
+  -- given the commits that it brings
+  merged_sees : (h : ℕ) (ms : List ℕ) (outcome : Outcome) (made : OneMove) → merge_turn document terms moves r h ms ≡ makes made outcome → SeesNew outcome made
+  merged_sees h [] outcome made is = let bad : [] ≡ made ∷ [] = ap (λ (t : Turn). t.made) is in absurd (let no : ⊥ = cc in no)
+  merged_sees h (m ∷ []) outcome made is =
+      let commits = (store_of terms.origin moves).commits in
+      let o = machine.Merged (length commits) in
+      made_either SeesNew (reaches (graph_of commits) m h) (forward_refusal terms moves r h) (merge_refusal document terms.limits commits (h ∷ m ∷ [])) (commit_refusal terms moves r h)
+      (move.Merge r m) (move.Forward r m) made o (machine.Forwarded m) outcome
+      (λ none. sees_moved m (machine.Forwarded m) (move.Forward r m) refl (forward_stands m (forward-tells document terms moves r h none).0))
+      (λ none. sees_moved (length commits) o (move.Merge r m) refl (merge_stands m (commit-tells document terms moves r h none).0)) is
+  merged_sees h (m ∷ k ∷ ks) outcome made is =
+      let commits = (store_of terms.origin moves).commits in
+      let ms = m ∷ k ∷ ks in
+      let o = machine.Joined (length commits) in
+      made_twice SeesNew (merge_refusal document terms.limits commits (h ∷ ms)) (commit_refusal terms moves r h) (move.Join r ms) made o outcome
+      (λ none. sees_moved (length commits) o (move.Join r ms) refl (join_stands ms (commit-tells document terms moves r h none).0)) is
+
+  pub merge-sees : (h m : ℕ) (outcome : Outcome) (made : OneMove) → turn document terms moves (machine.Merge r h (m ∷ [])) ≡ makes made outcome → SeesNew outcome made
   unfolding turn
-  merge-sees h m outcome made is =
-      let commits = (store_of moves).commits in
-      made_either SeesNew _ _ (forward_refusal limits moves r h) (merge_refusal document limits commits h m) (commit_refusal limits moves r h)
-      (move.Merge r m) (move.Forward r m) made (machine.Merged (length commits)) (machine.Forwarded m) outcome
-      (ap (λ n. Some (sight_at r n)) (sym (forward_head m))) (ap (λ n. Some (sight_at r n)) (sym (merge_head m))) is
+  merge-sees h m outcome made is = merged_sees h (brought (graph_of (store_of terms.origin moves).commits) h (m ∷ [])) outcome made is
 
-lands_step : (limits : Limits) (history : History) (seen : Seen) (does : Work DocOp DocReply) (k : Kind DocReply) → seen.branch < length (store_of history).branches
-    → turn document limits history (step_of {Q = DocQuery} seen does) ≡ makes (move_of seen.branch does) (outcome_of k)
-    → sight_after seen.branch (outcome_of k) ≡ Some (sight_at seen.branch (head_of (store_of (history ++ move_of seen.branch does ∷ [])).branches seen.branch))
-lands_step limits history seen (work.Operation op reply) k there is = land-sees limits history seen.branch there seen.head op (outcome_of k) (move.Operation seen.branch op reply) is
-lands_step limits history seen (work.Merge commit) k there is = merge-sees limits history seen.branch there seen.head commit (outcome_of k) (move.Merge seen.branch commit) is
-lands_step limits history seen (work.Forward commit) k there is = merge-sees limits history seen.branch there seen.head commit (outcome_of k) (move.Forward seen.branch commit) is
+-- who sees a branch's head sees this, and the branch was not dropped
+abbrev pub SeesStanding : Seen → Kind DocReply → Terms → History → Type 0
+SeesStanding seen k terms history =
+    let branches = (store_of terms.origin history).branches in
+    (sight_after seen.branch (outcome_of k) ≡ Some (sight_at seen.branch (head_of branches seen.branch))) × (is_dropped branches seen.branch ≡ false)
 
--- after what was prepared has landed, its session sees the branch's new head
-pub lands-sees : {D : Type 0} (address : List ℕ → List ℕ) (old new : Store D) (seen : Seen) (does : Work DocOp DocReply) (k : Kind DocReply) (moves : ℕ) → seen.branch < length (store_of old.history).branches
-    → Moves (doc_fixed address old.limits) old new (step_of seen does) (move_of seen.branch does) (outcome_of k) moves
-    → sight_after seen.branch (outcome_of k) ≡ Some (sight_at seen.branch (head_of (store_of new.history).branches seen.branch))
+lands_step : (terms : Terms) (history : History) (seen : Seen) (does : Work DocOp DocReply) (k : Kind DocReply) → seen.branch < length (store_of terms.origin history).branches
+    → turn document terms history (step_of {Q = DocQuery} seen does) ≡ makes (move_of seen.branch does) (outcome_of k)
+    → SeesStanding seen k terms (history ++ move_of seen.branch does ∷ [])
+lands_step terms history seen (work.Operation op reply) k there is = land-sees terms history seen.branch there seen.head op (outcome_of k) (move.Operation seen.branch op reply) is
+lands_step terms history seen (work.Merge commit) k there is = merge-sees terms history seen.branch there seen.head commit (outcome_of k) (move.Merge seen.branch commit) is
+lands_step terms history seen (work.Forward commit) k there is = merge-sees terms history seen.branch there seen.head commit (outcome_of k) (move.Forward seen.branch commit) is
+
+-- after what was prepared has landed, its session sees the branch's new head, and the branch was not dropped
+pub lands-sees : {D : Type 0} (address : List ℕ → List ℕ) (old new : Store D) (seen : Seen) (does : Work DocOp DocReply) (k : Kind DocReply) (moves : ℕ) → seen.branch < length (store_of old.terms.origin old.history).branches
+    → Moves (doc_fixed address old.terms) old new (step_of seen does) (move_of seen.branch does) (outcome_of k) moves
+    → SeesStanding seen k new.terms new.history
 lands-sees {D} address old new seen does k moves there m =
-    lands_step old.limits old.history seen does k there (full-turned (doc_fixed address old.limits) old.history (step_of seen does) (move_of seen.branch does) (outcome_of k) m.turn_is)
-    ∙ ap (λ (c : Store D). Some (sight_at seen.branch (head_of (store_of c.history).branches seen.branch))) (sym m.history)
+    subst (λ (c : Store D). SeesStanding seen k c.terms c.history) (sym m.history)
+    (lands_step old.terms old.history seen does k there (full-turned (doc_fixed address old.terms) old.history (step_of seen does) (move_of seen.branch does) (outcome_of k) m.turn_is))
 
 -- the text of what landed is that of the machine's outcome
 pub text-of_kind : (session branch : List ℕ) (k : Kind DocReply) → kind_text k ≡ outcome_text session branch (outcome_of k)

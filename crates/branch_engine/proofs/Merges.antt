@@ -1,5 +1,5 @@
 -- A look paired with the head of another branch, over the core on which it was paired.
-use Rattle.std.proofs.Common.{◌≡◌, ℕ, List, ap, sym, subst, ◌∙◌}
+use Rattle.std.proofs.Common.{◌≡◌, ℕ, List, [], ◌∷◌, refl, ap, sym, subst, ◌∙◌}
 use mathlib.Core.List.{IsPrefix}
 use Rattle.branch_history.specs.declared.moves.Move.{Move}
 use Rattle.branch_history.specs.Steps as machine
@@ -21,7 +21,7 @@ Pair = PairView (Move DocOp DocReply)
 
 -- on a branch, by one that sees a commit, the merge of another
 abbrev pub merge_of : ℕ → ℕ → ℕ → machine.Step DocOp DocQuery
-merge_of branch head other = machine.Merge branch head other
+merge_of branch head other = machine.Merge branch head (other ∷ [])
 
 work_step : (pair : Pair) (does : Work DocOp DocReply) → IsWorkOf document pair does → step_of {Q = DocQuery} (seen_of pair) does ≡ merge_of pair.branch pair.head pair.other
 work_step pair (work.Operation op reply) is = absurd is
@@ -32,8 +32,8 @@ module _ (core : Core) (seen : Seen) (from : List ℕ) (pair : Pair) (paired : I
   pub pair-history : pair.history ≡ core.history
   pair-history = ap (λ (s : Seen). s.history) paired.look
 
-  pub pair-limits : pair.limits ≡ core.limits
-  pair-limits = ap (λ (s : Seen). s.limits) paired.look
+  pub pair-terms : pair.terms ≡ core.terms
+  pair-terms = ap (λ (s : Seen). s.terms) paired.look
 
   pub pair-branch : pair.branch ≡ seen.branch
   pair-branch = ap (λ (s : Seen). s.branch) paired.look
@@ -45,11 +45,11 @@ module _ (core : Core) (seen : Seen) (from : List ℕ) (pair : Pair) (paired : I
   same_merge = ap (λ b. merge_of b pair.head pair.other) pair-branch ∙ ap (λ h. merge_of seen.branch h pair.other) pair-head
 
   -- the machine's turn that the pair was told, of the merge that a session asks for
-  pub pair-turn : (address : List ℕ → List ℕ) (outcome : machine.Outcome DocAnswer DocReply) → MergesAs document pair outcome → full_turn (doc_fixed address core.limits) core.history (merge_of seen.branch seen.head pair.other) ≡ answers outcome
+  pub pair-turn : (address : List ℕ → List ℕ) (outcome : machine.Outcome DocAnswer DocReply) → MergesAs document pair outcome → full_turn (doc_fixed address core.terms) core.history (merge_of seen.branch seen.head pair.other) ≡ answers outcome
   pair-turn address outcome merges =
       let told = merges core.history (subst (λ h. IsPrefix h core.history) (sym pair-history) (prefix-self core.history)) in
-      full-answers (doc_fixed address core.limits) core.history (merge_of seen.branch seen.head pair.other) outcome
-      (subst (λ s. turn document core.limits core.history s ≡ answers outcome) same_merge (subst (λ l. turn document l core.history (merge_of pair.branch pair.head pair.other) ≡ answers outcome) pair-limits told))
+      full-answers (doc_fixed address core.terms) core.history (merge_of seen.branch seen.head pair.other) outcome refl
+      (subst (λ s. turn document core.terms core.history s ≡ answers outcome) same_merge (subst (λ l. turn document l core.history (merge_of pair.branch pair.head pair.other) ≡ answers outcome) pair-terms told))
 
   -- what was prepared is that merge
   pub pair-work : (made : PreparedView DocOp DocReply) → made.seen ≡ seen_of pair → IsWorkOf document pair made.work → step_of {Q = DocQuery} made.seen made.work ≡ merge_of seen.branch seen.head pair.other

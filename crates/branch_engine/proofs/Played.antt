@@ -8,7 +8,7 @@ use Rattle.std.specs.Cmp.Lexicographic.{slice_cmp}
 use Rattle.std.proofs.lemmas.Map.Text.{is_eq-slice_cmp}
 use mathlib.Core.List.{IsPrefix}
 use Rattle.branch_disk.specs.Disk.{Files}
-use Rattle.branch_names.specs.declared.limits.Limits.{Limits}
+use Rattle.branch_names.specs.declared.terms.Terms.{Terms}
 use Rattle.branch_history.specs.History.{store_of}
 use Rattle.branch_history.specs.Steps as machine
 use Rattle.branch_history.specs.Machine.{answers}
@@ -31,32 +31,32 @@ pub prefix-more : {A : Type 0} (xs ys added : List A) → IsPrefix xs ys → IsP
 prefix-more xs ys added p = (p.0 ++ added, sym (append_assoc xs p.0 added) ∙ ap (λ w. w ++ added) p.1)
 
 -- a branch that is there stays
-pub branch-stays : (old new : History) (r : ℕ) → IsPrefix old new → r < length (store_of old).branches → r < length (store_of new).branches
-branch-stays old new r p there = subst (λ h. r < length (store_of h).branches) p.1 (same_branch old p.0 r there).there
+pub branch-stays : (first : ℕ) (old new : History) (r : ℕ) → IsPrefix old new → r < length (store_of first old).branches → r < length (store_of first new).branches
+branch-stays first old new r p there = subst (λ h. r < length (store_of first h).branches) p.1 (same_branch first old p.0 r there).there
 
 -- looks stay at beginnings of a history that grows
-pub looks-grow : (old new : Core) (sessions : List (List ℕ × Seen)) (made : History) → AreLooksAt old sessions → new.limits ≡ old.limits → new.history ≡ old.history ++ made → AreLooksAt new sessions
-looks-grow old new sessions made looks limits grown name seen found =
+pub looks-grow : (old new : Core) (sessions : List (List ℕ × Seen)) (made : History) → AreLooksAt old sessions → new.terms ≡ old.terms → new.history ≡ old.history ++ made → AreLooksAt new sessions
+looks-grow old new sessions made looks terms grown name seen found =
     let l = looks name seen found in
-    (subst (IsPrefix seen.history) (sym grown) (prefix-more seen.history old.history made l.0), l.1 ∙ sym limits)
+    (subst (IsPrefix seen.history) (sym grown) (prefix-more seen.history old.history made l.0), l.1 ∙ sym terms)
 
 -- one look more
-put_step : (core : Core) (t : Bool) (seen s : Seen) (old : Option Seen) → IsPrefix seen.history core.history × (seen.limits ≡ core.limits)
-    → (old ≡ Some s → IsPrefix s.history core.history × (s.limits ≡ core.limits)) → cond t (Some seen) old ≡ Some s → IsPrefix s.history core.history × (s.limits ≡ core.limits)
-put_step core true seen s old here rest is = let same : seen ≡ s = cc in subst (λ k. IsPrefix k.history core.history × (k.limits ≡ core.limits)) same here
+put_step : (core : Core) (t : Bool) (seen s : Seen) (old : Option Seen) → IsPrefix seen.history core.history × (seen.terms ≡ core.terms)
+    → (old ≡ Some s → IsPrefix s.history core.history × (s.terms ≡ core.terms)) → cond t (Some seen) old ≡ Some s → IsPrefix s.history core.history × (s.terms ≡ core.terms)
+put_step core true seen s old here rest is = let same : seen ≡ s = cc in subst (λ k. IsPrefix k.history core.history × (k.terms ≡ core.terms)) same here
 put_step core false seen s old here rest is = rest is
 
 pub looks-put : (core : Core) (old new : List (List ℕ × Seen)) (session : List ℕ) (seen : Seen) → AreLooksAt core old → Puts old new session seen
-    → IsPrefix seen.history core.history → seen.limits ≡ core.limits → AreLooksAt core new
-looks-put core old new session seen looks puts at limits name s found =
-    put_step core (is_eq (slice_cmp nat_cmp session name)) seen s (session_named old name) (at, limits) (looks name s) (sym (puts name) ∙ found)
+    → IsPrefix seen.history core.history → seen.terms ≡ core.terms → AreLooksAt core new
+looks-put core old new session seen looks puts at terms name s found =
+    put_step core (is_eq (slice_cmp nat_cmp session name)) seen s (session_named old name) (at, terms) (looks name s) (sym (puts name) ∙ found)
 
 -- a look was put or, for want of memory, nothing
 pub looks-set : (core : Core) (old new : List (List ℕ × Seen)) (session : List ℕ) (seen : Seen) (result : Result (Unit {0}) Memory) → AreLooksAt core old
     → OnOk result (Puts old new session seen) → OnErr result (KeepsLooks old new)
-    → IsPrefix seen.history core.history → seen.limits ≡ core.limits → AreLooksAt core new
-looks-set core old new session seen (Ok done) looks puts kept at limits = looks-put core old new session seen looks puts at limits
-looks-set core old new session seen (Err memory) looks puts kept at limits = λ name s found. looks name s (sym (kept name) ∙ found)
+    → IsPrefix seen.history core.history → seen.terms ≡ core.terms → AreLooksAt core new
+looks-set core old new session seen (Ok done) looks puts kept at terms = looks-put core old new session seen looks puts at terms
+looks-set core old new session seen (Err memory) looks puts kept at terms = λ name s found. looks name s (sym (kept name) ∙ found)
 
 abbrev sees : ℕ → ℕ → machine.Outcome DocAnswer DocReply
 sees a b = machine.Sees a b
@@ -78,41 +78,41 @@ map_step false seen old = refl
 module _ {D : Type 0} (may_leave : D → Files → Type 0) (address : List ℕ → List ℕ) where
   -- each image reads as the store's history
   abbrev pub IsWhole : Store D → Type 0
-  IsWhole store = (c : Files) → may_leave store.disk c → ReadAs (doc_fixed address store.limits) store.history c
+  IsWhole store = (c : Files) → may_leave store.disk c → ReadAs (doc_fixed address store.terms) store.history c
 
-  pub whole-so : ReadsWhatStands document → (store : Store D) → IsFullyValid (doc_fixed address store.limits) store.history
-      → AllStand (doc_fixed address store.limits) store.history (may_leave store.disk) → IsWhole store
-  whole-so law store valid stand c image = law store.limits address store.history c valid (stand c image)
+  pub whole-so : ReadsWhatStands document → (store : Store D) → IsFullyValid (doc_fixed address store.terms) store.history
+      → AllStand (doc_fixed address store.terms) store.history (may_leave store.disk) → IsWhole store
+  whole-so law store valid stand c image = law store.terms address store.history c valid (stand c image)
 
-  module _ (limits : Limits) (old : EngineView D) (p : Play) (at : IsAt may_leave (doc_fixed address limits) old p) where
+  module _ (terms : Terms) (old : EngineView D) (p : Play) (at : IsAt may_leave (doc_fixed address terms) old p) where
     -- the machine's turn, over the play
-    pub turn-at : (step : machine.Step DocOp DocQuery) (t : machine.Turn DocOp DocReply DocAnswer) → full_turn (doc_fixed address old.core.limits) old.core.history step ≡ t → full_turn (doc_fixed address limits) p.moves step ≡ t
+    pub turn-at : (step : machine.Step DocOp DocQuery) (t : machine.Turn DocOp DocReply DocAnswer) → full_turn (doc_fixed address old.core.terms) old.core.history step ≡ t → full_turn (doc_fixed address terms) p.moves step ≡ t
     turn-at step t is =
-        ap (λ (m : History). full_turn (doc_fixed address limits) m step) (sym at.history)
-        ∙ ap (λ (l : Limits). full_turn (doc_fixed address l) old.core.history step) (sym at.limits_are) ∙ is
+        ap (λ (m : History). full_turn (doc_fixed address terms) m step) (sym at.history)
+        ∙ ap (λ (l : Terms). full_turn (doc_fixed address l) old.core.history step) (sym at.terms_are) ∙ is
 
     -- after a move of the core
-    pub at-more : (new : EngineView D) (made : History) → new.core.limits ≡ old.core.limits → new.core.history ≡ old.core.history ++ made → KeepsLooks old.sessions new.sessions → IsWhole new.core
-        → IsAt may_leave (doc_fixed address limits) new (record { moves = p.moves ++ made; sessions = p.sessions })
+    pub at-more : (new : EngineView D) (made : History) → new.core.terms ≡ old.core.terms → new.core.history ≡ old.core.history ++ made → KeepsLooks old.sessions new.sessions → IsWhole new.core
+        → IsAt may_leave (doc_fixed address terms) new (record { moves = p.moves ++ made; sessions = p.sessions })
     at-more new made same grown kept whole =
-        let under : new.core.limits ≡ limits = same ∙ at.limits_are in
+        let under : new.core.terms ≡ terms = same ∙ at.terms_are in
         let now : new.core.history ≡ p.moves ++ made = grown ∙ ap (λ (h : History). h ++ made) at.history in
         record {
-          limits_are = under;
+          terms_are = under;
           history = now;
           sights = λ name. ap (option_map sight_of) (kept name) ∙ at.sights name;
-          images = λ c image. subst (λ (h : History). ReadAs (doc_fixed address limits) h c) now (subst (λ (l : Limits). ReadAs (doc_fixed address l) new.core.history c) under (whole c image));
+          images = λ c image. subst (λ (h : History). ReadAs (doc_fixed address terms) h c) now (subst (λ (l : Terms). ReadAs (doc_fixed address l) new.core.history c) under (whole c image));
         }
 
     -- with no move
-    pub at-still : IsAt may_leave (doc_fixed address limits) old (record { moves = p.moves ++ []; sessions = p.sessions })
-    at-still = subst (λ (h : History). IsAt may_leave (doc_fixed address limits) old (record { moves = h; sessions = p.sessions })) (sym (append-nil p.moves)) at
+    pub at-still : IsAt may_leave (doc_fixed address terms) old (record { moves = p.moves ++ []; sessions = p.sessions })
+    at-still = subst (λ (h : History). IsAt may_leave (doc_fixed address terms) old (record { moves = h; sessions = p.sessions })) (sym (append-nil p.moves)) at
 
     -- a session came to see a look
     pub at-put : (new : EngineView D) (session : List ℕ) (seen : Seen) (sight : Sight) → new.core ≡ old.core → Puts old.sessions new.sessions session seen → sight_of seen ≡ sight
-        → IsAt may_leave (doc_fixed address limits) new (record { moves = p.moves; sessions = (record { name = session; sight = sight }) ∷ p.sessions })
+        → IsAt may_leave (doc_fixed address terms) new (record { moves = p.moves; sessions = (record { name = session; sight = sight }) ∷ p.sessions })
     at-put new session seen sight core puts same = record {
-      limits_are = ap (λ (k : Store D). k.limits) core ∙ at.limits_are;
+      terms_are = ap (λ (k : Store D). k.terms) core ∙ at.terms_are;
       history = ap (λ (k : Store D). k.history) core ∙ at.history;
       sights = λ name.
           ap (option_map sight_of) (puts name) ∙ map_step (is_eq (slice_cmp nat_cmp session name)) seen (session_named old.sessions name)
@@ -123,9 +123,9 @@ module _ {D : Type 0} (may_leave : D → Files → Type 0) (address : List ℕ �
     }
 
     -- each session sees what it saw
-    pub at-kept : (new : EngineView D) → new.core ≡ old.core → KeepsLooks old.sessions new.sessions → IsAt may_leave (doc_fixed address limits) new p
+    pub at-kept : (new : EngineView D) → new.core ≡ old.core → KeepsLooks old.sessions new.sessions → IsAt may_leave (doc_fixed address terms) new p
     at-kept new core kept = record {
-      limits_are = ap (λ (k : Store D). k.limits) core ∙ at.limits_are;
+      terms_are = ap (λ (k : Store D). k.terms) core ∙ at.terms_are;
       history = ap (λ (k : Store D). k.history) core ∙ at.history;
       sights = λ name. ap (option_map sight_of) (kept name) ∙ at.sights name;
       images = λ c image. at.images c (subst (λ (k : Store D). may_leave k.disk c) core image);

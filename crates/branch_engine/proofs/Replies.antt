@@ -3,14 +3,14 @@ use Rattle.std.proofs.Common.{◌≡◌, ℕ, List, [], ◌∷◌, ◌++◌, ref
 use Rattle.std.specs.Option.{option_map}
 use Rattle.branch_disk.specs.Disk.{Files, LeavesOnly}
 use Rattle.branch_disk.specs.Moments.{weakened}
-use Rattle.branch_names.specs.declared.limits.Limits.{Limits}
+use Rattle.branch_names.specs.declared.terms.Terms.{Terms}
 use Rattle.branch_names.specs.Heads.{name_of}
 use Rattle.branch_history.specs.declared.moves.Move.{Move}
 use Rattle.branch_history.specs.declared.moves.Move.TheVariants as move
 use Rattle.branch_history.specs.History.{store_of}
 use Rattle.branch_history.specs.Steps as machine
 use Rattle.branch_history.specs.Machine.{turn, answers, makes}
-use Rattle.branch_machine.specs.Machine.{full_turn}
+use Rattle.branch_machine.specs.Machine.{commit_here, full_turn}
 use Rattle.branch_machine.specs.Validity.{IsFullyValid}
 use Rattle.branch_files.specs.Laws.{ReadsWhatStands}
 use Rattle.branch_script.specs.declared.step.Step.TheVariants.{Look, Fork, Merge, Do, Ask}
@@ -59,20 +59,20 @@ turn_telling session number step fixed p = turn_told fixed p session number step
 abbrev pub view_of : {D : Type 0} → Store D → List (List ℕ × Seen) → EngineView D
 view_of core sessions = record { core = core; sessions = sessions }
 
--- what the machine without objects answers with no move, of an engine whose view this is
+-- what the machine without objects answers with no move to a step that receives no commit, of an engine whose view this is
 pub full-so : {D : Type 0} (address : List ℕ → List ℕ) (core : Store D) (sessions : List (List ℕ × Seen)) (old : EngineView D) → view_of core sessions ≡ old
-    → (step : machine.Step DocOp DocQuery) (outcome : machine.Outcome DocAnswer DocReply) → turn document core.limits core.history step ≡ answers outcome
-    → full_turn (doc_fixed address old.core.limits) old.core.history step ≡ answers outcome
-full-so {D} address core sessions old view step outcome is =
-    subst (λ (v : EngineView D). full_turn (doc_fixed address v.core.limits) v.core.history step ≡ answers outcome) view (full-answers (doc_fixed address core.limits) core.history step outcome is)
+    → (step : machine.Step DocOp DocQuery) (outcome : machine.Outcome DocAnswer DocReply) → commit_here (doc_fixed address core.terms) core.history step ≡ None → turn document core.terms core.history step ≡ answers outcome
+    → full_turn (doc_fixed address old.core.terms) old.core.history step ≡ answers outcome
+full-so {D} address core sessions old view step outcome other is =
+    subst (λ (v : EngineView D). full_turn (doc_fixed address v.core.terms) v.core.history step ≡ answers outcome) view (full-answers (doc_fixed address core.terms) core.history step outcome other is)
 
 module _ {D : Type 0} (m : Members D) (address : List ℕ → List ℕ) (old : EngineView D) where
-  abbrev Is : Limits → EngineView D → Play → Type 0
-  Is limits engine p = IsAt m.may_leave (doc_fixed address limits) engine p
+  abbrev Is : Terms → EngineView D → Play → Type 0
+  Is terms engine p = IsAt m.may_leave (doc_fixed address terms) engine p
 
   -- what the machine answers to a step, and the moves that it makes
   abbrev pub turn_of : machine.Step DocOp DocQuery → machine.Turn DocOp DocReply DocAnswer
-  turn_of step = full_turn (doc_fixed address old.core.limits) old.core.history step
+  turn_of step = full_turn (doc_fixed address old.core.terms) old.core.history step
 
   -- the machine refuses a step so
   abbrev pub Refuses : machine.Step DocOp DocQuery → machine.Refusal → Type 0
@@ -82,45 +82,45 @@ module _ {D : Type 0} (m : Members D) (address : List ℕ → List ℕ) (old : E
   abbrev pub LooksAt : List ℕ → ℕ → ℕ → Type 0
   LooksAt branch number head = turn_of (machine.Look branch) ≡ answers (machine.Sees number head)
 
-  at-play : (limits : Limits) (p : Play) → Is limits old p → (step : machine.Step DocOp DocQuery) (t : machine.Turn DocOp DocReply DocAnswer) → turn_of step ≡ t → full_turn (doc_fixed address limits) p.moves step ≡ t
-  at-play limits p at step t is = turn-at m.may_leave address limits old p at step t is
+  at-play : (terms : Terms) (p : Play) → Is terms old p → (step : machine.Step DocOp DocQuery) (t : machine.Turn DocOp DocReply DocAnswer) → turn_of step ≡ t → full_turn (doc_fixed address terms) p.moves step ≡ t
+  at-play terms p at step t is = turn-at m.may_leave address terms old p at step t is
 
   -- the moves that telling makes are those of the machine's turn
   abbrev pub TakesTurn : Telling → machine.Step DocOp DocQuery → Type 0
-  TakesTurn telling step = (limits : Limits) (p : Play) → Is limits old p → (telling (doc_fixed address limits) p).after.moves ≡ p.moves ++ (turn_of step).made
+  TakesTurn telling step = (terms : Terms) (p : Play) → Is terms old p → (telling (doc_fixed address terms) p).after.moves ≡ p.moves ++ (turn_of step).made
 
   module _ (telling : Telling) (step : machine.Step DocOp DocQuery) (takes : TakesTurn telling step) where
     -- what stands for the history, or for it with the move, reads as the history before or behind
-    pub leaves_either : ReadsWhatStands document → (new : EngineView D) → IsFullyValid (doc_fixed address old.core.limits) old.core.history → IsFullyValid (doc_fixed address old.core.limits) (old.core.history ++ (turn_of step).made)
-        → LeavesOnly m.moment m.left_since old.core.disk new.core.disk (WithOrWithout (doc_fixed address old.core.limits) old.core.history (turn_of step).made)
+    pub leaves_either : ReadsWhatStands document → (new : EngineView D) → IsFullyValid (doc_fixed address old.core.terms) old.core.history → IsFullyValid (doc_fixed address old.core.terms) (old.core.history ++ (turn_of step).made)
+        → LeavesOnly m.moment m.left_since old.core.disk new.core.disk (WithOrWithout (doc_fixed address old.core.terms) old.core.history (turn_of step).made)
         → LeavesEither m.may_leave m.moment m.left_since address telling old new
-    leaves_either law new valid longer leaves limits p at =
-        let fixed = doc_fixed address limits in
+    leaves_either law new valid longer leaves terms p at =
+        let fixed = doc_fixed address terms in
         let after = (telling fixed p).after.moves in
-        let under : old.core.limits ≡ limits = at.limits_are in
-        let then : old.core.history ++ (turn_of step).made ≡ after = ap (λ (h : History). h ++ (turn_of step).made) at.history ∙ sym (takes limits p at) in
-        let read : (h : History) (c : Files) → ReadAs (doc_fixed address old.core.limits) h c → ReadAs fixed h c = λ h c reads. subst (λ (l : Limits). ReadAs (doc_fixed address l) h c) under reads in
+        let under : old.core.terms ≡ terms = at.terms_are in
+        let then : old.core.history ++ (turn_of step).made ≡ after = ap (λ (h : History). h ++ (turn_of step).made) at.history ∙ sym (takes terms p at) in
+        let read : (h : History) (c : Files) → ReadAs (doc_fixed address old.core.terms) h c → ReadAs fixed h c = λ h c reads. subst (λ (l : Terms). ReadAs (doc_fixed address l) h c) under reads in
         weakened m.moment m.left_since old.core.disk new.core.disk _ (ReadAsEither fixed p.moves after) leaves
         (λ c either. elim either [
-          | inl stands ↦ inl (subst (λ (h : History). ReadAs fixed h c) at.history (read old.core.history c (law old.core.limits address old.core.history c valid stands)))
-          | inr stands ↦ inr (subst (λ (h : History). ReadAs fixed h c) then (read (old.core.history ++ (turn_of step).made) c (law old.core.limits address (old.core.history ++ (turn_of step).made) c longer stands)))
+          | inl stands ↦ inl (subst (λ (h : History). ReadAs fixed h c) at.history (read old.core.history c (law old.core.terms address old.core.history c valid stands)))
+          | inr stands ↦ inr (subst (λ (h : History). ReadAs fixed h c) then (read (old.core.history ++ (turn_of step).made) c (law old.core.terms address (old.core.history ++ (turn_of step).made) c longer stands)))
         ])
 
     -- where the machine makes a move, telling does
-    pub moves_too : (made : Move DocOp DocReply) → (turn_of step).made ≡ made ∷ [] → (limits : Limits) (p : Play) → Is limits old p → engines.Moves p (telling (doc_fixed address limits) p).after
-    moves_too made is limits p at = (made, takes limits p at ∙ ap (λ (h : History). p.moves ++ h) is)
+    pub moves_too : (made : Move DocOp DocReply) → (turn_of step).made ≡ made ∷ [] → (terms : Terms) (p : Play) → Is terms old p → engines.Moves p (telling (doc_fixed address terms) p).after
+    moves_too made is terms p at = (made, takes terms p at ∙ ap (λ (h : History). p.moves ++ h) is)
 
     -- and so it does where a move was made: the store has not failed, and its count of faults stays
-    pub works_moved : ReadsWhatStands document → (core : Store D) (made : Move DocOp DocReply) (outcome : machine.Outcome DocAnswer DocReply) (moves : ℕ) → Moves (doc_fixed address old.core.limits) old.core core step made outcome moves
-        → IsFullyValid (doc_fixed address old.core.limits) old.core.history → IsFullyValid (doc_fixed address core.limits) core.history
-        → LeavesOnly m.moment m.left_since old.core.disk core.disk (WithOrWithout (doc_fixed address old.core.limits) old.core.history (turn_of step).made)
+    pub works_moved : ReadsWhatStands document → (core : Store D) (made : Move DocOp DocReply) (outcome : machine.Outcome DocAnswer DocReply) (moves : ℕ) → Moves (doc_fixed address old.core.terms) old.core core step made outcome moves
+        → IsFullyValid (doc_fixed address old.core.terms) old.core.history → IsFullyValid (doc_fixed address core.terms) core.history
+        → LeavesOnly m.moment m.left_since old.core.disk core.disk (WithOrWithout (doc_fixed address old.core.terms) old.core.history (turn_of step).made)
         → m.faults core.disk ≡ m.faults old.core.disk → (new : EngineView D) → new.core ≡ core → Works m address telling old new
     works_moved law core made outcome moves does valid now leaves same new is =
-        let limits : core.limits ≡ old.core.limits = ap (λ (k : Store D). k.limits) does.history in
+        let terms : core.terms ≡ old.core.terms = ap (λ (k : Store D). k.terms) does.history in
         let history : core.history ≡ old.core.history ++ made ∷ [] = ap (λ (k : Store D). k.history) does.history in
         let turned : made ∷ [] ≡ (turn_of step).made = sym (ap (λ (t : machine.Turn DocOp DocReply DocAnswer). t.made) does.turn_is) in
-        let longer = subst (λ (h : History). IsFullyValid (doc_fixed address old.core.limits) h) (history ∙ ap (λ (ms : History). old.core.history ++ ms) turned) (subst (λ (l : Limits). IsFullyValid (doc_fixed address l) core.history) limits now) in
-        let leaves_so = subst (λ (k : Store D). LeavesOnly m.moment m.left_since old.core.disk k.disk (WithOrWithout (doc_fixed address old.core.limits) old.core.history (turn_of step).made)) (sym is) leaves in
+        let longer = subst (λ (h : History). IsFullyValid (doc_fixed address old.core.terms) h) (history ∙ ap (λ (ms : History). old.core.history ++ ms) turned) (subst (λ (l : Terms). IsFullyValid (doc_fixed address l) core.history) terms now) in
+        let leaves_so = subst (λ (k : Store D). LeavesOnly m.moment m.left_since old.core.disk k.disk (WithOrWithout (doc_fixed address old.core.terms) old.core.history (turn_of step).made)) (sym is) leaves in
         record {
           working = ap (λ (k : Store D). k.failed) is ∙ ap (λ (k : Store D). k.failed) does.history ∙ does.worked;
           moments = leaves_either law new valid longer leaves_so;
@@ -128,148 +128,150 @@ module _ {D : Type 0} (m : Members D) (address : List ℕ → List ℕ) (old : E
         }
 
   pub fork_takes : (new from : List ℕ) → TakesTurn (fork_telling new from) (machine.Fork new from)
-  fork_takes new from limits p at = ap (λ (t : Told). t.after.moves) (told-fork (doc_fixed address limits) p new from (turn_of (machine.Fork new from)) (at-play limits p at (machine.Fork new from) _ refl))
+  fork_takes new from terms p at = ap (λ (t : Told). t.after.moves) (told-fork (doc_fixed address terms) p new from (turn_of (machine.Fork new from)) (at-play terms p at (machine.Fork new from) _ refl))
 
   pub turn_takes : (session : List ℕ) (number : ℕ) (step : machine.Step DocOp DocQuery) → TakesTurn (turn_telling session number step) step
-  turn_takes session number step limits p at = ap (λ (t : machine.Turn DocOp DocReply DocAnswer). p.moves ++ t.made) (at-play limits p at step _ refl)
+  turn_takes session number step terms p at = ap (λ (t : machine.Turn DocOp DocReply DocAnswer). p.moves ++ t.made) (at-play terms p at step _ refl)
 
   module _ (session branch : List ℕ) (seen : Seen) (is : LooksAt branch seen.branch seen.head) where
-    look_told : (limits : Limits) (p : Play) → Is limits old p → step_told (doc_fixed address limits) p (Look session branch) ≡ told p session 0 branch (answers {O = DocOp} {R = DocReply} {A = DocAnswer} (machine.Sees seen.branch seen.head))
-    look_told limits p at = told-look (doc_fixed address limits) p session branch (answers (machine.Sees seen.branch seen.head)) (at-play limits p at (machine.Look branch) (answers (machine.Sees seen.branch seen.head)) is)
+    look_told : (terms : Terms) (p : Play) → Is terms old p → step_told (doc_fixed address terms) p (Look session branch) ≡ told p session 0 branch (answers {O = DocOp} {R = DocReply} {A = DocAnswer} (machine.Sees seen.branch seen.head))
+    look_told terms p at = told-look (doc_fixed address terms) p session branch (answers (machine.Sees seen.branch seen.head)) (at-play terms p at (machine.Look branch) (answers (machine.Sees seen.branch seen.head)) is)
 
     -- a look that a session came to see
     pub looked : (new : EngineView D) → new.core ≡ old.core → Puts old.sessions new.sessions session seen → IsTold m address (look_telling session branch) old new (sees_text session branch seen.head ++ line_end)
-    looked new same puts limits p at =
+    looked new same puts terms p at =
         let t = answers {O = DocOp} {R = DocReply} {A = DocAnswer} (machine.Sees seen.branch seen.head) in
-        let put = at-put m.may_leave address limits old p at new session seen (sight_of seen) same puts refl in
-        let after : Is limits new (told p session 0 branch t).after =
-        subst (λ (h : History). Is limits new (record { moves = h; sessions = with_sight p.sessions session (Some (sight_of seen)) })) (sym (append-nil p.moves)) put in
-        told-by m address limits new (step_told (doc_fixed address limits) p (Look session branch)) (told p session 0 branch t) (sees_text session branch seen.head ++ line_end) (look_told limits p at) after refl
+        let put = at-put m.may_leave address terms old p at new session seen (sight_of seen) same puts refl in
+        let after : Is terms new (told p session 0 branch t).after =
+        subst (λ (h : History). Is terms new (record { moves = h; sessions = with_sight p.sessions session (Some (sight_of seen)) })) (sym (append-nil p.moves)) put in
+        told-by m address terms new (step_told (doc_fixed address terms) p (Look session branch)) (told p session 0 branch t) (sees_text session branch seen.head ++ line_end) (look_told terms p at) after refl
 
     -- a look that a session did not come to see
     pub looked_half : (new : EngineView D) → new.core ≡ old.core → KeepsLooks old.sessions new.sessions
         → IsHalfTold m address (look_telling session branch) old new (sees_text session branch seen.head ++ line_end)
-    looked_half new same kept limits p at = (inl (at-kept m.may_leave address limits old p at new same kept), ap (λ (t : Told). t.text) (look_told limits p at))
+    looked_half new same kept terms p at = (inl (at-kept m.may_leave address terms old p at new same kept), ap (λ (t : Told). t.text) (look_told terms p at))
 
   pub look_refused : (session branch : List ℕ) (refusal : machine.Refusal) → Refuses (machine.Look branch) refusal → IsTold m address (look_telling session branch) old old (refusal_text branch refusal ++ line_end)
-  look_refused session branch refusal is limits p at =
+  look_refused session branch refusal is terms p at =
       let t = answers {O = DocOp} {R = DocReply} {A = DocAnswer} (machine.Refused refusal) in
-      told-by m address limits old (step_told (doc_fixed address limits) p (Look session branch)) (told p session 0 branch t) (refusal_text branch refusal ++ line_end)
-      (told-look (doc_fixed address limits) p session branch t (at-play limits p at (machine.Look branch) t is)) (at-still m.may_leave address limits old p at) refl
+      told-by m address terms old (step_told (doc_fixed address terms) p (Look session branch)) (told p session 0 branch t) (refusal_text branch refusal ++ line_end)
+      (told-look (doc_fixed address terms) p session branch t (at-play terms p at (machine.Look branch) t is)) (at-still m.may_leave address terms old p at) refl
 
   module _ (core : Store D) (new from : List ℕ) (number source head moves : ℕ)
-      (does : Moves (doc_fixed address old.core.limits) old.core core (machine.Fork new from) (move.Fork new number source) (machine.Forked number head) moves) (whole : IsWhole m.may_leave address core) where
-    fork_told : (limits : Limits) (p : Play) → Is limits old p → step_told (doc_fixed address limits) p (Fork new from) ≡ told p [] 0 new (fork_turn new number source head)
-    fork_told limits p at = told-fork (doc_fixed address limits) p new from (fork_turn new number source head) (at-play limits p at (machine.Fork new from) (fork_turn new number source head) does.turn_is)
+      (does : Moves (doc_fixed address old.core.terms) old.core core (machine.Fork new from) (move.Fork new number source) (machine.Forked number head) moves) (whole : IsWhole m.may_leave address core) where
+    fork_told : (terms : Terms) (p : Play) → Is terms old p → step_told (doc_fixed address terms) p (Fork new from) ≡ told p [] 0 new (fork_turn new number source head)
+    fork_told terms p at = told-fork (doc_fixed address terms) p new from (fork_turn new number source head) (at-play terms p at (machine.Fork new from) (fork_turn new number source head) does.turn_is)
 
-    fork_moves : (limits : Limits) (p : Play) → Is limits old p → Is limits (record { core = core; sessions = old.sessions }) (record { moves = p.moves ++ move.Fork new number source ∷ []; sessions = p.sessions })
-    fork_moves limits p at =
-        at-more m.may_leave address limits old p at (record { core = core; sessions = old.sessions }) (move.Fork new number source ∷ []) (ap (λ (c : Store D). c.limits) does.history) (ap (λ (c : Store D). c.history) does.history) (λ name. refl) whole
+    fork_moves : (terms : Terms) (p : Play) → Is terms old p → Is terms (record { core = core; sessions = old.sessions }) (record { moves = p.moves ++ move.Fork new number source ∷ []; sessions = p.sessions })
+    fork_moves terms p at =
+        at-more m.may_leave address terms old p at (record { core = core; sessions = old.sessions }) (move.Fork new number source ∷ []) (ap (λ (c : Store D). c.terms) does.history) (ap (λ (c : Store D). c.history) does.history) (λ name. refl) whole
 
     -- a new branch
     pub forked : IsTold m address (fork_telling new from) old (record { core = core; sessions = old.sessions }) (forked_text new number head ++ line_end)
-    forked limits p at =
-        told-by m address limits (record { core = core; sessions = old.sessions }) (step_told (doc_fixed address limits) p (Fork new from)) (told p [] 0 new (fork_turn new number source head)) (forked_text new number head ++ line_end)
-        (fork_told limits p at) (fork_moves limits p at) refl
+    forked terms p at =
+        told-by m address terms (record { core = core; sessions = old.sessions }) (step_told (doc_fixed address terms) p (Fork new from)) (told p [] 0 new (fork_turn new number source head)) (forked_text new number head ++ line_end)
+        (fork_told terms p at) (fork_moves terms p at) refl
 
     pub forked_half : IsHalfTold m address (fork_telling new from) old (record { core = core; sessions = old.sessions }) (forked_text new number head ++ line_end)
-    forked_half limits p at =
-        let is_told = fork_told limits p at in
-        let there : Is limits (record { core = core; sessions = old.sessions }) (record { moves = (step_told (doc_fixed address limits) p (Fork new from)).after.moves; sessions = p.sessions }) =
-        subst (λ (h : History). Is limits (record { core = core; sessions = old.sessions }) (record { moves = h; sessions = p.sessions })) (sym (ap (λ (t : Told). t.after.moves) is_told)) (fork_moves limits p at) in
+    forked_half terms p at =
+        let is_told = fork_told terms p at in
+        let there : Is terms (record { core = core; sessions = old.sessions }) (record { moves = (step_told (doc_fixed address terms) p (Fork new from)).after.moves; sessions = p.sessions }) =
+        subst (λ (h : History). Is terms (record { core = core; sessions = old.sessions }) (record { moves = h; sessions = p.sessions })) (sym (ap (λ (t : Told). t.after.moves) is_told)) (fork_moves terms p at) in
         (inr there, ap (λ (t : Told). t.text) is_told)
 
   pub fork_refused : (new from : List ℕ) (refusal : machine.Refusal) → Refuses (machine.Fork new from) refusal → IsTold m address (fork_telling new from) old old (refusal_text new refusal ++ line_end)
-  fork_refused new from refusal is limits p at =
+  fork_refused new from refusal is terms p at =
       let t = answers {O = DocOp} {R = DocReply} {A = DocAnswer} (machine.Refused refusal) in
-      told-by m address limits old (step_told (doc_fixed address limits) p (Fork new from)) (told p [] 0 new t) (refusal_text new refusal ++ line_end)
-      (told-fork (doc_fixed address limits) p new from t (at-play limits p at (machine.Fork new from) t is)) (at-still m.may_leave address limits old p at) refl
+      told-by m address terms old (step_told (doc_fixed address terms) p (Fork new from)) (told p [] 0 new t) (refusal_text new refusal ++ line_end)
+      (told-fork (doc_fixed address terms) p new from t (at-play terms p at (machine.Fork new from) t is)) (at-still m.may_leave address terms old p at) refl
 
   pub asked : (branch : List ℕ) (query : PlainQuery) (number head : ℕ) (answer : DocAnswer) → LooksAt branch number head
       → turn_of (machine.Ask head (doc_query query)) ≡ answers (machine.Answered answer) → IsTold m address (ask_telling branch query) old old (answer_text (plain_answer answer) ++ line_end)
-  asked branch query number head answer looks is limits p at =
-      told-by m address limits old (step_told (doc_fixed address limits) p (Ask branch query)) _ (answer_text (plain_answer answer) ++ line_end)
-      (told-ask (doc_fixed address limits) p branch query number head answer (at-play limits p at (machine.Look branch) (answers (machine.Sees number head)) looks)
-      (at-play limits p at (machine.Ask head (doc_query query)) (answers (machine.Answered answer)) is))
+  asked branch query number head answer looks is terms p at =
+      told-by m address terms old (step_told (doc_fixed address terms) p (Ask branch query)) _ (answer_text (plain_answer answer) ++ line_end)
+      (told-ask (doc_fixed address terms) p branch query number head answer (at-play terms p at (machine.Look branch) (answers (machine.Sees number head)) looks)
+      (at-play terms p at (machine.Ask head (doc_query query)) (answers (machine.Answered answer)) is))
       at refl
 
   pub ask_refused : (branch : List ℕ) (query : PlainQuery) (refusal : machine.Refusal) → Refuses (machine.Look branch) refusal → IsTold m address (ask_telling branch query) old old (refusal_text branch refusal ++ line_end)
-  ask_refused branch query refusal looks limits p at =
-      told-by m address limits old (step_told (doc_fixed address limits) p (Ask branch query)) _ (refusal_text branch refusal ++ line_end)
-      (told-ask_refused (doc_fixed address limits) p branch query refusal (at-play limits p at (machine.Look branch) (answers (machine.Refused refusal)) looks)) at refl
+  ask_refused branch query refusal looks terms p at =
+      told-by m address terms old (step_told (doc_fixed address terms) p (Ask branch query)) _ (refusal_text branch refusal ++ line_end)
+      (told-ask_refused (doc_fixed address terms) p branch query refusal (at-play terms p at (machine.Look branch) (answers (machine.Refused refusal)) looks)) at refl
 
   pub unseen : (session : List ℕ) (op : PlainOp) → session_named old.sessions session ≡ None → IsTold m address (do_telling session op) old old (unseen_text session ++ line_end)
-  unseen session op none limits p at =
-      told-by m address limits old (step_told (doc_fixed address limits) p (Do session op)) _ (unseen_text session ++ line_end)
-      (told-unseen (doc_fixed address limits) p session op (sym (at.sights session) ∙ ap (option_map sight_of) none)) at refl
+  unseen session op none terms p at =
+      told-by m address terms old (step_told (doc_fixed address terms) p (Do session op)) _ (unseen_text session ++ line_end)
+      (told-unseen (doc_fixed address terms) p session op (sym (at.sights session) ∙ ap (option_map sight_of) none)) at refl
 
   pub unmerged : (session from : List ℕ) → session_named old.sessions session ≡ None → IsTold m address (merge_telling session from) old old (unseen_text session ++ line_end)
-  unmerged session from none limits p at =
-      told-by m address limits old (step_told (doc_fixed address limits) p (Merge session from)) _ (unseen_text session ++ line_end)
-      (told-unmerged (doc_fixed address limits) p session from (sym (at.sights session) ∙ ap (option_map sight_of) none)) at refl
+  unmerged session from none terms p at =
+      told-by m address terms old (step_told (doc_fixed address terms) p (Merge session from)) _ (unseen_text session ++ line_end)
+      (told-unmerged (doc_fixed address terms) p session from (sym (at.sights session) ∙ ap (option_map sight_of) none)) at refl
 
   -- a step of the machine that is refused, or moves nothing: the session sees what it saw
   pub turn_stays : (session : List ℕ) (number : ℕ) (step : machine.Step DocOp DocQuery) (outcome : machine.Outcome DocAnswer DocReply) → turn_of step ≡ answers outcome
-      → sight_after number outcome ≡ None → IsTold m address (turn_telling session number step) old old (outcome_text session (name_of (store_of old.core.history).branches number) outcome ++ line_end)
-  turn_stays session number step outcome is none limits p at =
+      → sight_after number outcome ≡ None → IsTold m address (turn_telling session number step) old old (outcome_text session (name_of (store_of old.core.terms.origin old.core.history).branches number) outcome ++ line_end)
+  turn_stays session number step outcome is none terms p at =
       let t = answers {O = DocOp} {R = DocReply} {A = DocAnswer} outcome in
-      let name = λ (h : History). name_of (store_of h).branches number in
-      let still = subst (λ s. Is limits old (record { moves = p.moves ++ []; sessions = with_sight p.sessions session s })) (sym none) (at-still m.may_leave address limits old p at) in
-      told-by m address limits old (turn_told (doc_fixed address limits) p session number step) (told p session number (name p.moves) t) (outcome_text session (name old.core.history) outcome ++ line_end)
-      (ap (told p session number (name p.moves)) (at-play limits p at step t is))
-      still (ap (λ (h : History). outcome_text session (name h) outcome ++ line_end) (sym at.history))
+      let name = λ (first : ℕ) (h : History). name_of (store_of first h).branches number in
+      let still = subst (λ s. Is terms old (record { moves = p.moves ++ []; sessions = with_sight p.sessions session s })) (sym none) (at-still m.may_leave address terms old p at) in
+      told-by m address terms old (turn_told (doc_fixed address terms) p session number step) (told p session number (name terms.origin p.moves) t) (outcome_text session (name old.core.terms.origin old.core.history) outcome ++ line_end)
+      (ap (told p session number (name terms.origin p.moves)) (at-play terms p at step t is))
+      still
+      (ap (λ (h : History). outcome_text session (name terms.origin h) outcome ++ line_end) (sym at.history)
+      ∙ ap (λ (l : Terms). outcome_text session (name l.origin old.core.history) outcome ++ line_end) (sym at.terms_are))
 
   module _ (session : List ℕ) (number : ℕ) (step : machine.Step DocOp DocQuery) (core : Store D) (made : Move DocOp DocReply) (k : Kind DocReply) (moves : ℕ)
-      (does : Moves (doc_fixed address old.core.limits) old.core core step made (outcome_of k) moves) (whole : IsWhole m.may_leave address core) where
-    landed_told : (limits : Limits) (p : Play) → Is limits old p
-        → turn_told (doc_fixed address limits) p session number step ≡ told p session number (name_of (store_of p.moves).branches number) (makes {A = DocAnswer} made (outcome_of k))
-    landed_told limits p at = ap (told p session number (name_of (store_of p.moves).branches number)) (at-play limits p at step (makes {A = DocAnswer} made (outcome_of k)) does.turn_is)
+      (does : Moves (doc_fixed address old.core.terms) old.core core step made (outcome_of k) moves) (whole : IsWhole m.may_leave address core) where
+    landed_told : (terms : Terms) (p : Play) → Is terms old p
+        → turn_told (doc_fixed address terms) p session number step ≡ told p session number (name_of (store_of terms.origin p.moves).branches number) (makes {A = DocAnswer} made (outcome_of k))
+    landed_told terms p at = ap (told p session number (name_of (store_of terms.origin p.moves).branches number)) (at-play terms p at step (makes {A = DocAnswer} made (outcome_of k)) does.turn_is)
 
     -- the core alone has moved
     abbrev mid : EngineView D
     mid = record { core = core; sessions = old.sessions }
 
-    landed_at : (limits : Limits) (p : Play) → Is limits old p → Is limits mid (record { moves = p.moves ++ made ∷ []; sessions = p.sessions })
-    landed_at limits p at = at-more m.may_leave address limits old p at mid (made ∷ []) (ap (λ (c : Store D). c.limits) does.history) (ap (λ (c : Store D). c.history) does.history) (λ name. refl) whole
+    landed_at : (terms : Terms) (p : Play) → Is terms old p → Is terms mid (record { moves = p.moves ++ made ∷ []; sessions = p.sessions })
+    landed_at terms p at = at-more m.may_leave address terms old p at mid (made ∷ []) (ap (λ (c : Store D). c.terms) does.history) (ap (λ (c : Store D). c.history) does.history) (λ name. refl) whole
 
     -- what landed: the session sees the branch's new head
     pub landed : (new : EngineView D) (next : Seen) → sight_after number (outcome_of k) ≡ Some (sight_of next) → new.core ≡ core → Puts old.sessions new.sessions session next
         → IsTold m address (turn_telling session number step) old new (kind_text k ++ line_end)
-    landed new next sees same puts limits p at =
-        let name = name_of (store_of p.moves).branches number in
+    landed new next sees same puts terms p at =
+        let name = name_of (store_of terms.origin p.moves).branches number in
         let t = makes {A = DocAnswer} made (outcome_of k) in
-        let put = at-put m.may_leave address limits mid (record { moves = p.moves ++ made ∷ []; sessions = p.sessions }) (landed_at limits p at) new session next (sight_of next) same puts refl in
-        let after = subst (λ s. Is limits new (record { moves = p.moves ++ made ∷ []; sessions = with_sight p.sessions session s })) (sym sees) put in
-        told-by m address limits new (turn_told (doc_fixed address limits) p session number step) (told p session number name t) (kind_text k ++ line_end) (landed_told limits p at)
+        let put = at-put m.may_leave address terms mid (record { moves = p.moves ++ made ∷ []; sessions = p.sessions }) (landed_at terms p at) new session next (sight_of next) same puts refl in
+        let after = subst (λ s. Is terms new (record { moves = p.moves ++ made ∷ []; sessions = with_sight p.sessions session s })) (sym sees) put in
+        told-by m address terms new (turn_told (doc_fixed address terms) p session number step) (told p session number name t) (kind_text k ++ line_end) (landed_told terms p at)
         after (ap (λ (words : List ℕ). words ++ line_end) (sym (text-of_kind session name k)))
 
     -- and where want of memory came behind that, each session sees what it saw
     pub landed_half : (new : EngineView D) → new.core ≡ core → KeepsLooks old.sessions new.sessions
         → IsHalfTold m address (turn_telling session number step) old new (kind_text k ++ line_end)
-    landed_half new same kept limits p at =
-        let name = name_of (store_of p.moves).branches number in
-        let is = landed_told limits p at in
-        let kept_at = at-kept m.may_leave address limits mid (record { moves = p.moves ++ made ∷ []; sessions = p.sessions }) (landed_at limits p at) new same kept in
-        let at_it : Is limits new (record { moves = (turn_told (doc_fixed address limits) p session number step).after.moves; sessions = p.sessions }) =
-        subst (λ (h : History). Is limits new (record { moves = h; sessions = p.sessions })) (sym (ap (λ (t : Told). t.after.moves) is)) kept_at in
+    landed_half new same kept terms p at =
+        let name = name_of (store_of terms.origin p.moves).branches number in
+        let is = landed_told terms p at in
+        let kept_at = at-kept m.may_leave address terms mid (record { moves = p.moves ++ made ∷ []; sessions = p.sessions }) (landed_at terms p at) new same kept in
+        let at_it : Is terms new (record { moves = (turn_told (doc_fixed address terms) p session number step).after.moves; sessions = p.sessions }) =
+        subst (λ (h : History). Is terms new (record { moves = h; sessions = p.sessions })) (sym (ap (λ (t : Told). t.after.moves) is)) kept_at in
         (inr at_it, ap (λ (t : Told). t.text) is ∙ ap (λ (words : List ℕ). words ++ line_end) (sym (text-of_kind session name k)))
 
   module _ (session : List ℕ) (seen : Seen) (found : session_named old.sessions session ≡ Some seen) where
-    sight : (limits : Limits) (p : Play) → Is limits old p → seen_by p.sessions session ≡ Some (sight_of seen)
-    sight limits p at = sym (at.sights session) ∙ ap (option_map sight_of) found
+    sight : (terms : Terms) (p : Play) → Is terms old p → seen_by p.sessions session ≡ Some (sight_of seen)
+    sight terms p at = sym (at.sights session) ∙ ap (option_map sight_of) found
 
     -- an operation is told as the machine's turn
-    pub do_as : (op : PlainOp) (limits : Limits) (p : Play) → Is limits old p
-        → step_told (doc_fixed address limits) p (Do session op) ≡ turn_told (doc_fixed address limits) p session seen.branch (machine.Land seen.branch seen.head (doc_op op))
-    do_as op limits p at = told-do (doc_fixed address limits) p session op (sight_of seen) (sight limits p at)
+    pub do_as : (op : PlainOp) (terms : Terms) (p : Play) → Is terms old p
+        → step_told (doc_fixed address terms) p (Do session op) ≡ turn_told (doc_fixed address terms) p session seen.branch (machine.Land seen.branch seen.head (doc_op op))
+    do_as op terms p at = told-do (doc_fixed address terms) p session op (sight_of seen) (sight terms p at)
 
     -- and so is a merge of the head of another branch
     pub merge_as : (from : List ℕ) (number head : ℕ) → LooksAt from number head
-        → (limits : Limits) (p : Play) → Is limits old p → step_told (doc_fixed address limits) p (Merge session from) ≡ turn_told (doc_fixed address limits) p session seen.branch (machine.Merge seen.branch seen.head head)
-    merge_as from number head looks limits p at =
-        told-merge (doc_fixed address limits) p session from (sight_of seen) number head (sight limits p at) (at-play limits p at (machine.Look from) (answers (machine.Sees number head)) looks)
+        → (terms : Terms) (p : Play) → Is terms old p → step_told (doc_fixed address terms) p (Merge session from) ≡ turn_told (doc_fixed address terms) p session seen.branch (machine.Merge seen.branch seen.head (head ∷ []))
+    merge_as from number head looks terms p at =
+        told-merge (doc_fixed address terms) p session from (sight_of seen) number head (sight terms p at) (at-play terms p at (machine.Look from) (answers (machine.Sees number head)) looks)
 
     pub merge_unknown : (from : List ℕ) (refusal : machine.Refusal) → Refuses (machine.Look from) refusal → IsTold m address (merge_telling session from) old old (refusal_text from refusal ++ line_end)
-    merge_unknown from refusal looks limits p at =
-        told-by m address limits old (step_told (doc_fixed address limits) p (Merge session from)) _ (refusal_text from refusal ++ line_end)
-        (told-merge_unknown (doc_fixed address limits) p session from (sight_of seen) refusal (sight limits p at) (at-play limits p at (machine.Look from) (answers (machine.Refused refusal)) looks)) at refl
+    merge_unknown from refusal looks terms p at =
+        told-by m address terms old (step_told (doc_fixed address terms) p (Merge session from)) _ (refusal_text from refusal ++ line_end)
+        (told-merge_unknown (doc_fixed address terms) p session from (sight_of seen) refusal (sight terms p at) (at-play terms p at (machine.Look from) (answers (machine.Refused refusal)) looks)) at refl

@@ -1,5 +1,5 @@
 -- What a step is told, from the machine's turn.
-use Rattle.std.proofs.Common.{◌≡◌, ℕ, List, [], ap, ◌∙◌, None, Some}
+use Rattle.std.proofs.Common.{◌≡◌, ℕ, List, [], ◌∷◌, ap, ◌∙◌, None, Some}
 use Rattle.branch_history.specs.Steps as machine
 use Rattle.branch_history.specs.Machine.{answers}
 use Rattle.branch_machine.specs.Machine.{full_turn}
@@ -42,7 +42,7 @@ module _ (fixed : DocFixed) (p : Play) where
 
   pub told-merge : (session from : List ℕ) (sight : Sight) (number head : ℕ) → seen_by p.sessions session ≡ Some sight
       → full_turn fixed p.moves (machine.Look from) ≡ answers (machine.Sees number head)
-      → step_told fixed p (Merge session from) ≡ turn_told fixed p session sight.branch (machine.Merge sight.branch sight.head head)
+      → step_told fixed p (Merge session from) ≡ turn_told fixed p session sight.branch (machine.Merge sight.branch sight.head (head ∷ []))
   unfolding step_told
   told-merge session from sight number head some looks =
       ap (merge_told fixed p session from) some ∙ ap (λ t. head_merged_told fixed p session from sight t.outcome) looks

@@ -9,7 +9,7 @@ use mathlib.Core.List.{IsPrefix}
 use Rattle.mrdt_model.specs.Spelled.{AppendsPart}
 use Rattle.branch_io.specs.Causes.{HasCauseOf}
 use Rattle.branch_disk.specs.Disk.{Files, LeavesOnly}
-use Rattle.branch_names.specs.declared.limits.Limits.{Limits}
+use Rattle.branch_names.specs.declared.terms.Terms.{Terms}
 use Rattle.branch_names.specs.Heads.{head_of}
 use Rattle.branch_history.specs.History.{store_of}
 use Rattle.branch_history.specs.declared.moves.Move.{Move}
@@ -47,9 +47,9 @@ session_named entries name = lookup (λ other. is_eq (slice_cmp nat_cmp name oth
 abbrev pub sight_of : Seen → Sight
 sight_of seen = record { branch = seen.branch; head = seen.head }
 
--- each session's look is at a beginning of the core's history, under its limits
+-- each session's look is at a beginning of the core's history, under its terms
 abbrev pub AreLooksAt : Core → List (List ℕ × Seen) → Type 0
-AreLooksAt core sessions = (name : List ℕ) (seen : Seen) → session_named sessions name ≡ Some seen → IsPrefix seen.history core.history × (seen.limits ≡ core.limits)
+AreLooksAt core sessions = (name : List ℕ) (seen : Seen) → session_named sessions name ≡ Some seen → IsPrefix seen.history core.history × (seen.terms ≡ core.terms)
 
 -- a session came to see this look, and the others see what they saw
 abbrev pub Puts : {S : Type 0} → List (List ℕ × S) → List (List ℕ × S) → List ℕ → S → Type 0
@@ -62,18 +62,18 @@ KeepsLooks old new = (name : List ℕ) → session_named new name ≡ session_na
 -- a look at the head of this branch of a core
 pub record IsLookAt (core : Core) (branch : ℕ) (seen : Seen) : Type 0 where
   pub history : seen.history ≡ core.history
-  pub limits_are : seen.limits ≡ core.limits
+  pub terms_are : seen.terms ≡ core.terms
   pub branch_is : seen.branch ≡ branch
-  pub head_is : seen.head ≡ head_of (store_of core.history).branches branch
+  pub head_is : seen.head ≡ head_of (store_of core.terms.origin core.history).branches branch
 
 -- a session came to see the head of this branch
 abbrev pub SeesHead : {D : Type 0} → EngineView D → EngineView D → List ℕ → ℕ → Type 0
 SeesHead old new session branch = (seen : Seen) × Puts old.sessions new.sessions session seen × IsLookAt (held old.core) branch seen
 
--- The engine stands for a play: its store has the play's history, under the limits that are fixed, and each session's look gives what the
+-- The engine stands for a play: its store has the play's history, under the terms that are fixed, and each session's look gives what the
 -- session sees. What a crash now leaves reads as that history.
 pub record IsAt {D : Type 0} (may_leave : D → Files → Type 0) (fixed : DocFixed) (engine : EngineView D) (p : Play) : Type 0 where
-  pub limits_are : engine.core.limits ≡ fixed.limits
+  pub terms_are : engine.core.terms ≡ fixed.terms
   pub history : engine.core.history ≡ p.moves
   pub sights : (name : List ℕ) → option_map sight_of (session_named engine.sessions name) ≡ seen_by p.sessions name
   pub images : (c : Files) → may_leave engine.core.disk c → ReadAs fixed p.moves c
@@ -89,7 +89,7 @@ Telling = DocFixed → Play → Told
 -- where the engine stood for a play, it stands for what the line or step leaves of it, and the text was added
 abbrev pub Replies : {D : Type 0} → (D → Files → Type 0) → (List ℕ → List ℕ) → Telling → EngineView D → EngineView D → List ℕ → List ℕ → Type 0
 Replies may_leave address told old new old_out new_out =
-    (limits : Limits) (p : Play) → let fixed = doc_fixed address limits in
+    (terms : Terms) (p : Play) → let fixed = doc_fixed address terms in
     IsAt may_leave fixed old p → IsAt may_leave fixed new (told fixed p).after × (new_out ≡ old_out ++ (told fixed p).text)
 
 -- of what was told in part: the history is the old one or the one after it, and each session sees what it saw
@@ -103,16 +103,16 @@ BreaksOff may_leave address told old new old_out new_out DiskFault =
     (new_out ≡ old_out)
     × (new.core ≡ record old.core { failed = true; disk = new.core.disk })
     × KeepsLooks old.sessions new.sessions
-    × ((limits : Limits) (p : Play) → IsAt may_leave (doc_fixed address limits) old p → Moves p (told (doc_fixed address limits) p).after)
+    × ((terms : Terms) (p : Play) → IsAt may_leave (doc_fixed address terms) old p → Moves p (told (doc_fixed address terms) p).after)
 BreaksOff may_leave address told old new old_out new_out Memory =
     (new.core.failed ≡ false)
-    × ((limits : Limits) (p : Play) → let fixed = doc_fixed address limits in
+    × ((terms : Terms) (p : Play) → let fixed = doc_fixed address terms in
     IsAt may_leave fixed old p → StandsEitherWay may_leave fixed new p (told fixed p) × AppendsPart old_out new_out (told fixed p).text)
 
 -- At each moment of telling a line or a step, what a crash leaves reads as the history before or as the one after.
 abbrev pub LeavesEither : {D : Type 0} → (D → Files → Type 0) → (D → ℕ) → (D → ℕ → Files → Type 0) → (List ℕ → List ℕ) → Telling → EngineView D → EngineView D → Type 0
 LeavesEither may_leave moment left_since address told old new =
-    (limits : Limits) (p : Play) → let fixed = doc_fixed address limits in
+    (terms : Terms) (p : Play) → let fixed = doc_fixed address terms in
     IsAt may_leave fixed old p → LeavesOnly moment left_since old.core.disk new.core.disk (ReadAsEither fixed p.moves (told fixed p).after.moves)
 
 -- what a call does that tells a line or a step: it does what was told and replies, or breaks off

@@ -38,6 +38,7 @@ abbrev pub sight_after : ℕ → machine.Outcome DocAnswer DocReply → Option S
 sight_after branch (machine.Sees number head) = Some (record { branch = number; head = head })
 sight_after branch (machine.Landed commit time reply) = Some (record { branch = branch; head = commit })
 sight_after branch (machine.Merged commit) = Some (record { branch = branch; head = commit })
+sight_after branch (machine.Joined commit) = Some (record { branch = branch; head = commit })
 sight_after branch (machine.Forwarded commit) = Some (record { branch = branch; head = commit })
 sight_after branch outcome = None
 
@@ -59,7 +60,7 @@ told p session number branch t = record {
 
 -- a step of the machine for a session, on the branch of this number
 abbrev pub turn_told : DocFixed → Play → List ℕ → ℕ → machine.Step DocOp DocQuery → Told
-turn_told fixed p session number step = told p session number (name_of (store_of p.moves).branches number) (full_turn fixed p.moves step)
+turn_told fixed p session number step = told p session number (name_of (store_of fixed.terms.origin p.moves).branches number) (full_turn fixed p.moves step)
 
 -- an operation of a session, given what it sees
 abbrev pub do_told : DocFixed → Play → List ℕ → DocOp → Option Sight → Told
@@ -68,7 +69,7 @@ do_told fixed p session op (Some sight) = turn_told fixed p session sight.branch
 
 -- a merge of the branch of this name into the one that a session sees, given the outcome of a look at the former: its head is merged
 abbrev pub head_merged_told : DocFixed → Play → List ℕ → List ℕ → Sight → machine.Outcome DocAnswer DocReply → Told
-head_merged_told fixed p session from sight (machine.Sees number head) = turn_told fixed p session sight.branch (machine.Merge sight.branch sight.head head)
+head_merged_told fixed p session from sight (machine.Sees number head) = turn_told fixed p session sight.branch (machine.Merge sight.branch sight.head (head ∷ []))
 head_merged_told fixed p session from sight outcome = says p (outcome_text session from outcome)
 
 -- and given what the session sees, if anything

@@ -1,7 +1,7 @@
 // The engine of a script: a core on a disk, and what each session sees.
 ghost use Rattle.std.specs.Prelude.{◌≡◌, ◌<◌, ◌++◌, [], length, Ok, Err, OnOk, OnErr, false};
 ghost use mathlib.Core.List.{IsPrefix};
-ghost use Rattle.branch_names.specs.Heads.{name_of};
+ghost use Rattle.branch_names.specs.Heads.{name_of, IsKeptBranch};
 ghost use Rattle.branch_history.specs.History.{store_of};
 ghost use Rattle.branch_history.specs.Steps.{Stale};
 ghost use Rattle.store_seen.specs.Turns.{step_of};
@@ -20,7 +20,7 @@ use branch_doc::{DocReply, PlainOp, PlainQuery};
 use branch_files::laws::reads_what_stands;
 use branch_names::Name;
 use branch_print::refusals::{
-    put_collision, put_exhausted, put_full_branches, put_full_commits, put_full_moves,
+    put_collision, put_dropped, put_exhausted, put_full_branches, put_full_commits, put_full_moves,
     put_line_refusal, put_stale, put_taken, put_too_large, put_unknown, put_unseen,
 };
 use branch_print::replies::{
@@ -100,7 +100,7 @@ impl<D: Disk + Drop, A: Address> Engine<D, A> {
     /// An engine over a core, of which no session has looked.
     pub fn new(alloc: Global, core: Core<Doc, D, A>) -> Engine<D, A>
         ensures core { result.core ≡ core }
-        ensures begins { core.failed ≡ false → IsAt D.may_leave (doc_fixed A.address core.limits) result (begins core.history) }
+        ensures begins { core.failed ≡ false → IsAt D.may_leave (doc_fixed A.address core.terms) result (begins core.history) }
     {
         reads_what_stands::<Doc>();
         let _ = core.moves();
@@ -114,7 +114,7 @@ impl<D: Disk + Drop, A: Address> Engine<D, A> {
     // The session sees this from now on.
     fn sees(&mut self, session: &Name, seen: Seen<Doc>) -> Result<(), Memory>
         requires history { IsPrefix seen.history self.old.core.history }
-        requires limits { seen.limits ≡ self.old.core.limits }
+        requires terms { seen.terms ≡ self.old.core.terms }
         ensures core { self.new.core ≡ self.old.core }
         ensures put { OnOk result (Puts self.old.sessions self.new.sessions session.now seen) }
         ensures kept { OnErr result (KeepsLooks self.old.sessions self.new.sessions) }
@@ -122,9 +122,9 @@ impl<D: Disk + Drop, A: Address> Engine<D, A> {
         set_session(&mut self.sessions, session, seen)
     }
 
-    // The session sees the head of the branch of this number from now on.
+    // The session sees the head of the branch of this number, which was not dropped, from now on.
     fn sees_head(&mut self, session: &Name, branch: u32) -> Result<(), Memory>
-        requires { branch < length (store_of self.old.core.history).branches }
+        requires { IsKeptBranch (store_of self.old.core.terms.origin self.old.core.history).branches branch }
         ensures core { self.new.core ≡ self.old.core }
         ensures sees { OnOk result (SeesHead self.old self.new session.now branch) }
         ensures kept { OnErr result (KeepsLooks self.old.sessions self.new.sessions) }
@@ -244,9 +244,9 @@ impl<D: Disk + Drop, A: Address> Engine<D, A> {
     ) -> Result<(), TellRefused>
         requires working { self.old.core.failed ≡ false }
         requires history { IsPrefix prepared.seen.history self.old.core.history }
-        requires limits { prepared.seen.limits ≡ self.old.core.limits }
+        requires terms { prepared.seen.terms ≡ self.old.core.terms }
         requires branch { prepared.seen.branch ≡ branch }
-        requires within { branch < length (store_of self.old.core.history).branches }
+        requires within { branch < length (store_of self.old.core.terms.origin self.old.core.history).branches }
         ensures { Does D.may_leave D.moment D.left_since D.faults A.address (λ fixed p. turn_told fixed p session.now branch (step_of prepared.seen prepared.work)) self.old self.new out.old.items out.new.items result }
     {
         reads_what_stands::<Doc>();
@@ -257,6 +257,7 @@ impl<D: Disk + Drop, A: Address> Engine<D, A> {
                 put_kind(out, landed.kind)?;
                 replied(self.sees_head(session, branch))
             }
+            Err(LandRefused::Dropped { branch }) => replied(put_dropped(out, branch)),
             Err(LandRefused::Stale { newest }) => replied(self.stale(out, branch, newest)),
             Err(LandRefused::FullCommits { count }) => replied(put_full_commits(out, count)),
             Err(LandRefused::FullMoves { count }) => replied(put_full_moves(out, count)),
@@ -269,9 +270,9 @@ impl<D: Disk + Drop, A: Address> Engine<D, A> {
 
     // What was prepared is stale: the branch's head is a newer one.
     fn stale(&self, out: &mut Vec<u8>, branch: u32, newest: u32) -> Result<(), Memory>
-        requires { branch < length (store_of self.now.core.history).branches }
-        ensures ok { OnOk result (out.new.items ≡ out.old.items ++ (refusal_text (name_of (store_of self.now.core.history).branches branch) (Stale newest) ++ line_end)) }
-        ensures err { OnErr result (AppendsPart out.old.items out.new.items (refusal_text (name_of (store_of self.now.core.history).branches branch) (Stale newest) ++ line_end)) }
+        requires { branch < length (store_of self.now.core.terms.origin self.now.core.history).branches }
+        ensures ok { OnOk result (out.new.items ≡ out.old.items ++ (refusal_text (name_of (store_of self.now.core.terms.origin self.now.core.history).branches branch) (Stale newest) ++ line_end)) }
+        ensures err { OnErr result (AppendsPart out.old.items out.new.items (refusal_text (name_of (store_of self.now.core.terms.origin self.now.core.history).branches branch) (Stale newest) ++ line_end)) }
     {
         let (name, _) = self.core.branch(branch).unwrap();
         put_stale(out, &name, newest)

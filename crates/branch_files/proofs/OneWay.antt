@@ -3,21 +3,22 @@ use Rattle.std.proofs.Common.{◌≡◌, inl, inr, ℕ, List, [], ◌∷◌, ◌
 use Rattle.mrdt_model.specs.Laws.{Meaning, KeepsLaws}
 use Rattle.branch_disk.specs.Disk.{Files}
 use Rattle.branch_disk.specs.declared.part.Part.TheVariants.{Objects, Heads}
-use Rattle.branch_names.specs.declared.limits.Limits.{Limits}
+use Rattle.branch_names.specs.declared.terms.Terms.{Terms}
 use Rattle.branch_wire.specs.Reading.{HasLength64}
 use Rattle.branch_history.specs.declared.moves.Move.{Move}
-use Rattle.heads_journal.specs.declared.record.Record.{Record}
-use Rattle.branch_machine.specs.Fixed.{Fixed, fix}
+use Rattle.branch_machine.specs.Fixed.{Form, FixedIn, present, fix_in}
 use Rattle.branch_machine.specs.Laws.{HasSize}
+use Rattle.heads_journal.specs.declared.record.Record.{Record}
 use Rattle.branch_files.specs.Records.{records_of, record_of, gate_of}
 use Rattle.branch_files.specs.Stands.{Spans}
 use Rattle.branch_files.specs.Next.{end_at, MakesCommit, HasShape, IsMade, bytes_behind}
-use Rattle.branch_files.specs.Reading.{Answer, Opens, NotAStore, BadRecord, BadObject, BadCommit, Truncated, EndsWith, IsNoStore, EndsSomewhere, ReadsAs}
+use Rattle.branch_files.specs.Reading.{Answer, Opens, NotAStore, BadRecord, BadObject, BadCommit, Truncated, EndsWith, IsNoStoreIn, EndsSomewhereIn, ReadsIn, ReadsAs}
 use Rattle.branch_files.proofs.Longer.{spans-first}
 use Rattle.branch_files.proofs.Next.{full, end-is, end-there, bytes-are, is-next, next-same}
 use Rattle.branch_files.proofs.Places.{shut-open, one-end}
 use Rattle.branch_files.proofs.Shapes.{shape-behind, one-move}
-use Rattle.branch_files.proofs.Limited.{limits-same}
+use Rattle.branch_files.proofs.Limited.{terms-same_in}
+use Rattle.branch_files.proofs.Today.{today-reads}
 
 -- two lists: equal, or one begins with the other and has more
 pub data Compared {X : Type 0} (xs ys : List X) : Type 0 where
@@ -30,7 +31,7 @@ compared-more x y xs ys is (Equal e) = Equal (ap (λ z. z ∷ xs) is ∙ ap (λ 
 compared-more x y xs ys is (Shorter z rest e) = Shorter z rest (ap (λ l. y ∷ l) e ∙ ap (λ w. w ∷ (xs ++ z ∷ rest)) (sym is))
 compared-more x y xs ys is (Longer z rest e) = Longer z rest (ap (λ l. x ∷ l) e ∙ ap (λ w. w ∷ (ys ++ z ∷ rest)) is)
 
-module _ {S O R Q A : Type 0} (fixed : Fixed S O R Q A) (laws : KeepsLaws fixed.meaning) (size : HasSize fixed.address) (files : Files) (short : HasLength64 files.objects) where
+module _ {S O R Q A : Type 0} {form : Form} (fixed : FixedIn form S O R Q A) (laws : KeepsLaws fixed.meaning) (size : HasSize fixed.address) (files : Files) (short : HasLength64 files.objects) where
   -- where the files have one more move, reading does not end before it
   goes-on : (moves : List (Move O R)) (m : Move O R) → Spans fixed (moves ++ m ∷ []) files → (a : Answer O R) → EndsWith fixed moves files a → ⊥
   goes-on moves m spans (Opens l h) (_, _, shut) = shut-open (gate_of fixed moves) files.heads shut (is-next fixed laws size files short moves m spans).there.gate
@@ -80,21 +81,25 @@ module _ {S O R Q A : Type 0} (fixed : Fixed S O R Q A) (laws : KeepsLaws fixed.
       at (Longer m rest same) = absurd (goes-on second m (more-on second m rest (subst (λ (l : List (Move O R)). Spans fixed l files) same p)) b f)
 
 module _ {S O R Q A : Type 0} (m : Meaning S O R Q A) (laws : KeepsLaws m) (address : List ℕ → List ℕ) (size : HasSize address) (files : Files) (short : HasLength64 files.objects) where
-  somewhere-one : (a b : Answer O R) → EndsSomewhere m address files a → EndsSomewhere m address files b → a ≡ b
-  somewhere-one a b (l, h, p, e) (k, g, q, f) =
-      let same : k ≡ l = limits-same k l (records_of (fix m k address) g) (records_of (fix m l address) h) files.heads q.heads p.heads in
-      at k same q f
-    where
-      at : (k : Limits) → k ≡ l → Spans (fix m k address) g files → EndsWith (fix m k address) g files b → a ≡ b
-      at k same q f =
-          one-answer (fix m l address) laws size files short h g a b p e
-          (subst (λ (x : Limits). Spans (fix m x address) g files) same q) (subst (λ (x : Limits). EndsWith (fix m x address) g files b) same f)
+  module _ (form : Form) where
+    somewhere-one : (a b : Answer O R) → EndsSomewhereIn form m address files a → EndsSomewhereIn form m address files b → a ≡ b
+    somewhere-one a b (l, h, fits_l, p, e) (k, g, fits_k, q, f) =
+        let same : k ≡ l = terms-same_in form k l (records_of (fix_in form m k address) g) (records_of (fix_in form m l address) h) files.heads fits_k fits_l q.heads p.heads in
+        at k same q f
+      where
+        at : (k : Terms) → k ≡ l → Spans (fix_in form m k address) g files → EndsWith (fix_in form m k address) g files b → a ≡ b
+        at k same q f =
+            one-answer (fix_in form m l address) laws size files short h g a b p e
+            (subst (λ (x : Terms). Spans (fix_in form m x address) g files) same q) (subst (λ (x : Terms). EndsWith (fix_in form m x address) g files b) same f)
 
-  store-somewhere : (a : Answer O R) → IsNoStore m address files → EndsSomewhere m address files a → ⊥
-  store-somewhere a none (l, h, p, e) = none l (spans-first (fix m l address) files [] h p)
+    store-somewhere : (a : Answer O R) → IsNoStoreIn form m address files → EndsSomewhereIn form m address files a → ⊥
+    store-somewhere a none (l, h, fits, p, e) = none l fits (spans-first (fix_in form m l address) files [] h p)
+
+    pub one-reading_in : (a b : Answer O R) → ReadsIn form m address files a → ReadsIn form m address files b → a ≡ b
+    one-reading_in a b (inl (is, none)) (inl (is', none')) = is ∙ sym is'
+    one-reading_in a b (inl (is, none)) (inr ends) = absurd (store-somewhere b none ends)
+    one-reading_in a b (inr ends) (inl (is, none)) = absurd (store-somewhere a none ends)
+    one-reading_in a b (inr ends) (inr ends') = somewhere-one a b ends ends'
 
   pub one-reading : (a b : Answer O R) → ReadsAs m address files a → ReadsAs m address files b → a ≡ b
-  one-reading a b (inl (is, none)) (inl (is', none')) = is ∙ sym is'
-  one-reading a b (inl (is, none)) (inr ends) = absurd (store-somewhere b none ends)
-  one-reading a b (inr ends) (inl (is, none)) = absurd (store-somewhere a none ends)
-  one-reading a b (inr ends) (inr ends') = somewhere-one a b ends ends'
+  one-reading a b p q = one-reading_in present a b (today-reads m address files a p) (today-reads m address files b q)

@@ -1,45 +1,58 @@
 -- The objects of a move that makes a commit: their shape, and that they and the record tell the move.
-use Rattle.std.proofs.Common.{◌≡◌, ◌⊎◌, inl, inr, ℕ, ◌+◌, ◌<◌, ◌≤◌, ◌^◌, List, [], ◌∷◌, ◌++◌, length, refl, sym, ◌∙◌, ap, subst, arith, append-nil, length-append, ⊎_elim}
+use Rattle.std.proofs.Common.{◌≡◌, ◌⊎◌, inl, inr, ℕ, ◌+◌, ◌<◌, ◌≤◌, ◌^◌, Option, Some, None, map, List, [], ◌∷◌, ◌++◌, length, refl, sym, ◌∙◌, ap, subst, arith, append-nil, length-append, ⊎_elim}
 use Rattle.mrdt_model.specs.Laws.{KeepsLaws, Lawful}
 use Rattle.branch_disk.specs.Disk.{Files}
 use Rattle.branch_names.specs.Heads.{head_of}
 use Rattle.branch_wire.specs.Fields.{number, short_number, field, counted}
 use Rattle.branch_wire.specs.Reading.{HasLength64}
-use Rattle.branch_wire.specs.Objects.{CommitFields, commit_body, commit_object, value_object, parent_count}
+use Rattle.branch_wire.specs.Objects.{CommitFields, action_field, commit_body, commit_object, value_object}
+use Rattle.branch_wire.specs.declared.action.Action.{Action}
 use Rattle.branch_wire.specs.declared.action.Action.TheVariants as wire
 use Rattle.branch_wire.proofs.Numbers.{same_parts, length-number, length-field}
 use Rattle.branch_wire.proofs.OneWay.{fields}
-use Rattle.branch_objects_codec.specs.Grammar.{IsCommit}
-use Rattle.branch_objects_codec.proofs.Body.{same_commit}
 use Rattle.branch_history.specs.declared.moves.Move.{Move}
 use Rattle.branch_history.specs.declared.moves.Move.TheVariants as move
-use Rattle.branch_history.specs.Commits.{Commit, visible, clock_of}
-use Rattle.branch_history.specs.History.{Store, store_of, after_move}
-use Rattle.branch_history.proofs.Valid.{store_of-more}
-use Rattle.branch_history.proofs.Grown.{clock_of-new}
-use Rattle.branch_history.proofs.Histories.{visible-lawful}
-use Rattle.heads_journal.specs.declared.record.Record.{Record}
-use Rattle.branch_machine.specs.Fixed.{Fixed}
-use Rattle.branch_machine.specs.Objects.{Pair, fields_of, pairs_of, region}
+use Rattle.branch_history.specs.Commits.{Commit, visible, clock_of, origin_of}
+use Rattle.branch_history.specs.History.{Store, after_move, received_commit}
+use Rattle.branch_history.proofs.Valid.{store_of-more, IsReceived}
+use Rattle.branch_history.proofs.Grown.{clock_of-new, origin_of-new}
+use Rattle.branch_history.proofs.Histories.{visible-lawful, received-stand}
+use Rattle.branch_machine.specs.Fixed.{Form, FixedIn}
+use Rattle.branch_machine.specs.Objects.{Pair, store_after, address_at, silent_action, action_of, fields_of, pairs_of, region}
 use Rattle.branch_machine.specs.Laws.{HasSize}
-use Rattle.branch_machine.proofs.Distinct.{MakesOne, operation-makes, merge-makes, all-sized, few-sized}
+use Rattle.branch_machine.proofs.Distinct.{IsOwn, IsForeign, MakesOne, operation-makes, merge-makes, join-makes, received-foreign, received-nine, all-sized, few-sized, addresses-same, valid-sound}
+use Rattle.branch_machine.proofs.Valid.{valid-first}
 use Rattle.branch_machine.proofs.Regions.{made, region-one}
+use Rattle.heads_journal.specs.declared.record.Record.{Record}
+use Rattle.branch_objects_codec.specs.Grammar.{IsCommit}
+use Rattle.branch_wire.specs.Objects.{HasParents}
+use Rattle.branch_objects_codec.proofs.Body.{same_commit}
 use Rattle.branch_files.specs.Records.{record_of}
 use Rattle.branch_files.specs.Stands.{Spans}
 use Rattle.branch_files.specs.Next.{MakesCommit, Does, IsValuePart, HasShape, bytes_behind}
-use Rattle.branch_files.proofs.Next.{accepted, kept, next, end-more, end-there, bytes-are}
+use Rattle.branch_files.proofs.Next.{accepted, unseen, kept, next, end-more, end-there, bytes-are}
 
-abbrev carried : {O R : Type 0} (old new other : Store O R) → other ≡ new → MakesOne old new → MakesOne old other
-carried old new other e one = record {
-  made = one.made;
-  others = one.others;
-  commits = ap (λ s. s.commits) e ∙ one.commits;
-  there = one.there;
-  parents = one.parents;
-  few = one.few;
-  within = one.within;
-  head = ap (λ s. head_of s.branches one.made.branch) e ∙ one.head;
-}
+module _ {S O R Q A : Type 0} {form : Form} (fixed : FixedIn form S O R Q A) (old new other : Store O R) (e : other ≡ new) where
+  carried-kind : (c : Commit O R) → IsOwn fixed old new c ⊎ IsForeign fixed old new c → IsOwn fixed old other c ⊎ IsForeign fixed old other c
+  carried-kind c (inl own) = inl (record {
+    branch = own.branch;
+    others = own.others;
+    there = own.there;
+    origin = own.origin;
+    parents = own.parents;
+    head = ap (λ s. head_of s.branches own.branch) e ∙ own.head;
+  })
+  carried-kind c (inr foreign) = inr (record { origin = foreign.origin; unseen = foreign.unseen })
+
+  abbrev carried : MakesOne fixed old new → MakesOne fixed old other
+  carried one = record {
+    made = one.made;
+    commits = ap (λ s. s.commits) e ∙ one.commits;
+    branches = ap (λ s. length s.branches) e ∙ one.branches;
+    few = one.few;
+    within = one.within;
+    kind = carried-kind one.made one.kind;
+  }
 
 -- equal objects of commits are of equal fields
 same-object : (c d : CommitFields) → IsCommit c → IsCommit d → commit_object c ≡ commit_object d → c ≡ d
@@ -48,11 +61,11 @@ same-object c d p q is =
     let bodies = (same_parts (number (length (commit_body c))) (commit_body c) (number (length (commit_body d))) (commit_body d) (length-number (length (commit_body c)) ∙ sym (length-number (length (commit_body d)))) inner).1 in
     (same_commit c d [] [] p q (append-nil (commit_body c) ∙ bodies ∙ sym (append-nil (commit_body d)))).0
 
-module _ {S O R Q A : Type 0} (fixed : Fixed S O R Q A) (laws : KeepsLaws fixed.meaning) (size : HasSize fixed.address) (files : Files) (short : HasLength64 files.objects) (moves : List (Move O R)) where
+module _ {S O R Q A : Type 0} {form : Form} (fixed : FixedIn form S O R Q A) (laws : KeepsLaws fixed.meaning) (size : HasSize fixed.address) (files : Files) (short : HasLength64 files.objects) (moves : List (Move O R)) where
   abbrev s : Store O R
-  s = store_of moves
+  s = store_after fixed moves
 
-  module _ (m : Move O R) (spans : Spans fixed (moves ++ m ∷ []) files) (one : MakesOne (store_of moves) (store_of (moves ++ m ∷ []))) where
+  module _ (m : Move O R) (spans : Spans fixed (moves ++ m ∷ []) files) (one : MakesOne fixed (store_after fixed moves) (store_after fixed (moves ++ m ∷ []))) where
     abbrev pair : Pair
     pair = made fixed laws size moves m spans.valid one
 
@@ -78,65 +91,139 @@ module _ {S O R Q A : Type 0} (fixed : Fixed S O R Q A) (laws : KeepsLaws fixed.
     lawful : Lawful fixed.meaning (visible (s.commits ++ one.made ∷ []) (length s.commits))
     lawful =
         subst (λ (cs : List (Commit O R)). Lawful fixed.meaning (visible cs (length s.commits))) one.commits
-        (visible-lawful fixed.meaning fixed.limits (store_of (moves ++ m ∷ [])) (next fixed laws size files short moves m spans) (length s.commits))
+        (visible-lawful fixed.meaning fixed.terms (store_after fixed (moves ++ m ∷ [])) (next fixed laws size files short moves m spans) (length s.commits))
 
-    clock-low : one.made.clock ≤ fixed.limits.clock
+    clock-low : one.made.clock ≤ fixed.terms.limits.clock
     clock-low =
         let low = (next fixed laws size files short moves m spans).low (length s.commits) in
-        let is : clock_of (store_of (moves ++ m ∷ [])).commits (length s.commits) ≡ one.made.clock = ap (λ (cs : List (Commit O R)). clock_of cs (length s.commits)) one.commits ∙ clock_of-new s.commits one.made in
+        let is : clock_of (store_after fixed (moves ++ m ∷ [])).commits (length s.commits) ≡ one.made.clock = ap (λ (cs : List (Commit O R)). clock_of cs (length s.commits)) one.commits ∙ clock_of-new s.commits one.made in
         omega (arith, is)
 
-    is-commit : length one.made.parents ≡ parent_count c.action → IsCommit c
+    origin-small : one.made.origin < 2 ^ 32
+    origin-small =
+        let there : length s.commits < length (store_after fixed (moves ++ m ∷ [])).commits = omega (arith, ap length one.commits, length-append s.commits (one.made ∷ [])) in
+        let small = (next fixed laws size files short moves m spans).ordered.small (length s.commits) there in
+        let is : origin_of (store_after fixed (moves ++ m ∷ [])).commits (length s.commits) ≡ one.made.origin = ap (λ (cs : List (Commit O R)). origin_of cs (length s.commits)) one.commits ∙ origin_of-new s.commits one.made in
+        omega (arith, is, small)
+
+    is-commit : HasParents c.action (length one.made.parents) → IsCommit c
     is-commit count = record {
-      count = few-sized fixed.address size (pairs_of fixed s.commits) one.made.parents ∙ count;
+      count = subst (HasParents c.action) (sym (few-sized fixed.address size (pairs_of fixed s.commits) one.made.parents)) count;
       addresses = all-sized fixed.address size (pairs_of fixed s.commits) one.made.parents;
-      branch = let there = one.there in let few = (kept fixed laws size files short moves m spans).few_branches in let most = fixed.limits.in_range.branches_high in omega arith;
-      clock = let low = clock-low in let most = fixed.limits.in_range.clock_high in omega arith;
+      branch = origin-small;
+      clock = let low = clock-low in let most = fixed.terms.limits.in_range.clock_high in omega arith;
       value = size pair.value;
       short = body-short;
     }
 
-    has-shape : (r : Record) → length one.made.parents ≡ parent_count c.action → Does fixed r c.action → HasShape fixed r (region fixed moves m)
+    -- the spellings of an operation and its reply are not too long
+    spelled-short : (o a : List ℕ) → c.action ≡ wire.Operation o a → HasLength64 o × HasLength64 a
+    spelled-short o a is =
+        let front : List ℕ = counted (λ address. address) c.parents ++ short_number c.branch ++ number c.clock ++ c.value in
+        let parts : commit_body c ≡ front ++ 1 ∷ (field o ++ field a) = ap (λ (x : Action). front ++ action_field x) is in
+        let whole : length (commit_body c) ≡ length front + (1 + ((8 + length o) + (8 + length a))) =
+        omega (arith, ap length parts, length-append front (1 ∷ (field o ++ field a)), length-append (field o) (field a), length-field o, length-field a) in
+        let body = body-short in
+        (omega (arith, whole, body), omega (arith, whole, body))
+
+    has-shape : (r : Record) → HasParents c.action (length one.made.parents) → Does fixed r c.action → HasShape fixed r (region fixed moves m)
     has-shape r count does =
         ⊎_elim
         (λ is. ([], pair.commit, inl refl, (c, is-commit count, does, refl), is))
         (λ is. (pair.value, pair.commit, inr (spelling, value-short is, laws.spelling_inside (visible (s.commits ++ one.made ∷ []) (length s.commits)) lawful (value-short is), refl), (c, is-commit count, does, refl), is))
         (region-one fixed laws size moves m spans.valid one)
 
-  abbrev operation-one : (r : ℕ) (op : O) (reply : R) → Spans fixed (moves ++ move.Operation r op reply ∷ []) files → MakesOne (store_of moves) (store_of (moves ++ move.Operation r op reply ∷ []))
+  abbrev operation-one : (r : ℕ) (op : O) (reply : R) → Spans fixed (moves ++ move.Operation r op reply ∷ []) files → MakesOne fixed (store_after fixed moves) (store_after fixed (moves ++ move.Operation r op reply ∷ []))
   operation-one r op reply spans =
       let m : Move O R = move.Operation r op reply in
-      carried s (after_move s m) (store_of (moves ++ m ∷ [])) (store_of-more moves m) (operation-makes fixed moves r op reply (kept fixed laws size files short moves m spans) (accepted fixed laws size files short moves m spans).there)
+      carried fixed s (after_move fixed.terms.origin s m) (store_after fixed (moves ++ m ∷ [])) (store_of-more fixed.terms.origin moves m) (operation-makes fixed moves r op reply (kept fixed laws size files short moves m spans) (accepted fixed laws size files short moves m spans).there)
 
-  abbrev merge-one : (r k : ℕ) → Spans fixed (moves ++ move.Merge r k ∷ []) files → MakesOne (store_of moves) (store_of (moves ++ move.Merge r k ∷ []))
+  abbrev merge-one : (r k : ℕ) → Spans fixed (moves ++ move.Merge r k ∷ []) files → MakesOne fixed (store_after fixed moves) (store_after fixed (moves ++ move.Merge r k ∷ []))
   merge-one r k spans =
       let m : Move O R = move.Merge r k in
       let is = accepted fixed laws size files short moves m spans in
-      carried s (after_move s m) (store_of (moves ++ m ∷ [])) (store_of-more moves m) (merge-makes fixed moves r k (kept fixed laws size files short moves m spans) is.there is.stands)
+      carried fixed s (after_move fixed.terms.origin s m) (store_after fixed (moves ++ m ∷ [])) (store_of-more fixed.terms.origin moves m) (merge-makes fixed moves r k (kept fixed laws size files short moves m spans) is.there is.stands)
 
-  -- the spellings of an operation and its reply are not too long
+  abbrev join-one : (r : ℕ) (ks : List ℕ) → Spans fixed (moves ++ move.Join r ks ∷ []) files → MakesOne fixed (store_after fixed moves) (store_after fixed (moves ++ move.Join r ks ∷ []))
+  join-one r ks spans =
+      let m : Move O R = move.Join r ks in
+      let is = accepted fixed laws size files short moves m spans in
+      carried fixed s (after_move fixed.terms.origin s m) (store_after fixed (moves ++ m ∷ [])) (store_of-more fixed.terms.origin moves m) (join-makes fixed moves r ks (kept fixed laws size files short moves m spans) is.there is.stands is.few)
+
+  -- what was received
+  module _ (parents : List ℕ) (origin clock : ℕ) (act : Option (O × R)) (spans : Spans fixed (moves ++ move.Received parents origin clock act ∷ []) files) where
+    abbrev received : Move O R
+    received = move.Received parents origin clock act
+
+    received-is : IsReceived fixed.meaning fixed.terms moves parents origin clock act
+    received-is = accepted fixed laws size files short moves received spans
+
+    foreign : IsForeign fixed s (after_move fixed.terms.origin s received) (received_commit s.commits parents origin clock act)
+    foreign = received-foreign fixed moves parents origin clock act received-is (unseen fixed laws size files short moves received spans)
+
+    abbrev received-one : MakesOne fixed (store_after fixed moves) (store_after fixed (moves ++ received ∷ []))
+    received-one =
+        record {
+          made = received_commit s.commits parents origin clock act;
+          commits = ap (λ (t : Store O R). t.commits) (store_of-more fixed.terms.origin moves received);
+          branches = ap (λ (t : Store O R). length t.branches) (store_of-more fixed.terms.origin moves received);
+          few = received-nine fixed moves parents origin clock act received-is;
+          within = received-stand fixed.meaning fixed.terms moves parents origin clock act received-is;
+          kind = carried-kind fixed s (after_move fixed.terms.origin s received) (store_after fixed (moves ++ received ∷ [])) (store_of-more fixed.terms.origin moves received) (received_commit s.commits parents origin clock act) (inr foreign);
+        }
+
   operation-short : (r : ℕ) (op : O) (reply : R) → Spans fixed (moves ++ move.Operation r op reply ∷ []) files → HasLength64 (fixed.meaning.op_spelling op) × HasLength64 (fixed.meaning.reply_spelling reply)
   operation-short r op reply spans =
-      let m : Move O R = move.Operation r op reply in
-      let one = operation-one r op reply spans in
-      let body = body-short m spans one in
-      let d = c m spans one in
-      let o : List ℕ = fixed.meaning.op_spelling op in
-      let a : List ℕ = fixed.meaning.reply_spelling reply in
-      let front : List ℕ = counted (λ address. address) d.parents ++ short_number d.branch ++ number d.clock ++ d.value in
-      let parts : commit_body d ≡ front ++ 1 ∷ (field o ++ field a) = refl in
-      let whole : length (commit_body d) ≡ length front + (1 + ((8 + length o) + (8 + length a))) =
-      omega (arith, ap length parts, length-append front (1 ∷ (field o ++ field a)), length-append (field o) (field a), length-field o, length-field a) in
-      (omega (arith, whole, body), omega (arith, whole, body))
+      spelled-short (move.Operation r op reply) spans (operation-one r op reply spans) (fixed.meaning.op_spelling op) (fixed.meaning.reply_spelling reply) refl
+
+  -- the spellings of an operation and of the reply that what it has seen determines are of the type
+  spelled-does : (h : ℕ) (op : O) (reply : R) (m : Move O R) → Spans fixed (moves ++ m ∷ []) files → fixed.meaning.is_op op → reply ≡ fixed.meaning.reply_of (visible s.commits h) op → HasLength64 (fixed.meaning.op_spelling op) × HasLength64 (fixed.meaning.reply_spelling reply)
+      → fixed.meaning.is_op_spelling (fixed.meaning.op_spelling op) × fixed.meaning.is_reply_spelling (fixed.meaning.reply_spelling reply)
+  spelled-does h op reply m spans known replies few =
+      let seen = visible s.commits h in
+      let in_range = subst fixed.meaning.is_reply (sym replies) (laws.replies_in_range seen op (visible-lawful fixed.meaning fixed.terms s (kept fixed laws size files short moves m spans) h) known) in
+      (laws.op_inside op known few.0, laws.reply_inside reply in_range few.1)
 
   operation-does : (r : ℕ) (op : O) (reply : R) (spans : Spans fixed (moves ++ move.Operation r op reply ∷ []) files) → fixed.meaning.is_op_spelling (fixed.meaning.op_spelling op) × fixed.meaning.is_reply_spelling (fixed.meaning.reply_spelling reply)
   operation-does r op reply spans =
       let m : Move O R = move.Operation r op reply in
       let is = accepted fixed laws size files short moves m spans in
-      let few = operation-short r op reply spans in
-      let seen = visible s.commits (head_of s.branches r) in
-      let known = subst fixed.meaning.is_reply (sym is.replies) (laws.replies_in_range seen op (visible-lawful fixed.meaning fixed.limits s (kept fixed laws size files short moves m spans) (head_of s.branches r)) is.known) in
-      (laws.op_inside op is.known few.0, laws.reply_inside reply known few.1)
+      spelled-does (head_of s.branches r) op reply m spans is.known is.replies (operation-short r op reply spans)
+
+  received-short : (parents : List ℕ) (origin clock : ℕ) (d : O × R) → Spans fixed (moves ++ move.Received parents origin clock (Some d) ∷ []) files → HasLength64 (fixed.meaning.op_spelling d.0) × HasLength64 (fixed.meaning.reply_spelling d.1)
+  received-short parents origin clock d spans =
+      spelled-short (move.Received parents origin clock (Some d)) spans (received-one parents origin clock (Some d) spans) (fixed.meaning.op_spelling d.0) (fixed.meaning.reply_spelling d.1) refl
+
+  silent-merges : (parents : List ℕ) (p : ℕ) (ps : List ℕ) → parents ≡ p ∷ ps → silent_action parents ≡ wire.Merge
+  silent-merges parents p ps is = ap silent_action is
+
+  -- how many parents the commit has that was received
+  received-count : (parents : List ℕ) (origin clock : ℕ) (act : Option (O × R)) (spans : Spans fixed (moves ++ move.Received parents origin clock act ∷ []) files) → HasParents (c (move.Received parents origin clock act) spans (received-one parents origin clock act spans)).action (length parents)
+  received-count parents origin clock None spans =
+      let is = accepted fixed laws size files short moves (move.Received parents origin clock None) spans in
+      let some = is.few.some in
+      let many = is.few.few in
+      subst (λ (x : Action). HasParents x (length parents)) (sym (silent-merges parents is.parent is.others is.parents_are)) (omega (arith, ap length is.parents_are), omega (arith, ap length is.parents_are))
+  received-count parents origin clock (Some d) spans =
+      let is = accepted fixed laws size files short moves (move.Received parents origin clock (Some d)) spans in
+      ap length is.parents_are
+
+  received-does : (parents : List ℕ) (origin clock : ℕ) (act : Option (O × R)) (spans : Spans fixed (moves ++ move.Received parents origin clock act ∷ []) files) → Does fixed (record_of fixed moves (move.Received parents origin clock act)) (c (move.Received parents origin clock act) spans (received-one parents origin clock act spans)).action
+  received-does parents origin clock None spans =
+      let m : Move O R = move.Received parents origin clock None in
+      let is = accepted fixed laws size files short moves m spans in
+      subst (Does fixed (record_of fixed moves m)) (sym (silent-merges parents is.parent is.others is.parents_are)) tt
+  received-does parents origin clock (Some d) spans =
+      let m : Move O R = move.Received parents origin clock (Some d) in
+      let is = accepted fixed laws size files short moves m spans in
+      spelled-does is.parent d.0 d.1 m spans is.known is.replies (received-short parents origin clock d spans)
+
+  join-count : (r : ℕ) (ks : List ℕ) (spans : Spans fixed (moves ++ move.Join r ks ∷ []) files) → HasParents wire.Merge (length (head_of s.branches r ∷ ks))
+  join-count r ks spans =
+      let is = accepted fixed laws size files short moves (move.Join r ks) spans in
+      let some = is.several in
+      let many = is.few in
+      (omega arith, omega arith)
 
   -- the region of a move that makes a commit has the shape that its record asks for
   shape-region : (m : Move O R) → Spans fixed (moves ++ m ∷ []) files → MakesCommit (record_of fixed moves m) → HasShape fixed (record_of fixed moves m) (region fixed moves m)
@@ -146,8 +233,16 @@ module _ {S O R Q A : Type 0} (fixed : Fixed S O R Q A) (laws : KeepsLaws fixed.
       has-shape m spans (operation-one r op reply spans) (record_of fixed moves m) refl (operation-does r op reply spans)
   shape-region (move.Merge r k) spans makes =
       let m : Move O R = move.Merge r k in
-      has-shape m spans (merge-one r k spans) (record_of fixed moves m) refl tt
+      has-shape m spans (merge-one r k spans) (record_of fixed moves m) (omega arith, omega arith) tt
+  shape-region (move.Join r ks) spans makes =
+      let m : Move O R = move.Join r ks in
+      has-shape m spans (join-one r ks spans) (record_of fixed moves m) (join-count r ks spans) tt
   shape-region (move.Forward r k) spans makes = absurd makes
+  shape-region (move.Received parents origin clock act) spans makes =
+      let m : Move O R = move.Received parents origin clock act in
+      has-shape m spans (received-one parents origin clock act spans) (record_of fixed moves m) (received-count parents origin clock act spans) (received-does parents origin clock act spans)
+  shape-region (move.Place name count k) spans makes = absurd makes
+  shape-region (move.Drop r) spans makes = absurd makes
 
   pub shape-behind : (m : Move O R) → Spans fixed (moves ++ m ∷ []) files → MakesCommit (record_of fixed moves m) → HasShape fixed (record_of fixed moves m) (bytes_behind fixed moves files.objects (record_of fixed moves m))
   shape-behind m spans makes = subst (HasShape fixed (record_of fixed moves m)) (sym (bytes-are fixed laws size files short moves m spans)) (shape-region m spans makes)
@@ -182,6 +277,33 @@ module _ {S O R Q A : Type 0} (fixed : Fixed S O R Q A) (laws : KeepsLaws fixed.
       let region_is = sym (bytes-are fixed laws size files short moves (move.Operation r op reply) spans) ∙ is in
       operation-told r op reply spans v d commit (first ++ commit_object d) (inr (ap (λ (l : List ℕ). l ++ commit_object d) same)) few region_is
 
+  -- and of what was received
+  received-told : (parents : List ℕ) (origin clock : ℕ) (act : Option (O × R)) (spans : Spans fixed (moves ++ move.Received parents origin clock act ∷ []) files) → (v : List ℕ) (d : CommitFields) → IsCommit d → (bytes : List ℕ) → (bytes ≡ commit_object d) ⊎ (bytes ≡ value_object v ++ commit_object d) → HasLength64 v
+      → region fixed moves (move.Received parents origin clock act) ≡ bytes → c (move.Received parents origin clock act) spans (received-one parents origin clock act spans) ≡ d
+  received-told parents origin clock act spans v d commit bytes parts few is =
+      let m : Move O R = move.Received parents origin clock act in
+      let one = received-one parents origin clock act spans in
+      let objects : commit_object (c m spans one) ≡ commit_object d =
+      same-commits (spelling m spans one) v (field (commit_body (c m spans one))) (field (commit_body d)) (region fixed moves m) bytes
+      (region-one fixed laws size moves m spans.valid one) parts (value-short m spans one) (λ _. few) is in
+      same-object (c m spans one) d (is-commit m spans one (received-count parents origin clock act spans)) commit objects
+
+  received-object : (parents : List ℕ) (origin clock : ℕ) (act : Option (O × R)) (spans : Spans fixed (moves ++ move.Received parents origin clock act ∷ []) files) → (first : List ℕ) (d : CommitFields) → IsValuePart fixed first → IsCommit d
+      → bytes_behind fixed moves files.objects (record_of fixed moves (move.Received parents origin clock act)) ≡ first ++ commit_object d → c (move.Received parents origin clock act) spans (received-one parents origin clock act spans) ≡ d
+  received-object parents origin clock act spans first d (inl none) commit is =
+      let region_is = sym (bytes-are fixed laws size files short moves (move.Received parents origin clock act) spans) ∙ is in
+      received-told parents origin clock act spans [] d commit (first ++ commit_object d) (inl (ap (λ (l : List ℕ). l ++ commit_object d) none)) (omega arith) region_is
+  received-object parents origin clock act spans first d (inr (v, few, inside, same)) commit is =
+      let region_is = sym (bytes-are fixed laws size files short moves (move.Received parents origin clock act) spans) ∙ is in
+      received-told parents origin clock act spans v d commit (first ++ commit_object d) (inr (ap (λ (l : List ℕ). l ++ commit_object d) same)) few region_is
+
+  pub received-tells : (parents : List ℕ) (origin clock : ℕ) (act : Option (O × R)) → Spans fixed (moves ++ move.Received parents origin clock act ∷ []) files → (first : List ℕ) (d : CommitFields) → IsValuePart fixed first → IsCommit d
+      → bytes_behind fixed moves files.objects (record_of fixed moves (move.Received parents origin clock act)) ≡ first ++ commit_object d
+      → (d.parents ≡ map (address_at fixed.address (pairs_of fixed s.commits)) parents) × (d.branch ≡ origin) × (d.clock ≡ clock) × (d.action ≡ action_of fixed parents (received_commit s.commits parents origin clock act).event)
+  received-tells parents origin clock act spans first d part commit is =
+      let same = sym (received-object parents origin clock act spans first d part commit is) in
+      (ap (λ (f : CommitFields). f.parents) same, ap (λ (f : CommitFields). f.branch) same, ap (λ (f : CommitFields). f.clock) same, ap (λ (f : CommitFields). f.action) same)
+
   region-same : (m n : Move O R) → Spans fixed (moves ++ m ∷ []) files → Spans fixed (moves ++ n ∷ []) files → record_of fixed moves m ≡ record_of fixed moves n → region fixed moves m ≡ region fixed moves n
   region-same m n p q same = sym (bytes-are fixed laws size files short moves m p) ∙ ap (bytes_behind fixed moves files.objects) same ∙ bytes-are fixed laws size files short moves n q
 
@@ -202,6 +324,58 @@ module _ {S O R Q A : Type 0} (fixed : Fixed S O R Q A) (laws : KeepsLaws fixed.
       let operations : op ≡ other = laws.one_op op other a.known b.known (operation-short r op reply p).0 texts in
       let replies : reply ≡ more = a.replies ∙ ap (λ o. fixed.meaning.reply_of (visible s.commits (head_of s.branches r)) o) operations ∙ sym b.replies in
       ap (λ o. move.Operation r o reply) operations ∙ ap (λ x. move.Operation r other x) replies
+
+  -- what was received is told by its objects
+  received-fields : (parents parents' : List ℕ) (origin origin' clock clock' : ℕ) (act act' : Option (O × R)) (p : Spans fixed (moves ++ move.Received parents origin clock act ∷ []) files) (q : Spans fixed (moves ++ move.Received parents' origin' clock' act' ∷ []) files)
+      → record_of fixed moves (move.Received parents origin clock act) ≡ record_of fixed moves (move.Received parents' origin' clock' act')
+      → c (move.Received parents origin clock act) p (received-one parents origin clock act p) ≡ c (move.Received parents' origin' clock' act') q (received-one parents' origin' clock' act' q)
+  received-fields parents parents' origin origin' clock clock' act act' p q same =
+      let m : Move O R = move.Received parents origin clock act in
+      let n : Move O R = move.Received parents' origin' clock' act' in
+      let first = received-one parents origin clock act p in
+      let second = received-one parents' origin' clock' act' q in
+      let objects : commit_object (c m p first) ≡ commit_object (c n q second) =
+      same-commits (spelling m p first) (spelling n q second) (field (commit_body (c m p first))) (field (commit_body (c n q second))) (region fixed moves m) (region fixed moves n)
+      (region-one fixed laws size moves m p.valid first) (region-one fixed laws size moves n q.valid second) (value-short m p first) (value-short n q second) (region-same m n p q same) in
+      same-object (c m p first) (c n q second) (is-commit m p first (received-count parents origin clock act p)) (is-commit n q second (received-count parents' origin' clock' act' q)) objects
+
+  acts-same : (parents parents' : List ℕ) (origin origin' clock clock' : ℕ) (act act' : Option (O × R)) (p : Spans fixed (moves ++ move.Received parents origin clock act ∷ []) files) (q : Spans fixed (moves ++ move.Received parents' origin' clock' act' ∷ []) files) → parents ≡ parents'
+      → (c (move.Received parents origin clock act) p (received-one parents origin clock act p)).action ≡ (c (move.Received parents' origin' clock' act') q (received-one parents' origin' clock' act' q)).action → act ≡ act'
+  acts-same parents parents' origin origin' clock clock' None None p q alike is = refl
+  acts-same parents parents' origin origin' clock clock' None (Some d) p q alike is =
+      let one = accepted fixed laws size files short moves (move.Received parents origin clock None) p in
+      let clash : wire.Merge ≡ wire.Operation (fixed.meaning.op_spelling d.0) (fixed.meaning.reply_spelling d.1) = sym (silent-merges parents one.parent one.others one.parents_are) ∙ is in
+      absurd (cc clash)
+  acts-same parents parents' origin origin' clock clock' (Some d) None p q alike is =
+      let one = accepted fixed laws size files short moves (move.Received parents' origin' clock' None) q in
+      let clash : wire.Operation (fixed.meaning.op_spelling d.0) (fixed.meaning.reply_spelling d.1) ≡ wire.Merge = is ∙ silent-merges parents' one.parent one.others one.parents_are in
+      absurd (cc clash)
+  acts-same parents parents' origin origin' clock clock' (Some d) (Some d') p q alike is =
+      let one = accepted fixed laws size files short moves (move.Received parents origin clock (Some d)) p in
+      let two = accepted fixed laws size files short moves (move.Received parents' origin' clock' (Some d')) q in
+      let actions : wire.Operation (fixed.meaning.op_spelling d.0) (fixed.meaning.reply_spelling d.1) ≡ wire.Operation (fixed.meaning.op_spelling d'.0) (fixed.meaning.reply_spelling d'.1) = is in
+      let texts : fixed.meaning.op_spelling d.0 ≡ fixed.meaning.op_spelling d'.0 = cc actions in
+      let operations : d.0 ≡ d'.0 = laws.one_op d.0 d'.0 one.known two.known (received-short parents origin clock d p).0 texts in
+      let lists : one.parent ∷ [] ≡ two.parent ∷ [] = sym one.parents_are ∙ alike ∙ two.parents_are in
+      let heads : one.parent ≡ two.parent = cc lists in
+      let replies : d.1 ≡ d'.1 =
+      one.replies ∙ ap (λ o. fixed.meaning.reply_of (visible s.commits one.parent) o) operations ∙ ap (λ k. fixed.meaning.reply_of (visible s.commits k) d'.0) heads ∙ sym two.replies in
+      ap (λ (o : O). Some (o, d.1)) operations ∙ ap (λ (r : R). Some (d'.0, r)) replies
+
+  received-same : (parents parents' : List ℕ) (origin origin' clock clock' : ℕ) (act act' : Option (O × R)) → Spans fixed (moves ++ move.Received parents origin clock act ∷ []) files → Spans fixed (moves ++ move.Received parents' origin' clock' act' ∷ []) files
+      → record_of fixed moves (move.Received parents origin clock act) ≡ record_of fixed moves (move.Received parents' origin' clock' act') → move.Received parents origin clock act ≡ move.Received parents' origin' clock' act'
+  received-same parents parents' origin origin' clock clock' act act' p q same =
+      let fields = received-fields parents parents' origin origin' clock clock' act act' p q same in
+      let one = accepted fixed laws size files short moves (move.Received parents origin clock act) p in
+      let two = accepted fixed laws size files short moves (move.Received parents' origin' clock' act') q in
+      let sound = valid-sound fixed laws size moves (valid-first fixed moves (move.Received parents origin clock act ∷ []) p.valid) in
+      let a : parents ≡ parents' =
+      addresses-same fixed.address (pairs_of fixed s.commits) (length s.commits) (λ j k in_j in_k is. sound.distinct j k in_j in_k (sound.one j k in_j in_k is)) parents parents'
+      (received-stand fixed.meaning fixed.terms moves parents origin clock act one) (received-stand fixed.meaning fixed.terms moves parents' origin' clock' act' two) (ap (λ (f : CommitFields). f.parents) fields) in
+      let b : origin ≡ origin' = ap (λ (f : CommitFields). f.branch) fields in
+      let d : clock ≡ clock' = ap (λ (f : CommitFields). f.clock) fields in
+      let e : act ≡ act' = acts-same parents parents' origin origin' clock clock' act act' p q a (ap (λ (f : CommitFields). f.action) fields) in
+      ap (λ (x : List ℕ). move.Received x origin clock act) a ∙ ap (λ (x : ℕ). move.Received parents' x clock act) b ∙ ap (λ (x : ℕ). move.Received parents' origin' x act) d ∙ ap (λ (x : Option (O × R)). move.Received parents' origin' clock' x) e
 
   -- files have one next move at most
   pub one-move : (m n : Move O R) → Spans fixed (moves ++ m ∷ []) files → Spans fixed (moves ++ n ∷ []) files → record_of fixed moves m ≡ record_of fixed moves n → m ≡ n
@@ -226,15 +400,17 @@ module _ {S O R Q A : Type 0} (fixed : Fixed S O R Q A) (laws : KeepsLaws fixed.
       let a : r ≡ r' = cc same in
       let b : k ≡ k' = cc same in
       ap (λ x. move.Forward x k) a ∙ ap (λ x. move.Forward r' x) b
-  one-move (move.Fork name count from) (move.Operation r op reply) p q same = absurd (cc same)
-  one-move (move.Fork name count from) (move.Merge r k) p q same = absurd (cc same)
-  one-move (move.Fork name count from) (move.Forward r k) p q same = absurd (cc same)
-  one-move (move.Operation r op reply) (move.Fork name count from) p q same = absurd (cc same)
-  one-move (move.Operation r op reply) (move.Merge r' k) p q same = absurd (cc same)
-  one-move (move.Operation r op reply) (move.Forward r' k) p q same = absurd (cc same)
-  one-move (move.Merge r k) (move.Fork name count from) p q same = absurd (cc same)
-  one-move (move.Merge r k) (move.Operation r' op reply) p q same = absurd (cc same)
-  one-move (move.Merge r k) (move.Forward r' k') p q same = absurd (cc same)
-  one-move (move.Forward r k) (move.Fork name count from) p q same = absurd (cc same)
-  one-move (move.Forward r k) (move.Operation r' op reply) p q same = absurd (cc same)
-  one-move (move.Forward r k) (move.Merge r' k') p q same = absurd (cc same)
+  one-move (move.Join r ks) (move.Join r' ks') p q same =
+      let a : r ≡ r' = cc same in
+      let b : ks ≡ ks' = cc same in
+      ap (λ x. move.Join x ks) a ∙ ap (λ (x : List ℕ). move.Join r' x) b
+  one-move (move.Received parents origin clock act) (move.Received parents' origin' clock' act') p q same = received-same parents parents' origin origin' clock clock' act act' p q same
+  one-move (move.Place name count k) (move.Place name' count' k') p q same =
+      let a : name ≡ name' = cc same in
+      let b : count ≡ count' = cc same in
+      let d : k ≡ k' = cc same in
+      ap (λ x. move.Place x count k) a ∙ ap (λ x. move.Place name' x k) b ∙ ap (λ x. move.Place name' count' x) d
+  one-move (move.Drop r) (move.Drop r') p q same =
+      let a : r ≡ r' = cc same in
+      ap (λ x. move.Drop x) a
+  one-move m n p q same = absurd (cc same)

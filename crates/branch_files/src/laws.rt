@@ -1,5 +1,6 @@
-// The laws of reading. Each stands on a function with an empty body, whose contract is the law.
-ghost use Rattle.branch_files.specs.Laws.{ReadsInOneWay, ReadsAll, ReadsWhatStands, StandsForWhatIsRead, HasGates, AppendsRecords, GoesOn, TellsOperations};
+// The laws of reading files of the form that is written today. Each stands on a function with an empty body, whose
+// contract is the law.
+ghost use Rattle.branch_files.specs.Laws.{ReadsInOneWay, ReadsAll, ReadsWhatStands, StandsForWhatIsRead, HasGates, AppendsRecords, GoesOn, TellsOperations, TellsReceived};
 
 use mrdt_model::Mrdt;
 
@@ -43,4 +44,10 @@ pub fn goes_on<T: Mrdt>()
 /// have 32 bytes and the objects are shorter than 2^64 bytes.
 pub fn tells_operations<T: Mrdt>()
     ensures { TellsOperations T.meaning }
+{}
+
+/// The objects behind a history spell the parents, the origin, the clock and the action of the commit that was
+/// received there, where addresses have 32 bytes and the objects are shorter than 2^64 bytes.
+pub fn tells_received<T: Mrdt>()
+    ensures { TellsReceived T.meaning }
 {}

@@ -1,60 +1,51 @@
 -- No two commits of a valid history have equal objects.
-use Rattle.std.proofs.Common.{zero, suc, ◌≡◌, ◌⊎◌, inl, inr, ℕ, ◌+◌, ◌<◌, ◌≤◌, ◌^◌, true, false, List, [], ◌∷◌, ◌++◌, length, refl, sym, ◌∙◌, ap, arith, subst, append-nil, length-append, map, IsTrue, None, Some, Option, ⊎_elim, ◌||◌}
+use Rattle.std.proofs.Common.{zero, suc, ◌≡◌, ◌⊎◌, inl, inr, ℕ, ◌+◌, ◌<◌, ◌≤◌, ◌^◌, true, false, ◌&&◌, List, [], ◌∷◌, ◌++◌, length, refl, sym, ◌∙◌, ap, arith, subst, append-nil, length-append, map, IsTrue, None, Some, Option, ⊎_elim, ◌||◌}
+use Rattle.std.specs.Prelude.{slice_get}
 use Rattle.std.specs.List.{list_any, AllByRecursion}
 use Rattle.std.specs.Option.{option_map}
-use Rattle.std.proofs.lemmas.Bool.{or_left, or_right, cases_lt}
+use Rattle.std.proofs.lemmas.Bool.{or_left, or_right, cases_lt, both_ways, and_from}
 use Rattle.mrdt_model.specs.Laws.{KeepsLaws}
-use Rattle.branch_names.specs.Heads.{head_of}
 use Rattle.branch_wire.specs.Fields.{short_number, number, field, counted}
 use Rattle.branch_wire.specs.Reading.{HasLength, ReadsOneWay}
 use Rattle.branch_wire.specs.declared.action.Action.{Action}
 use Rattle.branch_wire.specs.Objects.{action_field, CommitFields, commit_body, commit_object}
-use Rattle.branch_wire.specs.StoredObjects.{Stored, same, collision, fresh}
+use Rattle.branch_wire.specs.StoredObjects.{Stored, same, clash, collision, fresh}
 use Rattle.branch_wire.proofs.Numbers.{same_parts, short_number-same, length-short_number, length-number}
 use Rattle.branch_wire.proofs.Lists.{counted-one_way}
 use Rattle.branch_graph.specs.Graph.{reaches, parents_of}
 use Rattle.branch_history.specs.declared.moves.Move.{Move}
 use Rattle.branch_history.specs.declared.moves.Move.TheVariants as move
-use Rattle.branch_history.specs.Commits.{Commit, graph_of, branch_of}
-use Rattle.branch_history.specs.History.{Store, new_store, after_move, store_of, operation_commit, merge_commit}
+use Rattle.branch_names.specs.Heads.{head_of}
+use Rattle.branch_history.specs.Commits.{Commit, graph_of, origin_of}
+use Rattle.branch_history.specs.History.{Store, new_store, after_move, store_of, operation_commit, merge_commit, received_commit}
 use Rattle.branch_history.specs.Steps.{Collision}
+use Rattle.branch_history.specs.Validity.{AreCommits}
 use Rattle.branch_history.proofs.Reach.{reaches-self, reaches-trans, reaches-at_most}
-use Rattle.branch_history.proofs.Grown.{branch_of-new, parents_of-new}
-use Rattle.branch_history.proofs.Stores.{head_of-same}
+use Rattle.branch_history.proofs.Grown.{origin_of-new, parents_of-new}
+use Rattle.branch_history.proofs.Stores.{head_of-same, length-with_head}
+use Rattle.branch_history.proofs.Keeps.{not_own}
 use Rattle.branch_history.proofs.Later.{IsLonger, longer-same_at}
 use Rattle.branch_history.specs.Laws.{IsSameAt}
-use Rattle.branch_history.proofs.Lists.{AllByRecursion-more}
-use Rattle.branch_history.proofs.Heads.{valid-rises}
+use Rattle.branch_history.proofs.Lists.{AllByRecursion-more, position-none}
+use Rattle.branch_history.proofs.Heads.{valid-rises, same_branch}
 use Rattle.branch_history.proofs.Kept.{IsKept}
-use Rattle.branch_history.proofs.Histories.{valid-kept}
-use Rattle.branch_history.proofs.Valid.{store_of-more, IsAccepted, IsAccepted-from}
-use Rattle.branch_machine.specs.Fixed.{Fixed}
-use Rattle.branch_machine.specs.Objects.{Pair, both, commit_text, address_at, fields_of, pair_at, pairs_of, objects_of, new_objects}
-use Rattle.branch_machine.specs.Machine.{collision_refusal}
-use Rattle.branch_machine.specs.Laws.{HasSize}
+use Rattle.branch_history.proofs.Histories.{valid-kept, received-stand}
+use Rattle.branch_history.proofs.Valid.{store_of-more, IsAccepted, IsAccepted-from, IsReceived, received_operation-tells, received_merge-tells}
+use Rattle.branch_machine.specs.Fixed.{Form, FixedIn}
+use Rattle.branch_machine.specs.Objects.{Pair, both, commit_text, value_text, address_at, fields_of, pair_at, pairs_of, store_after, objects_of, new_objects}
+use Rattle.branch_machine.specs.Machine.{collision_refusal, commit_with, commit_at}
+use Rattle.branch_machine.specs.Laws.{HasSize, IsNew}
 use Rattle.branch_machine.specs.Validity.{IsFullMove, IsFullyValid}
 use Rattle.branch_machine.proofs.Valid.{by_moves, full_move-is, valid-before, valid-more}
 use Rattle.branch_machine.proofs.Stored.{listed-before, listed-fresh, clash-none, collision-second, same-refl}
-use Rattle.branch_machine.proofs.Pairs.{commit_text-old, commit_text-new, addresses-old, length-pairs_of, pairs_of-one, new-pairs, objects-more}
+use Rattle.branch_machine.proofs.Pairs.{commit_text-old, commit_text-new, value_text-old, value_text-new, addresses-old, length-pairs_of, pairs_of-one, new-pairs, objects-more}
 
--- a move that makes a commit: its first parent is the head of its branch, and it has one more at most; it becomes the head
-pub record MakesOne {O R : Type 0} (old new : Store O R) : Type 0 where
-  pub made : Commit O R
-  pub others : List ℕ
-  pub commits : new.commits ≡ old.commits ++ made ∷ []
-  pub there : made.branch < length old.branches
-  pub parents : made.parents ≡ head_of old.branches made.branch ∷ others
-  pub few : length others ≤ 1
-  pub within : AllByRecursion (λ n. n < length old.commits) made.parents
-  pub head : head_of new.branches made.branch ≡ length old.commits
-
--- what a commit's object says of its parents and its branch
-pub record IsSpelledBy (address : List ℕ → List ℕ) (pairs : List Pair) (parents : List ℕ) (branch : ℕ) (text : List ℕ) : Type 0 where
+-- what a commit's object says of its parents, its origin and the object of its value
+pub record IsSpelledBy (address : List ℕ → List ℕ) (pairs : List Pair) (parents : List ℕ) (origin : ℕ) (value text : List ℕ) : Type 0 where
   pub clock : ℕ
-  pub value : List ℕ
   pub action : Action
-  pub is : text ≡ commit_object (record { parents = map (address_at address pairs) parents; branch = branch; clock = clock; value = value; action = action })
-  pub few : length parents ≤ 2
+  pub is : text ≡ commit_object (record { parents = map (address_at address pairs) parents; branch = origin; clock = clock; value = address value; action = action })
+  pub few : length parents ≤ 9
 
 abbrev own : List ℕ → List ℕ
 own bytes = bytes
@@ -80,34 +71,97 @@ module _ (address : List ℕ → List ℕ) (size : HasSize address) where
   few-sized pairs [] = refl
   few-sized pairs (n ∷ ns) = ap suc (few-sized pairs ns)
 
-  -- equal objects of commits have equal parents' addresses, and equal branches
-  same-spelled : (pairs : List Pair) (ns ms : List ℕ) (a b : ℕ) (x y : List ℕ) → a < 2 ^ 32 → b < 2 ^ 32 → IsSpelledBy address pairs ns a x → IsSpelledBy address pairs ms b y → x ≡ y
-      → (map (address_at address pairs) ns ≡ map (address_at address pairs) ms) × (a ≡ b)
-  same-spelled pairs ns ms a b x y small_a small_b p q is =
-      let c : CommitFields = record { parents = map (address_at address pairs) ns; branch = a; clock = p.clock; value = p.value; action = p.action } in
-      let d : CommitFields = record { parents = map (address_at address pairs) ms; branch = b; clock = q.clock; value = q.value; action = q.action } in
+  -- equal objects of commits have equal parents' addresses, equal origins, equal addresses of their values, and do the same
+  pub same-spelled : (pairs : List Pair) (ns ms : List ℕ) (a b : ℕ) (v w x y : List ℕ) → a < 2 ^ 32 → b < 2 ^ 32 → (p : IsSpelledBy address pairs ns a v x) → (q : IsSpelledBy address pairs ms b w y) → x ≡ y
+      → (map (address_at address pairs) ns ≡ map (address_at address pairs) ms) × (a ≡ b) × (address v ≡ address w) × (action_field p.action ≡ action_field q.action)
+  same-spelled pairs ns ms a b v w x y small_a small_b p q is =
+      let c : CommitFields = record { parents = map (address_at address pairs) ns; branch = a; clock = p.clock; value = address v; action = p.action } in
+      let d : CommitFields = record { parents = map (address_at address pairs) ms; branch = b; clock = q.clock; value = address w; action = q.action } in
       let whole : commit_object c ≡ commit_object d = sym p.is ∙ is ∙ q.is in
       let fields : field (commit_body c) ≡ field (commit_body d) = cc whole in
       let bodies = (same_parts (number (length (commit_body c))) (commit_body c) (number (length (commit_body d))) (commit_body d) (length-number (length (commit_body c)) ∙ sym (length-number (length (commit_body d)))) fields).1 in
       let first = (counted-one_way (HasLength 32) own addresses).one c.parents d.parents (short_number a ++ (number c.clock ++ c.value ++ action_field c.action)) (short_number b ++ (number d.clock ++ d.value ++ action_field d.action))
       (omega (arith, few-sized pairs ns, p.few), all-sized pairs ns) (omega (arith, few-sized pairs ms, q.few), all-sized pairs ms)
       (sym (regroup (counted own c.parents) (short_number a) (number c.clock) c.value (action_field c.action)) ∙ bodies ∙ regroup (counted own d.parents) (short_number b) (number d.clock) d.value (action_field d.action)) in
-      let branches = (same_parts (short_number a) (number c.clock ++ c.value ++ action_field c.action) (short_number b) (number d.clock ++ d.value ++ action_field d.action) (length-short_number a ∙ sym (length-short_number b)) first.1).0 in
-      (first.0, short_number-same a b small_a small_b branches)
+      let second = same_parts (short_number a) (number c.clock ++ c.value ++ action_field c.action) (short_number b) (number d.clock ++ d.value ++ action_field d.action) (length-short_number a ∙ sym (length-short_number b)) first.1 in
+      let third = same_parts (number c.clock ++ c.value) (action_field c.action) (number d.clock ++ d.value) (action_field d.action)
+      (omega (arith, length-append (number c.clock) c.value, length-append (number d.clock) d.value, length-number c.clock, length-number d.clock, size v, size w)) second.1 in
+      let fourth = same_parts (number c.clock) c.value (number d.clock) d.value (length-number c.clock ∙ sym (length-number d.clock)) third.0 in
+      (first.0, short_number-same a b small_a small_b second.0, fourth.1, third.1)
 
-module _ {S O R Q A : Type 0} (fixed : Fixed S O R Q A) where
+-- commits that are there are told by their addresses
+pub addresses-same : (address : List ℕ → List ℕ) (pairs : List Pair) (count : ℕ) → ((j k : ℕ) → j < count → k < count → address (commit_text pairs j) ≡ address (commit_text pairs k) → j ≡ k) → (ns ms : List ℕ)
+    → AllByRecursion (λ n. n < count) ns → AllByRecursion (λ n. n < count) ms → map (address_at address pairs) ns ≡ map (address_at address pairs) ms → ns ≡ ms
+addresses-same address pairs count one [] [] p q is = refl
+addresses-same address pairs count one [] (m ∷ ms) p q is = absurd (cc)
+addresses-same address pairs count one (n ∷ ns) [] p q is = absurd (cc)
+addresses-same address pairs count one (n ∷ ns) (m ∷ ms) p q is =
+    let first : address (commit_text pairs n) ≡ address (commit_text pairs m) = cc is in
+    let rest : map (address_at address pairs) ns ≡ map (address_at address pairs) ms = cc is in
+    ap (λ (k : ℕ). k ∷ ns) (one n m p.0 q.0 first) ∙ ap (λ (l : List ℕ). m ∷ l) (addresses-same address pairs count one ns ms p.1 q.1 rest)
+
+-- of two objects that do not collide with stored ones, the first clashes with none of these
+collision-first : (address : List ℕ → List ℕ) (x y : List ℕ) (stored : Stored) → collision address stored (x ∷ y ∷ []) ≡ None → clash address x stored ≡ None
+collision-first address x y stored none = at (clash address x stored) none
+  where
+    at : (o : Option (List ℕ)) → ◌≡◌ {A = Option (List ℕ × List ℕ)} (elim o [ None ↦ collision address (stored ++ x ∷ []) (y ∷ []) | Some z ↦ Some (z, x) ]) None → o ≡ None
+    at None is = refl
+    at (Some z) is = cc
+
+-- where no commit has these two objects, none has
+pair-get : (pairs : List Pair) (j : ℕ) → j < length pairs → (q : Pair) × (slice_get pairs j ≡ Some q) × (value_text pairs j ≡ q.value) × (commit_text pairs j ≡ q.commit)
+pair-get [] j lt = absurd (omega arith)
+pair-get (q ∷ qs) zero lt = (q, refl, refl, refl)
+pair-get (q ∷ qs) (suc j) lt = pair-get qs j (omega arith)
+
+pub none-with : (pairs : List Pair) (p : Pair) (j : ℕ) → commit_with pairs p ≡ None → j < length pairs → value_text pairs j ≡ p.value → commit_text pairs j ≡ p.commit → ⊥
+none-with pairs p j none lt values commits =
+    let at = pair-get pairs j lt in
+    let q : Pair = at.0 in
+    let one : same q.value p.value ≡ true = ap (λ (x : List ℕ). same x p.value) (sym at.2 ∙ values) ∙ same-refl p.value in
+    let two : same q.commit p.commit ≡ true = ap (λ (x : List ℕ). same x p.commit) (sym at.3 ∙ commits) ∙ same-refl p.commit in
+    both_ways (same q.value p.value && same q.commit p.commit) (position-none (λ (q : Pair). same q.value p.value && same q.commit p.commit) 0 pairs j q none at.1) (and_from (same q.value p.value) (same q.commit p.commit) one two)
+
+module _ {S O R Q A : Type 0} {form : Form} (fixed : FixedIn form S O R Q A) where
+  abbrev first : ℕ
+  first = fixed.terms.origin
+
+  -- a commit that was made on a branch: its first parent is the branch's head, and it becomes the head
+  pub record IsOwn (old new : Store O R) (c : Commit O R) : Type 0 where
+    pub branch : ℕ
+    pub others : List ℕ
+    pub there : branch < length old.branches
+    pub origin : c.origin ≡ first + branch
+    pub parents : c.parents ≡ head_of old.branches branch ∷ others
+    pub head : head_of new.branches branch ≡ length old.commits
+
+  -- a commit that was received: its origin is none of the store's, and no commit has its two objects
+  pub record IsForeign (old new : Store O R) (c : Commit O R) : Type 0 where
+    pub origin : (q : ℕ) → q < fixed.terms.limits.branches → c.origin ≡ first + q → ⊥
+    pub unseen : commit_with (pairs_of fixed old.commits) (pair_at fixed old.commits (pairs_of fixed old.commits) c) ≡ None
+
+  -- a move that makes a commit, with nine parents at most
+  pub record MakesOne (old new : Store O R) : Type 0 where
+    pub made : Commit O R
+    pub commits : new.commits ≡ old.commits ++ made ∷ []
+    pub branches : length new.branches ≡ length old.branches
+    pub few : length made.parents ≤ 9
+    pub within : AllByRecursion (λ n. n < length old.commits) made.parents
+    pub kind : IsOwn old new made ⊎ IsForeign old new made
+
   -- what the objects of a valid history keep
   pub record IsSound (s : Store O R) (stored : Stored) : Type 0 where
     -- each commit made on a branch lies at its head or below
-    pub reach : (n : ℕ) → 0 < n → n < length s.commits → IsTrue (reaches (graph_of s.commits) (head_of s.branches (branch_of s.commits n)) n)
-    pub spelled : (n : ℕ) → n < length s.commits → IsSpelledBy fixed.address (pairs_of fixed s.commits) (parents_of (graph_of s.commits) n) (branch_of s.commits n) (commit_text (pairs_of fixed s.commits) n)
+    pub reach : (n r : ℕ) → 0 < n → n < length s.commits → r < length s.branches → origin_of s.commits n ≡ first + r → IsTrue (reaches (graph_of s.commits) (head_of s.branches r) n)
+    pub spelled : (n : ℕ) → n < length s.commits → IsSpelledBy fixed.address (pairs_of fixed s.commits) (parents_of (graph_of s.commits) n) (origin_of s.commits n) (value_text (pairs_of fixed s.commits) n) (commit_text (pairs_of fixed s.commits) n)
     pub listed : (n : ℕ) → n < length s.commits → list_any (same (commit_text (pairs_of fixed s.commits) n)) stored ≡ true
+    pub listed_values : (n : ℕ) → n < length s.commits → list_any (same (value_text (pairs_of fixed s.commits) n)) stored ≡ true
     -- commits whose objects have one address have one object
     pub one : (j k : ℕ) → j < length s.commits → k < length s.commits → fixed.address (commit_text (pairs_of fixed s.commits) j) ≡ fixed.address (commit_text (pairs_of fixed s.commits) k) → commit_text (pairs_of fixed s.commits) j ≡ commit_text (pairs_of fixed s.commits) k
     pub distinct : (j k : ℕ) → j < length s.commits → k < length s.commits → commit_text (pairs_of fixed s.commits) j ≡ commit_text (pairs_of fixed s.commits) k → j ≡ k
 
   abbrev root : Commit O R
-  root = record { parents = []; branch = 0; clock = 0; event = None }
+  root = record { parents = []; origin = 0; clock = 0; event = None }
 
   abbrev root_pair : Pair
   root_pair = pair_at fixed [] [] root
@@ -115,9 +169,10 @@ module _ {S O R Q A : Type 0} (fixed : Fixed S O R Q A) where
   sound-none : IsSound new_store (both root_pair)
   unfolding pairs_of
   sound-none = record {
-    reach = λ n positive lt. absurd (omega arith);
-    spelled = elim [ zero ↦ λ lt. record { clock = 0; value = fixed.address root_pair.value; action = (fields_of fixed [] root_pair.value root).action; is = refl; few = omega arith } | suc n ↦ λ lt. absurd (omega arith) ];
+    reach = λ n r positive lt there own. absurd (omega arith);
+    spelled = elim [ zero ↦ λ lt. record { clock = 0; action = (fields_of fixed [] root_pair.value root).action; is = refl; few = omega arith } | suc n ↦ λ lt. absurd (omega arith) ];
     listed = elim [ zero ↦ λ lt. listed-fresh root_pair.commit [] (root_pair.commit ∷ []) (same-one root_pair.commit) | suc n ↦ λ lt. absurd (omega arith) ];
+    listed_values = elim [ zero ↦ λ lt. or_left (same root_pair.value root_pair.value) (list_any (same root_pair.value) (root_pair.commit ∷ [])) (same-refl root_pair.value) | suc n ↦ λ lt. absurd (omega arith) ];
     one = λ j k in_j in_k is. ap (commit_text (pairs_of fixed (root ∷ []))) (both-zero j k in_j in_k);
     distinct = λ j k in_j in_k is. both-zero j k in_j in_k;
   }
@@ -128,7 +183,7 @@ module _ {S O R Q A : Type 0} (fixed : Fixed S O R Q A) where
       same-one : (x : List ℕ) → list_any (same x) (x ∷ []) ≡ true
       same-one x = or_left (same x x) false (same-refl x)
 
-  module _ (s new : Store O R) (stored : Stored) (kept : IsKept fixed.meaning fixed.limits s) (next : IsKept fixed.meaning fixed.limits new) (sound : IsSound s stored) (size : HasSize fixed.address) where
+  module _ (s new : Store O R) (stored : Stored) (kept : IsKept fixed.meaning fixed.terms s) (next : IsKept fixed.meaning fixed.terms new) (sound : IsSound s stored) (size : HasSize fixed.address) where
     abbrev pairs : List Pair
     pairs = pairs_of fixed s.commits
 
@@ -151,6 +206,12 @@ module _ {S O R Q A : Type 0} (fixed : Fixed S O R Q A) where
       text-new : commit_text more n ≡ p.commit
       text-new = ap (λ (ps : List Pair). commit_text ps n) grown ∙ ap (commit_text (pairs ++ p ∷ [])) (sym (length-pairs_of fixed s.commits)) ∙ commit_text-new pairs p
 
+      value-old : (k : ℕ) → k < n → value_text more k ≡ value_text pairs k
+      value-old k lt = ap (λ (ps : List Pair). value_text ps k) grown ∙ value_text-old pairs (p ∷ []) k (omega (arith, length-pairs_of fixed s.commits))
+
+      value-new : value_text more n ≡ p.value
+      value-new = ap (λ (ps : List Pair). value_text ps n) grown ∙ ap (value_text (pairs ++ p ∷ [])) (sym (length-pairs_of fixed s.commits)) ∙ value_text-new pairs p
+
       longer : IsLonger s.commits new.commits
       longer = record { more = m.made ∷ []; is = m.commits }
 
@@ -170,11 +231,8 @@ module _ {S O R Q A : Type 0} (fixed : Fixed S O R Q A) where
       parents-new : parents_of g n ≡ m.made.parents
       parents-new = ap (λ (cs : List (Commit O R)). parents_of (graph_of cs) n) m.commits ∙ parents_of-new s.commits m.made
 
-      branch-new : branch_of new.commits n ≡ m.made.branch
-      branch-new = ap (λ (cs : List (Commit O R)). branch_of cs n) m.commits ∙ branch_of-new s.commits m.made
-
-      abbrev h : ℕ
-      h = head_of s.branches m.made.branch
+      origin-new : origin_of new.commits n ≡ m.made.origin
+      origin-new = ap (λ (cs : List (Commit O R)). origin_of cs n) m.commits ∙ origin_of-new s.commits m.made
 
       in-range : (k : ℕ) (ns : List ℕ) → k ≤ n → AllByRecursion (λ j. j < k) ns → AllByRecursion (λ j. j < length pairs) ns
       in-range k ns le all = AllByRecursion-more (λ j. j < k) (λ j. j < length pairs) ns (λ j lt. omega (arith, length-pairs_of fixed s.commits)) all
@@ -183,32 +241,29 @@ module _ {S O R Q A : Type 0} (fixed : Fixed S O R Q A) where
       moved : (k : ℕ) (ns : List ℕ) → k ≤ n → AllByRecursion (λ j. j < k) ns → map (address_at fixed.address pairs) ns ≡ map (address_at fixed.address more) ns
       moved k ns le all = sym (ap (λ (ps : List Pair). map (address_at fixed.address ps) ns) grown ∙ addresses-old fixed.address pairs (p ∷ []) ns (in-range k ns le all))
 
-      spelled-as : (ns ms : List ℕ) (a b : ℕ) (x y : List ℕ) → IsSpelledBy fixed.address pairs ns a x → map (address_at fixed.address pairs) ns ≡ map (address_at fixed.address more) ms → a ≡ b → y ≡ x → length ms ≤ 2 → IsSpelledBy fixed.address more ms b y
-      spelled-as ns ms a b x y q addresses branches texts few = record {
+      spelled-as : (ns ms : List ℕ) (a b : ℕ) (v w x y : List ℕ) → IsSpelledBy fixed.address pairs ns a v x → map (address_at fixed.address pairs) ns ≡ map (address_at fixed.address more) ms → a ≡ b → v ≡ w → y ≡ x → length ms ≤ 9 → IsSpelledBy fixed.address more ms b w y
+      spelled-as ns ms a b v w x y q addresses origins values texts few = record {
         clock = q.clock;
-        value = q.value;
         action = q.action;
         is = texts ∙ q.is
-            ∙ ap (λ (l : List (List ℕ)). commit_object (record { parents = l; branch = a; clock = q.clock; value = q.value; action = q.action })) addresses
-            ∙ ap (λ (r : ℕ). commit_object (record { parents = map (address_at fixed.address more) ms; branch = r; clock = q.clock; value = q.value; action = q.action })) branches;
+            ∙ ap (λ (l : List (List ℕ)). commit_object (record { parents = l; branch = a; clock = q.clock; value = fixed.address v; action = q.action })) addresses
+            ∙ ap (λ (r : ℕ). commit_object (record { parents = map (address_at fixed.address more) ms; branch = r; clock = q.clock; value = fixed.address v; action = q.action })) origins
+            ∙ ap (λ (u : List ℕ). commit_object (record { parents = map (address_at fixed.address more) ms; branch = b; clock = q.clock; value = fixed.address u; action = q.action })) values;
         few = few;
       }
 
-      few-parents : length m.made.parents ≤ 2
-      few-parents = omega (arith, ap length m.parents, m.few)
-
-      spelled-new : (k : ℕ) → k < length new.commits → IsSpelledBy fixed.address more (parents_of g k) (branch_of new.commits k) (commit_text more k)
+      spelled-new : (k : ℕ) → k < length new.commits → IsSpelledBy fixed.address more (parents_of g k) (origin_of new.commits k) (value_text more k) (commit_text more k)
       spelled-new =
-          each (λ k. IsSpelledBy fixed.address more (parents_of g k) (branch_of new.commits k) (commit_text more k))
+          each (λ k. IsSpelledBy fixed.address more (parents_of g k) (origin_of new.commits k) (value_text more k) (commit_text more k))
           (λ k lt.
           let q = sound.spelled k lt in
           let old : List ℕ = parents_of (graph_of s.commits) k in
           let same = same-at k lt in
-          spelled-as old (parents_of g k) (branch_of s.commits k) (branch_of new.commits k) (commit_text pairs k) (commit_text more k) q
-          (moved k old (omega arith) (kept.ordered.ranked k) ∙ ap (map (address_at fixed.address more)) (sym same.parents)) (sym same.branch) (text-old k lt) (omega (arith, q.few, ap length same.parents)))
-          (spelled-as m.made.parents (parents_of g n) m.made.branch (branch_of new.commits n) p.commit (commit_text more n)
-          (record { clock = m.made.clock; value = fixed.address p.value; action = (fields_of fixed pairs p.value m.made).action; is = refl; few = few-parents })
-          (moved n m.made.parents (omega arith) m.within ∙ ap (map (address_at fixed.address more)) (sym parents-new)) (sym branch-new) text-new (omega (arith, few-parents, ap length parents-new)))
+          spelled-as old (parents_of g k) (origin_of s.commits k) (origin_of new.commits k) (value_text pairs k) (value_text more k) (commit_text pairs k) (commit_text more k) q
+          (moved k old (omega arith) (kept.ordered.ranked k) ∙ ap (map (address_at fixed.address more)) (sym same.parents)) (sym same.origin) (sym (value-old k lt)) (text-old k lt) (omega (arith, q.few, ap length same.parents)))
+          (spelled-as m.made.parents (parents_of g n) m.made.origin (origin_of new.commits n) p.value (value_text more n) p.commit (commit_text more n)
+          (record { clock = m.made.clock; action = (fields_of fixed pairs p.value m.made).action; is = refl; few = m.few })
+          (moved n m.made.parents (omega arith) m.within ∙ ap (map (address_at fixed.address more)) (sym parents-new)) (sym origin-new) (sym value-new) text-new (omega (arith, m.few, ap length parents-new)))
 
       module _ (free : collision fixed.address stored (both p) ≡ None) where
         hits : (k : ℕ) → k < n → fixed.address (commit_text more k) ≡ fixed.address (commit_text more n) → commit_text more k ≡ commit_text more n
@@ -229,32 +284,48 @@ module _ {S O R Q A : Type 0} (fixed : Fixed S O R Q A) where
             (each (λ k. fixed.address (commit_text more n) ≡ fixed.address (commit_text more k) → commit_text more n ≡ commit_text more k) (λ k less is. sym (hits k less (sym is))) (λ is. refl) k in_k)
             j in_j
 
-        -- an old commit's object is not the new one's
-        differs : (j : ℕ) → j < n → commit_text more j ≡ commit_text more n → ⊥
-        differs j lt is =
-            let both_same = same-spelled fixed.address size more (parents_of g j) (parents_of g n) (branch_of new.commits j) (branch_of new.commits n) (commit_text more j) (commit_text more n) (small j (omega (arith, count))) (small n (omega (arith, count))) (spelled-new j (omega (arith, count))) (spelled-new n (omega (arith, count))) is in
-            let parents : map (address_at fixed.address more) (parents_of g j) ≡ fixed.address (commit_text more h) ∷ map (address_at fixed.address more) m.others =
-            both_same.0 ∙ ap (map (address_at fixed.address more)) (parents-new ∙ m.parents) in
-            by-parents (parents_of g j) refl parents (sym (same-at j lt).branch ∙ both_same.1 ∙ branch-new)
+        -- an old commit whose object is the new one's has its parents, its origin, and the address of its value
+        spelled-alike : (j : ℕ) → j < n → commit_text more j ≡ commit_text more n → (map (address_at fixed.address more) (parents_of g j) ≡ map (address_at fixed.address more) (parents_of g n)) × (origin_of new.commits j ≡ origin_of new.commits n) × (fixed.address (value_text more j) ≡ fixed.address (value_text more n))
+        spelled-alike j lt is =
+            let in_j : j < length new.commits = omega (arith, count) in
+            let in_n : n < length new.commits = omega (arith, count) in
+            let told = same-spelled fixed.address size more (parents_of g j) (parents_of g n) (origin_of new.commits j) (origin_of new.commits n) (value_text more j) (value_text more n) (commit_text more j) (commit_text more n) (next.ordered.small j in_j) (next.ordered.small n in_n) (spelled-new j in_j) (spelled-new n in_n) is in
+            (told.0, told.1, told.2)
+
+        -- no commit of the branch lies above its head
+        own-differs : IsOwn s new m.made → (j : ℕ) → j < n → commit_text more j ≡ commit_text more n → ⊥
+        own-differs own j lt is =
+            let alike = spelled-alike j lt is in
+            let parents : map (address_at fixed.address more) (parents_of g j) ≡ fixed.address (commit_text more (head_of s.branches own.branch)) ∷ map (address_at fixed.address more) own.others =
+            alike.0 ∙ ap (map (address_at fixed.address more)) (parents-new ∙ own.parents) in
+            by-parents (parents_of g j) refl parents (sym (same-at j lt).origin ∙ alike.1 ∙ origin-new ∙ own.origin)
           where
-            limits_high : fixed.limits.branches ≤ 4294967295
-            limits_high = fixed.limits.in_range.branches_high
-
-            small : (k : ℕ) → k < length new.commits → branch_of new.commits k < 2 ^ 32
-            small k in_k = omega (arith, next.ordered.origins k in_k, next.few_branches, limits_high)
-
-            by-parents : (ps : List ℕ) → parents_of g j ≡ ps → map (address_at fixed.address more) ps ≡ fixed.address (commit_text more h) ∷ map (address_at fixed.address more) m.others → branch_of s.commits j ≡ m.made.branch → ⊥
-            by-parents [] ps alike branch = cc
-            by-parents (a ∷ rest) ps alike branch =
+            by-parents : (ps : List ℕ) → parents_of g j ≡ ps → map (address_at fixed.address more) ps ≡ fixed.address (commit_text more (head_of s.branches own.branch)) ∷ map (address_at fixed.address more) own.others → origin_of s.commits j ≡ first + own.branch → ⊥
+            by-parents [] ps alike origin = cc
+            by-parents (a ∷ rest) ps alike origin =
+                let h : ℕ = head_of s.branches own.branch in
                 let below = subst (AllByRecursion (λ i. i < j)) ps (next.ordered.ranked j) in
-                let in_h : h < n = kept.ordered.heads m.made.branch m.there in
+                let in_h : h < n = kept.ordered.heads own.branch own.there in
                 let in_a : a < n = omega (arith, below.0, lt) in
                 let address_same : fixed.address (commit_text more a) ≡ fixed.address (commit_text more h) = cc alike in
                 let text_same : commit_text pairs a ≡ commit_text pairs h = sound.one a h in_a in_h (ap fixed.address (sym (text-old a in_a)) ∙ address_same ∙ ap fixed.address (text-old h in_h)) in
                 let a_is : a ≡ h = sound.distinct a h in_a in_h text_same in
                 let positive : 0 < j = omega (arith, below.0) in
-                let up : IsTrue (reaches (graph_of s.commits) h j) = ap (λ r. reaches (graph_of s.commits) (head_of s.branches r) j) (sym branch) ∙ sound.reach j positive lt in
+                let up : IsTrue (reaches (graph_of s.commits) h j) = sound.reach j own.branch positive lt own.there origin in
                 omega (arith, reaches-at_most (graph_of s.commits) kept.ordered.ranked h j up, below.0, a_is)
+
+        -- a commit with the same object has the same value, so what was received would have been here
+        foreign-differs : IsForeign s new m.made → (j : ℕ) → j < n → commit_text more j ≡ commit_text more n → ⊥
+        foreign-differs foreign j lt is =
+            let alike = spelled-alike j lt is in
+            let value : value_text pairs j ≡ p.value =
+            clash-none fixed.address p.value (value_text pairs j) stored (collision-first fixed.address p.value p.commit stored free) (sound.listed_values j lt)
+            (ap fixed.address (sym (value-old j lt)) ∙ alike.2 ∙ ap fixed.address value-new) in
+            none-with pairs p j foreign.unseen (omega (arith, length-pairs_of fixed s.commits)) value (sym (text-old j lt) ∙ is ∙ text-new)
+
+        -- an old commit's object is not the new one's
+        differs : (j : ℕ) → j < n → commit_text more j ≡ commit_text more n → ⊥
+        differs j lt is = ⊎_elim (λ own. own-differs own j lt is) (λ foreign. foreign-differs foreign j lt is) m.kind
 
         distinct-new : (j k : ℕ) → j < length new.commits → k < length new.commits → commit_text more j ≡ commit_text more k → j ≡ k
         distinct-new j k in_j in_k =
@@ -263,73 +334,140 @@ module _ {S O R Q A : Type 0} (fixed : Fixed S O R Q A) where
             (each (λ k. commit_text more n ≡ commit_text more k → n ≡ k) (λ k less is. absurd (differs k less (sym is))) (λ is. refl) k in_k)
             j in_j
 
+        -- the new commit, where it has the origin of a branch
+        reach-new : (r : ℕ) → r < length new.branches → m.made.origin ≡ first + r → IsTrue (reaches g (head_of new.branches r) n)
+        reach-new r there origin =
+            ⊎_elim
+            (λ own.
+            let same : r ≡ own.branch = omega (arith, origin, own.origin) in
+            ap (λ b. reaches g (head_of new.branches b) n) same ∙ ap (λ t. reaches g t n) own.head ∙ reaches-self g next.ordered.ranked n)
+            (λ foreign. let few = next.few_branches in absurd (foreign.origin r (omega arith) origin))
+            m.kind
+
         sound-made : (all : Stored) → all ≡ stored ++ fresh stored (both p) → ((r : ℕ) → r < length s.branches → IsTrue (reaches g (head_of new.branches r) (head_of s.branches r))) → IsSound new all
         sound-made all grows rises = record {
-          reach = λ k positive in_k.
-              each (λ k. 0 < k → IsTrue (reaches g (head_of new.branches (branch_of new.commits k)) k))
-              (λ k lt pos.
-              let r : ℕ = branch_of s.commits k in
-              let there = kept.ordered.origins k lt in
+          reach = λ k r positive in_k there.
+              each (λ k. 0 < k → origin_of new.commits k ≡ first + r → IsTrue (reaches g (head_of new.branches r) k))
+              (λ k lt pos origin.
+              let before : r < length s.branches = omega (arith, m.branches) in
               let top : ℕ = head_of s.branches r in
-              let in_top = kept.ordered.heads r there in
-              ap (λ b. reaches g (head_of new.branches b) k) (same-at k lt).branch
-              ∙ reaches-trans g next.ordered.ranked (head_of new.branches r) top k (rises r there) ((same-at top in_top).reach k ∙ sound.reach k pos lt))
-              (λ pos. ap (λ b. reaches g (head_of new.branches b) n) branch-new ∙ ap (λ t. reaches g t n) m.head ∙ reaches-self g next.ordered.ranked n)
+              let in_top = kept.ordered.heads r before in
+              reaches-trans g next.ordered.ranked (head_of new.branches r) top k (rises r before) ((same-at top in_top).reach k ∙ sound.reach k r pos lt before (sym (same-at k lt).origin ∙ origin)))
+              (λ pos origin. reach-new r there (sym origin-new ∙ origin))
               k in_k positive;
           spelled = spelled-new;
           listed = each (λ k. list_any (same (commit_text more k)) all ≡ true)
               (λ k lt. ap (λ (x : List ℕ). list_any (same x) all) (text-old k lt) ∙ ap (list_any (same (commit_text pairs k))) grows ∙ listed-before (commit_text pairs k) stored (fresh stored (both p)) (sound.listed k lt))
               (ap (λ (x : List ℕ). list_any (same x) all) text-new ∙ ap (list_any (same p.commit)) grows
               ∙ listed-fresh p.commit stored (both p) (or_right (same p.commit p.value) (same p.commit p.commit || false) (or_left (same p.commit p.commit) false (same-refl p.commit))));
+          listed_values = each (λ k. list_any (same (value_text more k)) all ≡ true)
+              (λ k lt. ap (λ (x : List ℕ). list_any (same x) all) (value-old k lt) ∙ ap (list_any (same (value_text pairs k))) grows ∙ listed-before (value_text pairs k) stored (fresh stored (both p)) (sound.listed_values k lt))
+              (ap (λ (x : List ℕ). list_any (same x) all) value-new ∙ ap (list_any (same p.value)) grows
+              ∙ listed-fresh p.value stored (both p) (or_left (same p.value p.value) (list_any (same p.value) (p.commit ∷ [])) (same-refl p.value)));
           one = one-new;
           distinct = distinct-new;
         }
 
     -- a move that makes no commit
-    sound-same : new.commits ≡ s.commits → (all : Stored) → all ≡ stored → ((r : ℕ) → r < length s.branches → IsTrue (reaches (graph_of new.commits) (head_of new.branches r) (head_of s.branches r))) → IsSound new all
-    sound-same unmoved all stays rises = record {
-      reach = λ k positive lt.
-          let r : ℕ = branch_of new.commits k in
-          let there : r < length s.branches = subst (λ (cs : List (Commit O R)). (n : ℕ) → n < length cs → branch_of cs n < length s.branches) (sym unmoved) kept.ordered.origins k lt in
-          let down = subst (λ (cs : List (Commit O R)). (n : ℕ) → 0 < n → n < length cs → IsTrue (reaches (graph_of cs) (head_of s.branches (branch_of cs n)) n)) (sym unmoved) sound.reach k positive lt in
-          reaches-trans (graph_of new.commits) next.ordered.ranked (head_of new.branches r) (head_of s.branches r) k (rises r there) down;
-      spelled = subst (λ (cs : List (Commit O R)). (n : ℕ) → n < length cs → IsSpelledBy fixed.address (pairs_of fixed cs) (parents_of (graph_of cs) n) (branch_of cs n) (commit_text (pairs_of fixed cs) n)) (sym unmoved) sound.spelled;
+    sound-same : new.commits ≡ s.commits → length s.branches ≤ length new.branches → (all : Stored) → all ≡ stored → ((r : ℕ) → r < length s.branches → IsTrue (reaches (graph_of new.commits) (head_of new.branches r) (head_of s.branches r))) → IsSound new all
+    sound-same unmoved grows all stays rises = record {
+      reach = λ k r positive lt there origin.
+          let in_k : k < length s.commits = subst (λ (cs : List (Commit O R)). k < length cs) unmoved lt in
+          let was : origin_of s.commits k ≡ first + r = ap (λ (cs : List (Commit O R)). origin_of cs k) (sym unmoved) ∙ origin in
+          ⊎_elim
+          (λ before.
+          let down = ap (λ (cs : List (Commit O R)). reaches (graph_of cs) (head_of s.branches r) k) unmoved ∙ sound.reach k r positive in_k before was in
+          reaches-trans (graph_of new.commits) next.ordered.ranked (head_of new.branches r) (head_of s.branches r) k (rises r before) down)
+          (λ above. let few = next.few_branches in absurd (kept.ordered.origins k r in_k above (omega arith) was))
+          (cases_lt r (length s.branches));
+      spelled = subst (λ (cs : List (Commit O R)). (n : ℕ) → n < length cs → IsSpelledBy fixed.address (pairs_of fixed cs) (parents_of (graph_of cs) n) (origin_of cs n) (value_text (pairs_of fixed cs) n) (commit_text (pairs_of fixed cs) n)) (sym unmoved) sound.spelled;
       listed = subst (λ (all : Stored). (n : ℕ) → n < length new.commits → list_any (same (commit_text (pairs_of fixed new.commits) n)) all ≡ true) (sym stays)
           (subst (λ (cs : List (Commit O R)). (n : ℕ) → n < length cs → list_any (same (commit_text (pairs_of fixed cs) n)) stored ≡ true) (sym unmoved) sound.listed);
+      listed_values = subst (λ (all : Stored). (n : ℕ) → n < length new.commits → list_any (same (value_text (pairs_of fixed new.commits) n)) all ≡ true) (sym stays)
+          (subst (λ (cs : List (Commit O R)). (n : ℕ) → n < length cs → list_any (same (value_text (pairs_of fixed cs) n)) stored ≡ true) (sym unmoved) sound.listed_values);
       one = subst (λ (cs : List (Commit O R)). (j k : ℕ) → j < length cs → k < length cs → fixed.address (commit_text (pairs_of fixed cs) j) ≡ fixed.address (commit_text (pairs_of fixed cs) k) → commit_text (pairs_of fixed cs) j ≡ commit_text (pairs_of fixed cs) k) (sym unmoved) sound.one;
       distinct = subst (λ (cs : List (Commit O R)). (j k : ℕ) → j < length cs → k < length cs → commit_text (pairs_of fixed cs) j ≡ commit_text (pairs_of fixed cs) k → j ≡ k) (sym unmoved) sound.distinct;
     }
 
-  -- an operation, and a merge, make a commit
-  abbrev pub operation-makes : (moves : List (Move O R)) (r : ℕ) (op : O) (reply : R) → IsKept fixed.meaning fixed.limits (store_of moves) → r < length (store_of moves).branches → MakesOne (store_of moves) (after_move (store_of moves) (move.Operation r op reply))
+  -- an operation, and a merge of several commits, make a commit on their branch
+  abbrev pub operation-makes : (moves : List (Move O R)) (r : ℕ) (op : O) (reply : R) → IsKept fixed.meaning fixed.terms (store_after fixed moves) → r < length (store_after fixed moves).branches → MakesOne (store_after fixed moves) (after_move first (store_after fixed moves) (move.Operation r op reply))
   operation-makes moves r op reply kept there =
-      let s = store_of moves in
-      record { made = operation_commit s.commits r (head_of s.branches r) op reply; others = []; commits = refl; there = there; parents = refl; few = omega arith; within = (kept.ordered.heads r there, tt); head = head_of-same s.branches r (length s.commits) there }
+      let s = store_after fixed moves in
+      record {
+        made = operation_commit s.commits (first + r) (head_of s.branches r) op reply;
+        commits = refl;
+        branches = length-with_head s.branches r (length s.commits);
+        few = omega arith;
+        within = (kept.ordered.heads r there, tt);
+        kind = inl (record { branch = r; others = []; there = there; origin = refl; parents = refl; head = head_of-same s.branches r (length s.commits) there });
+      }
 
-  abbrev pub merge-makes : (moves : List (Move O R)) (r k : ℕ) → IsKept fixed.meaning fixed.limits (store_of moves) → r < length (store_of moves).branches → k < length (store_of moves).commits → MakesOne (store_of moves) (after_move (store_of moves) (move.Merge r k))
-  merge-makes moves r k kept there stands =
-      let s = store_of moves in
-      record { made = merge_commit s.commits r (head_of s.branches r) k; others = k ∷ []; commits = refl; there = there; parents = refl; few = omega arith; within = (kept.ordered.heads r there, (stands, tt)); head = head_of-same s.branches r (length s.commits) there }
+  abbrev pub join-makes : (moves : List (Move O R)) (r : ℕ) (ks : List ℕ) → IsKept fixed.meaning fixed.terms (store_after fixed moves) → r < length (store_after fixed moves).branches → AreCommits (store_after fixed moves).commits ks → length ks ≤ 8 → MakesOne (store_after fixed moves) (after_move first (store_after fixed moves) (move.Join r ks))
+  join-makes moves r ks kept there stand few =
+      let s = store_after fixed moves in
+      record {
+        made = merge_commit s.commits (first + r) (head_of s.branches r ∷ ks);
+        commits = refl;
+        branches = length-with_head s.branches r (length s.commits);
+        few = omega (arith, few);
+        within = (kept.ordered.heads r there, stand);
+        kind = inl (record { branch = r; others = ks; there = there; origin = refl; parents = refl; head = head_of-same s.branches r (length s.commits) there });
+      }
+
+  abbrev pub merge-makes : (moves : List (Move O R)) (r k : ℕ) → IsKept fixed.meaning fixed.terms (store_after fixed moves) → r < length (store_after fixed moves).branches → k < length (store_after fixed moves).commits → MakesOne (store_after fixed moves) (after_move first (store_after fixed moves) (move.Merge r k))
+  merge-makes moves r k kept there stands = join-makes moves r (k ∷ []) kept there (stands, tt) (omega arith)
+
+  received-few : (moves : List (Move O R)) (parents : List ℕ) (origin clock : ℕ) (act : Option (O × R)) → IsReceived fixed.meaning fixed.terms moves parents origin clock act → (length parents ≤ 9) × ((q : ℕ) → q < fixed.terms.limits.branches → origin ≡ first + q → ⊥)
+  received-few moves parents origin clock None is = (omega (arith, ap length is.parents_are, is.few.few), (λ q lt own. not_own fixed.terms origin q (received_merge-tells fixed.meaning fixed.terms moves origin parents is.received).0 lt own))
+  received-few moves parents origin clock (Some d) is = (omega (arith, ap length is.parents_are), (λ q lt own. not_own fixed.terms origin q (received_operation-tells fixed.meaning fixed.terms moves origin is.parent d.0 is.received).0 lt own))
+
+  pub received-nine : (moves : List (Move O R)) (parents : List ℕ) (origin clock : ℕ) (act : Option (O × R)) → IsReceived fixed.meaning fixed.terms moves parents origin clock act → length parents ≤ 9
+  received-nine moves parents origin clock act is = (received-few moves parents origin clock act is).0
+
+  pub received-foreign : (moves : List (Move O R)) (parents : List ℕ) (origin clock : ℕ) (act : Option (O × R)) → IsReceived fixed.meaning fixed.terms moves parents origin clock act → IsNew fixed moves (move.Received parents origin clock act)
+      → IsForeign (store_after fixed moves) (after_move first (store_after fixed moves) (move.Received parents origin clock act)) (received_commit (store_after fixed moves).commits parents origin clock act)
+  unfolding commit_at
+  received-foreign moves parents origin clock act is unseen = record { origin = (received-few moves parents origin clock act is).1; unseen = unseen }
+
+  -- what is received makes a commit of another store
+  pub received-makes : (moves : List (Move O R)) (parents : List ℕ) (origin clock : ℕ) (act : Option (O × R)) → IsReceived fixed.meaning fixed.terms moves parents origin clock act → IsNew fixed moves (move.Received parents origin clock act) → MakesOne (store_after fixed moves) (after_move first (store_after fixed moves) (move.Received parents origin clock act))
+  unfolding commit_at
+  received-makes moves parents origin clock act is unseen =
+      let s = store_after fixed moves in
+      let tells = received-few moves parents origin clock act is in
+      record {
+        made = received_commit s.commits parents origin clock act;
+        commits = refl;
+        branches = refl;
+        few = tells.0;
+        within = received-stand fixed.meaning fixed.terms moves parents origin clock act is;
+        kind = inr (record { origin = tells.1; unseen = unseen });
+      }
 
   -- what a move makes
-  pub makes-one : (moves : List (Move O R)) (m : Move O R) → IsKept fixed.meaning fixed.limits (store_of moves) → IsAccepted fixed.meaning fixed.limits moves m → MakesOne (store_of moves) (after_move (store_of moves) m) ⊎ ((after_move (store_of moves) m).commits ≡ (store_of moves).commits)
-  makes-one moves (move.Fork name position from) kept is = inr refl
-  makes-one moves (move.Operation r op reply) kept is = inl (operation-makes moves r op reply kept is.there)
-  makes-one moves (move.Merge r k) kept is = inl (merge-makes moves r k kept is.there is.stands)
-  makes-one moves (move.Forward r k) kept is = inr refl
+  pub makes-one : (moves : List (Move O R)) (m : Move O R) → IsKept fixed.meaning fixed.terms (store_after fixed moves) → IsAccepted fixed.meaning fixed.terms moves m → IsNew fixed moves m
+      → MakesOne (store_after fixed moves) (after_move first (store_after fixed moves) m) ⊎ ((after_move first (store_after fixed moves) m).commits ≡ (store_after fixed moves).commits)
+  makes-one moves (move.Fork name position from) kept is unseen = inr refl
+  makes-one moves (move.Operation r op reply) kept is unseen = inl (operation-makes moves r op reply kept is.there)
+  makes-one moves (move.Merge r k) kept is unseen = inl (merge-makes moves r k kept is.there is.stands)
+  makes-one moves (move.Join r ks) kept is unseen = inl (join-makes moves r ks kept is.there is.stands is.few)
+  makes-one moves (move.Forward r k) kept is unseen = inr refl
+  makes-one moves (move.Received parents origin clock act) kept is unseen = inl (received-makes moves parents origin clock act is unseen)
+  makes-one moves (move.Place name position k) kept is unseen = inr refl
+  makes-one moves (move.Drop r) kept is unseen = inr refl
 
-  pub one-or-none : (moves : List (Move O R)) (m : Move O R) → IsKept fixed.meaning fixed.limits (store_of moves) → IsAccepted fixed.meaning fixed.limits moves m → MakesOne (store_of moves) (store_of (moves ++ m ∷ [])) ⊎ ((store_of (moves ++ m ∷ [])).commits ≡ (store_of moves).commits)
-  one-or-none moves m kept is = subst (λ (new : Store O R). MakesOne (store_of moves) new ⊎ (new.commits ≡ (store_of moves).commits)) (sym (store_of-more moves m)) (makes-one moves m kept is)
+  pub one-or-none : (moves : List (Move O R)) (m : Move O R) → IsKept fixed.meaning fixed.terms (store_after fixed moves) → IsAccepted fixed.meaning fixed.terms moves m → IsNew fixed moves m → MakesOne (store_after fixed moves) (store_after fixed (moves ++ m ∷ [])) ⊎ ((store_after fixed (moves ++ m ∷ [])).commits ≡ (store_after fixed moves).commits)
+  one-or-none moves m kept is unseen = subst (λ (new : Store O R). MakesOne (store_after fixed moves) new ⊎ (new.commits ≡ (store_after fixed moves).commits)) (sym (store_of-more first moves m)) (makes-one moves m kept is unseen)
 
   -- the objects of the commit that a move makes
-  pub made-objects : (moves : List (Move O R)) (m : Move O R) (one : MakesOne (store_of moves) (store_of (moves ++ m ∷ []))) → new_objects fixed moves m ≡ both (pair_at fixed (store_of moves).commits (pairs_of fixed (store_of moves).commits) one.made)
+  pub made-objects : (moves : List (Move O R)) (m : Move O R) (one : MakesOne (store_after fixed moves) (store_after fixed (moves ++ m ∷ []))) → new_objects fixed moves m ≡ both (pair_at fixed (store_after fixed moves).commits (pairs_of fixed (store_after fixed moves).commits) one.made)
   made-objects moves m one =
-      let old : List (Commit O R) = (store_of moves).commits in
+      let old : List (Commit O R) = (store_after fixed moves).commits in
       new-pairs fixed moves m old (old ++ one.made ∷ []) (pair_at fixed old (pairs_of fixed old) one.made ∷ []) refl one.commits (pairs_of-one fixed old one.made)
 
-  pub no-objects : (moves : List (Move O R)) (m : Move O R) → (store_of (moves ++ m ∷ [])).commits ≡ (store_of moves).commits → new_objects fixed moves m ≡ []
+  pub no-objects : (moves : List (Move O R)) (m : Move O R) → (store_after fixed (moves ++ m ∷ [])).commits ≡ (store_after fixed moves).commits → new_objects fixed moves m ≡ []
   no-objects moves m unmoved =
-      let old : List (Commit O R) = (store_of moves).commits in
+      let old : List (Commit O R) = (store_after fixed moves).commits in
       new-pairs fixed moves m old old [] refl unmoved (sym (append-nil (pairs_of fixed old)))
 
   pub no-collision : (moves : List (Move O R)) (m : Move O R) → collision_refusal fixed moves m ≡ None → collision fixed.address (objects_of fixed moves) (new_objects fixed moves m) ≡ None
@@ -340,25 +478,34 @@ module _ {S O R Q A : Type 0} (fixed : Fixed S O R Q A) where
       at None is = refl
       at (Some c) is = cc
 
+  -- branches stay
+  more-branches : (moves : List (Move O R)) (m : Move O R) → length (store_after fixed moves).branches ≤ length (store_after fixed (moves ++ m ∷ [])).branches
+  more-branches moves m = at (length (store_after fixed moves).branches) refl
+    where
+      at : (k : ℕ) → length (store_after fixed moves).branches ≡ k → length (store_after fixed moves).branches ≤ length (store_after fixed (moves ++ m ∷ [])).branches
+      at zero is = omega (arith, is)
+      at (suc k) is = let there = (same_branch first moves (m ∷ []) k (omega (arith, is))).there in omega (arith, is, there)
+
   module _ (laws : KeepsLaws fixed.meaning) (size : HasSize fixed.address) where
-    sound-start : IsSound (store_of []) (objects_of fixed [])
+    sound-start : IsSound (store_after fixed []) (objects_of fixed [])
     unfolding store_of objects_of pairs_of
     sound-start = subst (IsSound new_store) (stored-root) sound-none
       where
         stored-root : both root_pair ≡ fresh [] (both root_pair)
         stored-root = refl
 
-    sound-step : (moves : List (Move O R)) (m : Move O R) → IsFullyValid fixed moves → IsSound (store_of moves) (objects_of fixed moves) → IsFullMove fixed moves m → IsSound (store_of (moves ++ m ∷ [])) (objects_of fixed (moves ++ m ∷ []))
+    sound-step : (moves : List (Move O R)) (m : Move O R) → IsFullyValid fixed moves → IsSound (store_after fixed moves) (objects_of fixed moves) → IsFullMove fixed moves m → IsSound (store_after fixed (moves ++ m ∷ [])) (objects_of fixed (moves ++ m ∷ []))
     sound-step moves m valid sound is =
-        let s = store_of moves in
-        let new = store_of (moves ++ m ∷ []) in
+        let s = store_after fixed moves in
+        let new = store_after fixed (moves ++ m ∷ []) in
         let full = full_move-is fixed moves m is in
         let before = valid-before fixed moves valid in
         let after = valid-before fixed (moves ++ m ∷ []) (valid-more fixed moves m valid is) in
-        let kept = valid-kept fixed.meaning fixed.limits laws moves before in
-        let next = valid-kept fixed.meaning fixed.limits laws (moves ++ m ∷ []) after in
-        let rises = λ (r : ℕ) (lt : r < length s.branches). valid-rises fixed.meaning fixed.limits laws moves (m ∷ []) r after lt in
-        let free = no-collision moves m full.1 in
+        let kept = valid-kept fixed.meaning fixed.terms laws moves before in
+        let next = valid-kept fixed.meaning fixed.terms laws (moves ++ m ∷ []) after in
+        let rises = λ (r : ℕ) (lt : r < length s.branches). valid-rises fixed.meaning fixed.terms laws moves (m ∷ []) r after lt in
+        let grows : length s.branches ≤ length new.branches = more-branches moves m in
+        let free = no-collision moves m full.2 in
         ⊎_elim
         (λ one.
         let objects = made-objects moves m one in
@@ -368,14 +515,14 @@ module _ {S O R Q A : Type 0} (fixed : Fixed S O R Q A) where
         (objects-more fixed moves m ∙ ap (λ (xs : Stored). objects_of fixed moves ++ fresh (objects_of fixed moves) xs) objects)
         rises)
         (λ unmoved.
-        sound-same s new (objects_of fixed moves) kept next sound size unmoved (objects_of fixed (moves ++ m ∷ []))
+        sound-same s new (objects_of fixed moves) kept next sound size unmoved grows (objects_of fixed (moves ++ m ∷ []))
         (objects-more fixed moves m ∙ ap (λ (xs : Stored). objects_of fixed moves ++ fresh (objects_of fixed moves) xs) (no-objects moves m unmoved) ∙ append-nil (objects_of fixed moves))
         rises)
-        (one-or-none moves m kept (IsAccepted-from fixed.meaning fixed.limits moves m full.0))
+        (one-or-none moves m kept (IsAccepted-from fixed.meaning fixed.terms moves m full.0) full.1)
 
     -- the objects of each valid history
-    pub valid-sound : (moves : List (Move O R)) → IsFullyValid fixed moves → IsSound (store_of moves) (objects_of fixed moves)
-    valid-sound moves valid = by_moves fixed (λ ms. IsSound (store_of ms) (objects_of fixed ms)) sound-start sound-step moves valid
+    pub valid-sound : (moves : List (Move O R)) → IsFullyValid fixed moves → IsSound (store_after fixed moves) (objects_of fixed moves)
+    valid-sound moves valid = by_moves fixed (λ ms. IsSound (store_after fixed ms) (objects_of fixed ms)) sound-start sound-step moves valid
 
-    pub valid-distinct : (moves : List (Move O R)) → IsFullyValid fixed moves → (j k : ℕ) → j < length (store_of moves).commits → k < length (store_of moves).commits → commit_text (pairs_of fixed (store_of moves).commits) j ≡ commit_text (pairs_of fixed (store_of moves).commits) k → j ≡ k
+    pub valid-distinct : (moves : List (Move O R)) → IsFullyValid fixed moves → (j k : ℕ) → j < length (store_after fixed moves).commits → k < length (store_after fixed moves).commits → commit_text (pairs_of fixed (store_after fixed moves).commits) j ≡ commit_text (pairs_of fixed (store_after fixed moves).commits) k → j ≡ k
     valid-distinct moves valid = (valid-sound moves valid).distinct

@@ -7,11 +7,10 @@ use Rattle.std.proofs.lemmas.List.Concat.{flat_map-append}
 use Rattle.branch_wire.specs.StoredObjects.{Stored, fresh}
 use Rattle.branch_history.specs.declared.moves.Move.{Move}
 use Rattle.branch_history.specs.Commits.{Commit}
-use Rattle.branch_history.specs.History.{store_of}
 use Rattle.branch_history.proofs.Lists.{slice_get-append, slice_get-new}
 use Rattle.branch_history.proofs.Later.{IsLonger, commits-longer}
-use Rattle.branch_machine.specs.Fixed.{Fixed}
-use Rattle.branch_machine.specs.Objects.{Pair, both, commit_text, address_at, pair_at, pairs_after, pairs_of, objects_of, new_objects}
+use Rattle.branch_machine.specs.Fixed.{Form, FixedIn}
+use Rattle.branch_machine.specs.Objects.{Pair, both, commit_text, value_text, store_after, address_at, pair_at, pairs_after, pairs_of, objects_of, new_objects}
 use Rattle.branch_machine.proofs.Stored.{fresh-append}
 
 pub commit_text-old : (old more : List Pair) (n : ℕ) → n < length old → commit_text (old ++ more) n ≡ commit_text old n
@@ -20,13 +19,19 @@ commit_text-old old more n lt = ap (λ o. option_map_or (λ p. p.commit) o []) (
 pub commit_text-new : (old : List Pair) (p : Pair) → commit_text (old ++ p ∷ []) (length old) ≡ p.commit
 commit_text-new old p = ap (λ o. option_map_or (λ q. q.commit) o []) (slice_get-new old p [])
 
+pub value_text-old : (old more : List Pair) (n : ℕ) → n < length old → value_text (old ++ more) n ≡ value_text old n
+value_text-old old more n lt = ap (λ o. option_map_or (λ p. p.value) o []) (slice_get-append old more n lt)
+
+pub value_text-new : (old : List Pair) (p : Pair) → value_text (old ++ p ∷ []) (length old) ≡ p.value
+value_text-new old p = ap (λ o. option_map_or (λ q. q.value) o []) (slice_get-new old p [])
+
 pub addresses-old : (address : List ℕ → List ℕ) (old more : List Pair) (ns : List ℕ) → AllByRecursion (λ n. n < length old) ns → map (address_at address (old ++ more)) ns ≡ map (address_at address old) ns
 addresses-old address old more [] all = refl
 addresses-old address old more (n ∷ ns) all =
     ap (λ (t : List ℕ). address t ∷ map (address_at address (old ++ more)) ns) (commit_text-old old more n all.0)
     ∙ ap (λ (l : List (List ℕ)). address_at address old n ∷ l) (addresses-old address old more ns all.1)
 
-module _ {S O R Q A : Type 0} (fixed : Fixed S O R Q A) where
+module _ {S O R Q A : Type 0} {form : Form} (fixed : FixedIn form S O R Q A) where
   pub pairs_after-longer : (before : List (Commit O R)) (pairs : List Pair) (cs : List (Commit O R)) → IsLonger pairs (pairs_after fixed before pairs cs)
   pairs_after-longer before pairs [] = record { more = []; is = sym (append-nil pairs) }
   pairs_after-longer before pairs (c ∷ cs) =
@@ -64,10 +69,10 @@ module _ {S O R Q A : Type 0} (fixed : Fixed S O R Q A) where
       record { more = rest.more; is = pairs_of-append old more ∙ rest.is }
 
   -- the objects of the commits that a move makes stand behind those before it
-  pub new-pairs : (moves : List (Move O R)) (made : Move O R) (old new : List (Commit O R)) (more : List Pair) → (store_of moves).commits ≡ old → (store_of (moves ++ made ∷ [])).commits ≡ new → pairs_of fixed new ≡ pairs_of fixed old ++ more → new_objects fixed moves made ≡ flat_map both more
+  pub new-pairs : (moves : List (Move O R)) (made : Move O R) (old new : List (Commit O R)) (more : List Pair) → (store_after fixed moves).commits ≡ old → (store_after fixed (moves ++ made ∷ [])).commits ≡ new → pairs_of fixed new ≡ pairs_of fixed old ++ more → new_objects fixed moves made ≡ flat_map both more
   unfolding new_objects
   new-pairs moves made old new more is_old is_new grown =
-      ap (λ (cs : List (Commit O R)). flat_map both (drop (length cs) (pairs_of fixed (store_of (moves ++ made ∷ [])).commits))) is_old
+      ap (λ (cs : List (Commit O R)). flat_map both (drop (length cs) (pairs_of fixed (store_after fixed (moves ++ made ∷ [])).commits))) is_old
       ∙ ap (λ (cs : List (Commit O R)). flat_map both (drop (length old) (pairs_of fixed cs))) is_new
       ∙ ap (λ (ps : List Pair). flat_map both (drop (length old) ps)) grown
       ∙ ap (λ (n : ℕ). flat_map both (drop n (pairs_of fixed old ++ more))) (sym (length-pairs_of old))
@@ -77,8 +82,8 @@ module _ {S O R Q A : Type 0} (fixed : Fixed S O R Q A) where
   pub objects-more : (moves : List (Move O R)) (made : Move O R) → objects_of fixed (moves ++ made ∷ []) ≡ objects_of fixed moves ++ fresh (objects_of fixed moves) (new_objects fixed moves made)
   unfolding objects_of
   objects-more moves made =
-      let old : List (Commit O R) = (store_of moves).commits in
-      let longer = commits-longer moves (made ∷ []) in
+      let old : List (Commit O R) = (store_after fixed moves).commits in
+      let longer = commits-longer fixed.terms.origin moves (made ∷ []) in
       let grown = pairs_of-longer old longer.more in
       let new = new-pairs moves made old (old ++ longer.more) grown.more refl longer.is grown.is in
       ap (λ (cs : List (Commit O R)). fresh [] (flat_map both (pairs_of fixed cs))) longer.is

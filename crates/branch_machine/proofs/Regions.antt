@@ -9,9 +9,8 @@ use Rattle.branch_wire.specs.Objects.{commit_body}
 use Rattle.branch_wire.specs.StoredObjects.{Stored, same, fresh}
 use Rattle.branch_history.specs.declared.moves.Move.{Move}
 use Rattle.branch_history.specs.Commits.{Commit, visible}
-use Rattle.branch_history.specs.History.{store_of}
-use Rattle.branch_machine.specs.Fixed.{Fixed}
-use Rattle.branch_machine.specs.Objects.{Pair, both, commit_text, fields_of, pair_at, pairs_after, pairs_of, objects_of, region}
+use Rattle.branch_machine.specs.Fixed.{Form, FixedIn}
+use Rattle.branch_machine.specs.Objects.{Pair, both, commit_text, store_after, fields_of, pair_at, pairs_after, pairs_of, objects_of, region}
 use Rattle.branch_machine.specs.Laws.{HasSize}
 use Rattle.branch_machine.specs.Validity.{IsFullyValid}
 use Rattle.branch_machine.proofs.Stored.{same-eq}
@@ -63,7 +62,7 @@ fresh-second stored v c new other = at (list_any (same v) stored)
 different-kinds : (s t : List ℕ) → same (2 ∷ s) (1 ∷ t) ≡ false
 different-kinds s t = refl
 
-module _ {S O R Q A : Type 0} (fixed : Fixed S O R Q A) where
+module _ {S O R Q A : Type 0} {form : Form} (fixed : FixedIn form S O R Q A) where
   values-after : (before : List (Commit O R)) (pairs : List Pair) (cs : List (Commit O R)) → AllByRecursion (λ p. IsValueText p.value) pairs → AllByRecursion (λ p. IsValueText p.value) (pairs_after fixed before pairs cs)
   values-after before pairs [] all = all
   values-after before pairs (c ∷ cs) all = values-after (before ++ c ∷ []) (pairs ++ pair_at fixed before pairs c ∷ []) cs (all-append (λ p. IsValueText p.value) pairs (pair_at fixed before pairs c) all (field (fixed.meaning.spelling_of (visible (before ++ c ∷ []) (length before))), refl))
@@ -72,19 +71,19 @@ module _ {S O R Q A : Type 0} (fixed : Fixed S O R Q A) where
   unfolding pairs_of
   values commits = values-after [] [] commits tt
 
-  listed-pairs : (z : List ℕ) (moves : List (Move O R)) → list_any (same z) (objects_of fixed moves) ≡ true → list_any (same z) (flat_map both (pairs_of fixed (store_of moves).commits)) ≡ true
+  listed-pairs : (z : List ℕ) (moves : List (Move O R)) → list_any (same z) (objects_of fixed moves) ≡ true → list_any (same z) (flat_map both (pairs_of fixed (store_after fixed moves).commits)) ≡ true
   unfolding objects_of
-  listed-pairs z moves is = listed-in z [] (flat_map both (pairs_of fixed (store_of moves).commits)) is
+  listed-pairs z moves is = listed-in z [] (flat_map both (pairs_of fixed (store_after fixed moves).commits)) is
 
   module _ (laws : KeepsLaws fixed.meaning) (size : HasSize fixed.address) (moves : List (Move O R)) (m : Move O R) (valid : IsFullyValid fixed (moves ++ m ∷ [])) where
     abbrev old : List (Commit O R)
-    old = (store_of moves).commits
+    old = (store_after fixed moves).commits
 
-    module _ (one : MakesOne (store_of moves) (store_of (moves ++ m ∷ []))) where
+    module _ (one : MakesOne fixed (store_after fixed moves) (store_after fixed (moves ++ m ∷ []))) where
       abbrev pub made : Pair
       made = pair_at fixed old (pairs_of fixed old) one.made
 
-      grown : pairs_of fixed (store_of (moves ++ m ∷ [])).commits ≡ pairs_of fixed old ++ made ∷ []
+      grown : pairs_of fixed (store_after fixed (moves ++ m ∷ [])).commits ≡ pairs_of fixed old ++ made ∷ []
       grown = ap (pairs_of fixed) one.commits ∙ pairs_of-one fixed old one.made
 
       -- the new commit's object is not stored
@@ -99,10 +98,10 @@ module _ {S O R Q A : Type 0} (fixed : Fixed S O R Q A) where
               let found = commit-listed body (pairs_of fixed old) (values old) (listed-pairs made.commit moves is) in
               let many = length-pairs_of fixed old in
               let lt : found.0 < length old = let within = found.1 in omega (arith, many) in
-              let count : length (store_of (moves ++ m ∷ [])).commits ≡ length old + 1 = ap length one.commits ∙ length-append old (one.made ∷ []) in
-              let first : commit_text (pairs_of fixed (store_of (moves ++ m ∷ [])).commits) found.0 ≡ made.commit =
+              let count : length (store_after fixed (moves ++ m ∷ [])).commits ≡ length old + 1 = ap length one.commits ∙ length-append old (one.made ∷ []) in
+              let first : commit_text (pairs_of fixed (store_after fixed (moves ++ m ∷ [])).commits) found.0 ≡ made.commit =
               ap (λ (ps : List Pair). commit_text ps found.0) grown ∙ commit_text-old (pairs_of fixed old) (made ∷ []) found.0 found.1 ∙ found.2 in
-              let second : commit_text (pairs_of fixed (store_of (moves ++ m ∷ [])).commits) (length old) ≡ made.commit =
+              let second : commit_text (pairs_of fixed (store_after fixed (moves ++ m ∷ [])).commits) (length old) ≡ made.commit =
               ap (λ (ps : List Pair). commit_text ps (length old)) grown ∙ ap (commit_text (pairs_of fixed old ++ made ∷ [])) (sym many) ∙ commit_text-new (pairs_of fixed old) made in
               let alike : found.0 ≡ length old = valid-distinct fixed laws size (moves ++ m ∷ []) valid found.0 (length old) (omega (arith, count, lt)) (omega (arith, count)) (first ∙ sym second) in
               omega (arith, lt, alike)
@@ -113,5 +112,5 @@ module _ {S O R Q A : Type 0} (fixed : Fixed S O R Q A) where
           let whole = ap (λ (xs : Stored). concat (fresh (objects_of fixed moves) xs)) (made-objects fixed moves m one) in
           ⊎_elim (λ is. inl (whole ∙ is)) (λ is. inr (whole ∙ is)) (fresh-second (objects_of fixed moves) made.value made.commit unlisted refl)
 
-    pub region-none : (store_of (moves ++ m ∷ [])).commits ≡ old → region fixed moves m ≡ []
+    pub region-none : (store_after fixed (moves ++ m ∷ [])).commits ≡ old → region fixed moves m ≡ []
     region-none unmoved = ap (λ (xs : Stored). concat (fresh (objects_of fixed moves) xs)) (no-objects fixed moves m unmoved)

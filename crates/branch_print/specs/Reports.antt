@@ -1,9 +1,9 @@
 -- The texts of what a store holds, and of how it is made and opened.
-use Rattle.std.specs.Prelude.{ℕ, List, ◌++◌, codes, decimal, length}
+use Rattle.std.specs.Prelude.{ℕ, List, [], ◌++◌, codes, decimal, length, if◌then◌else◌}
 use Rattle.std.specs.List.{flat_map}
 use Rattle.branch_disk.specs.declared.part.Part.{Part}
 use Rattle.branch_disk.specs.declared.part.Part.TheVariants.{Objects, Heads}
-use Rattle.branch_names.specs.Heads.{Branch}
+use Rattle.branch_names.specs.declared.branch.Branch.{Branch}
 use Rattle.branch_history.specs.declared.moves.Move.{Move}
 use Rattle.branch_history.specs.History.{store_of}
 use Rattle.branch_print.specs.Texts.{line_end}
@@ -15,14 +15,19 @@ branch_text name head = codes "branch " ++ name ++ codes " #" ++ decimal head
 abbrev pub totals_text : ℕ → ℕ → ℕ → List ℕ
 totals_text moves commits branches = codes "moves " ++ decimal moves ++ codes " commits " ++ decimal commits ++ codes " branches " ++ decimal branches
 
--- a line for each branch by number
-abbrev pub branches_text : List Branch → List ℕ
-branches_text branches = flat_map (λ b. branch_text b.name b.head ++ line_end) branches
+-- a line for a branch, but none where it was dropped
+abbrev pub branch_line : Branch → List ℕ
+branch_line b = if b.dropped then [] else branch_text b.name b.head ++ line_end
 
--- the report of a store with this history: its branches by number, and then how much it holds
-unfoldable pub report_text : {O R : Type 0} → List (Move O R) → List ℕ
-report_text moves =
-    let store = store_of moves in
+-- a line for each branch by number, less those that were dropped
+abbrev pub branches_text : List Branch → List ℕ
+branches_text branches = flat_map branch_line branches
+
+-- The report of a store of a first origin with this history: its branches by number, and then how much it holds. The
+-- branches that were dropped count among them.
+unfoldable pub report_text : {O R : Type 0} → ℕ → List (Move O R) → List ℕ
+report_text origin moves =
+    let store = store_of origin moves in
     branches_text store.branches ++ totals_text (length moves) (length store.commits) (length store.branches) ++ line_end
 
 -- a new store was made

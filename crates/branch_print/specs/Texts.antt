@@ -12,7 +12,7 @@ use Rattle.branch_doc.specs.declared.plain.PlainAnswer.TheVariants.{CounterValue
 use Rattle.branch_doc.specs.Forms.{DocReply, DocAnswer, plain_reply, plain_answer}
 use Rattle.branch_script.specs.declared.step.LineRefused.{LineRefused}
 use Rattle.branch_script.specs.declared.step.LineRefused.TheVariants.{Syntax, BadName, BadNumber, Memory}
-use Rattle.branch_history.specs.Steps.{Refusal, UnknownBranch, NameTaken, Stale, Exhausted, FullCommits, FullBranches, FullMoves, ValueTooLarge, Collision, Outcome, Sees, Forked, Landed, Merged, Forwarded, Same, Answered, Refused}
+use Rattle.branch_history.specs.Steps.{Refusal, UnknownBranch, NameTaken, Dropped, KeepsMain, Stale, Exhausted, FullCommits, FullBranches, FullMoves, ValueTooLarge, OwnOrigin, TimeClash, BadBundle, Collision, Outcome, Sees, Forked, Landed, Merged, Joined, Forwarded, Same, New, Here, DroppedAt, Answered, Refused}
 
 -- each reply is a line, ended by byte 10
 abbrev pub line_end : List ℕ
@@ -68,12 +68,17 @@ reply_text other = []
 abbrev pub refusal_text : List ℕ → Refusal → List ℕ
 refusal_text branch (UnknownBranch name) = codes "error unknown " ++ name
 refusal_text branch (NameTaken number) = codes "error taken " ++ decimal number
+refusal_text branch (Dropped number) = codes "error dropped " ++ decimal number
+refusal_text branch KeepsMain = codes "error keeps main"
 refusal_text branch (Stale newest) = codes "stale " ++ branch ++ codes " at #" ++ decimal newest
 refusal_text branch (Exhausted clock) = codes "error exhausted " ++ decimal clock
 refusal_text branch (FullCommits count) = codes "error full commits " ++ decimal count
 refusal_text branch (FullBranches count) = codes "error full branches " ++ decimal count
 refusal_text branch (FullMoves count) = codes "error full moves " ++ decimal count
 refusal_text branch (ValueTooLarge size) = codes "error too large " ++ decimal size
+refusal_text branch OwnOrigin = codes "error own origin"
+refusal_text branch (TimeClash number) = codes "error time clash #" ++ decimal number
+refusal_text branch BadBundle = codes "error bad bundle"
 refusal_text branch (Collision address stored fresh) = codes "error collision " ++ encode_lower address
 
 abbrev pub sees_text : List ℕ → List ℕ → ℕ → List ℕ
@@ -88,11 +93,25 @@ landed_text commit time said = codes "landed #" ++ decimal commit ++ codes " at 
 abbrev pub merged_text : ℕ → List ℕ
 merged_text commit = codes "merged #" ++ decimal commit
 
+abbrev pub joined_text : ℕ → List ℕ
+joined_text commit = codes "joined #" ++ decimal commit
+
 abbrev pub forward_text : ℕ → List ℕ
 forward_text commit = codes "forward #" ++ decimal commit
 
 abbrev pub same_text : List ℕ
 same_text = codes "same"
+
+-- what was received is a new commit, or this one, which is here
+abbrev pub new_text : ℕ → List ℕ
+new_text commit = codes "new #" ++ decimal commit
+
+abbrev pub here_text : ℕ → List ℕ
+here_text commit = codes "here #" ++ decimal commit
+
+-- a branch was dropped, at its last head
+abbrev pub dropped_text : List ℕ → ℕ → List ℕ
+dropped_text branch head = codes "dropped " ++ branch ++ codes " at #" ++ decimal head
 
 -- an outcome, for a session and a branch of these names; a fork's branch is the new one
 abbrev pub outcome_text : List ℕ → List ℕ → Outcome DocAnswer DocReply → List ℕ
@@ -100,8 +119,12 @@ outcome_text session branch (Sees number head) = sees_text session branch head
 outcome_text session branch (Forked number head) = forked_text branch number head
 outcome_text session branch (Landed commit time said) = landed_text commit time (plain_reply said)
 outcome_text session branch (Merged commit) = merged_text commit
+outcome_text session branch (Joined commit) = joined_text commit
 outcome_text session branch (Forwarded commit) = forward_text commit
 outcome_text session branch Same = same_text
+outcome_text session branch (New commit) = new_text commit
+outcome_text session branch (Here commit) = here_text commit
+outcome_text session branch (DroppedAt number head) = dropped_text branch head
 outcome_text session branch (Answered answer) = answer_text (plain_answer answer)
 outcome_text session branch (Refused refusal) = refusal_text branch refusal
 

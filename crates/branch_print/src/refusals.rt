@@ -3,7 +3,7 @@
 ghost use Rattle.std.specs.Prelude.{◌≡◌, ◌++◌, [], OnOk, OnErr};
 ghost use Rattle.hex.specs.Hex.{encode_lower};
 ghost use Rattle.mrdt_model.specs.Spelled.{AppendsPart};
-ghost use Rattle.branch_history.specs.Steps.{UnknownBranch, Stale, NameTaken, Exhausted, FullCommits, FullBranches, FullMoves, ValueTooLarge, Collision};
+ghost use Rattle.branch_history.specs.Steps.{UnknownBranch, Dropped, Stale, NameTaken, Exhausted, FullCommits, FullBranches, FullMoves, ValueTooLarge, Collision};
 ghost use Rattle.branch_print.specs.Texts.{refusal_text, line_refusal_text, unseen_text, line_end};
 
 use crate::pieces::{put_count, put_pieces};
@@ -47,6 +47,16 @@ pub fn put_unknown(out: &mut Vec<u8>, name: &Name) -> Result<(), Memory>
     ensures err { OnErr result (AppendsPart out.old.items out.new.items (refusal_text [] (UnknownBranch name.now) ++ line_end)) }
 {
     put_pieces(out, &[b"error unknown ", name.as_bytes(), b"\n"])
+}
+
+/// The branch of this number was dropped: `error dropped 1`.
+pub fn put_dropped(out: &mut Vec<u8>, number: u32) -> Result<(), Memory>
+    ensures ok { OnOk result (out.new.items ≡ out.old.items
+        ++ (refusal_text [] (Dropped number) ++ line_end)) }
+    ensures err { OnErr result (AppendsPart out.old.items out.new.items
+        (refusal_text [] (Dropped number) ++ line_end)) }
+{
+    put_count(out, b"error dropped ", u64::from(number))
 }
 
 /// The head of the branch with this name is not the one that was seen, but a newer one: `stale main at #1`.

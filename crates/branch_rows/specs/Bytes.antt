@@ -31,23 +31,74 @@ root = 2 ∷ eight 53 ++ zeros 8 ++ zeros 4 ++ zeros 8 ++ address_of 113 ++ 0 �
 abbrev pub letters : List ℕ
 letters = codes "MRDTOBJS" ++ 0 ∷ 0 ∷ 0 ∷ 2 ∷ zeros 4
 
--- an amount that was added on a branch, with its time
+-- an amount that was added by an origin, with its time
 abbrev pub amount_at : ℕ → ℕ → ℕ → List ℕ
-amount_at clock branch n = eight clock ++ zeros 3 ++ branch ∷ eight n
+amount_at clock origin n = eight clock ++ zeros 3 ++ origin ∷ eight n
 
--- the object of the document in which the counter `hits` has the amount 5
-abbrev pub hits_value : List ℕ
-hits_value = 1 ∷ eight 152 ++ eight 56 ++ eight 1 ++ eight 4 ++ codes "hits" ++ eight 28 ++ eight 1 ++ amount_at 1 0 5 ++ other_maps
+-- the object of the document in which the counter `hits` has an amount that an origin added first
+abbrev pub hits_value : ℕ → ℕ → List ℕ
+hits_value origin n = 1 ∷ eight 152 ++ eight 56 ++ eight 1 ++ eight 4 ++ codes "hits" ++ eight 28 ++ eight 1 ++ amount_at 1 origin n ++ other_maps
 
--- the object of the commit on `main` that adds 5 to `hits`
-abbrev pub hits_commit : List ℕ
-hits_commit =
-    2 ∷ eight 123 ++ eight 1 ++ address_of 62 ++ zeros 4 ++ eight 1 ++ address_of 161
-    ++ 1 ∷ eight 21 ++ 1 ∷ eight 4 ++ codes "hits" ++ eight 5 ++ eight 1 ++ 1 ∷ []
+-- the object of the commit above the root, of an origin, that adds an amount to `hits`
+abbrev pub hits_commit : ℕ → ℕ → List ℕ
+hits_commit origin n =
+    2 ∷ eight 123 ++ eight 1 ++ address_of 62 ++ zeros 3 ++ origin ∷ eight 1 ++ address_of 161
+    ++ 1 ∷ eight 21 ++ 1 ∷ eight 4 ++ codes "hits" ++ eight n ++ eight 1 ++ 1 ∷ []
 
--- the record of that commit, behind its gate: the objects end at 484
+-- the record of that commit on `main`, behind its gate: the objects end at 484
 abbrev pub hits_record : List ℕ
 hits_record = 1 ∷ 2 ∷ zeros 4 ++ zeros 4 ++ zeros 6 ++ 1 ∷ 228 ∷ address_of 132 ++ zeros 14
+
+-- the header with limits of a thousand each and the first origin 100
+abbrev pub header_of_100 : List ℕ
+header_of_100 =
+    1 ∷ codes "MRDTHEAD" ++ zeros 3 ++ 2 ∷ zeros 6 ++ 3 ∷ 232 ∷ zeros 2 ++ 3 ∷ 232 ∷ zeros 2 ++ 3 ∷ 232 ∷ zeros 6 ++ 3 ∷ 232 ∷ zeros 6
+    ++ 3 ∷ 232 ∷ 0 ∷ zeros 3 ++ 100 ∷ zeros 14
+
+-- the record of a commit that was received: the objects end at 484
+abbrev pub received_record : List ℕ
+received_record = 1 ∷ 6 ∷ zeros 4 ++ zeros 4 ++ zeros 6 ++ 1 ∷ 228 ∷ address_of 132 ++ zeros 14
+
+-- the record of the branch `other`, which is placed at commit 1 as number 1
+abbrev pub place_record : List ℕ
+place_record = 1 ∷ 7 ∷ zeros 3 ++ 1 ∷ zeros 3 ++ 1 ∷ zeros 6 ++ 1 ∷ 228 ∷ codes "other" ++ zeros 27 ++ zeros 14
+
+-- the record of its drop
+abbrev pub drop_record : List ℕ
+drop_record = 1 ∷ 8 ∷ zeros 3 ++ 1 ∷ zeros 4 ++ zeros 6 ++ 1 ∷ 228 ∷ zeros 32 ++ zeros 14
+
+-- Of a store of maps of counters: the map without keys, and the object of the root commit above it.
+abbrev pub fresh_map : List ℕ
+fresh_map = 1 ∷ eight 8 ++ zeros 8
+
+abbrev pub map_root : List ℕ
+map_root = 2 ∷ eight 53 ++ zeros 8 ++ zeros 4 ++ zeros 8 ++ address_of 17 ++ 0 ∷ []
+
+-- the object of the map in which the counter `c` has an amount that an origin added first
+abbrev pub map_value : ℕ → ℕ → List ℕ
+map_value origin n = 1 ∷ eight 53 ++ eight 1 ++ eight 1 ++ codes "c" ++ eight 28 ++ eight 1 ++ amount_at 1 origin n
+
+-- the object of the commit above the root, of an origin, that adds an amount to `c`
+abbrev pub map_commit : ℕ → ℕ → List ℕ
+map_commit origin n =
+    2 ∷ eight 118 ++ eight 1 ++ address_of 62 ++ zeros 3 ++ origin ∷ eight 1 ++ address_of 62
+    ++ 1 ∷ eight 17 ++ eight 1 ++ codes "c" ++ eight n ++ eight 0
+
+-- the record of the first such commit that is received, and of the second: the objects end at 284 and at 473
+abbrev pub map_record : ℕ → ℕ → List ℕ
+map_record high low = 1 ∷ 6 ∷ zeros 4 ++ zeros 4 ++ zeros 6 ++ high ∷ low ∷ address_of 127 ++ zeros 14
+
+-- the object of the map in which `c` has the amounts 1 and 10 of the origins 7 and 8
+abbrev pub joined_value : List ℕ
+joined_value = 1 ∷ eight 73 ++ eight 1 ++ eight 1 ++ codes "c" ++ eight 48 ++ eight 2 ++ amount_at 1 7 1 ++ amount_at 1 8 10
+
+-- the object of the commit on `main` that joins those two to the root
+abbrev pub joined_commit : List ℕ
+joined_commit = 2 ∷ eight 149 ++ eight 3 ++ address_of 62 ++ address_of 127 ++ address_of 127 ++ zeros 4 ++ eight 1 ++ address_of 82 ++ 2 ∷ []
+
+-- its record, which joins the commits 1 and 2 to the head of `main`: the objects end at 713
+abbrev pub join_record : List ℕ
+join_record = 1 ∷ 5 ∷ zeros 4 ++ zeros 3 ++ 2 ∷ zeros 6 ++ 2 ∷ 201 ∷ zeros 3 ++ 1 ∷ zeros 3 ++ 2 ∷ zeros 24 ++ zeros 14
 
 -- the object of the document in which the counter `a` has the amount 1, which a branch added first
 abbrev pub letter_value : ℕ → List ℕ

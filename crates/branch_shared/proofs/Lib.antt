@@ -1,3 +1,4 @@
 mod Accepted
 mod Behind
+mod Drops
 pub mod Crosses

@@ -1,8 +1,11 @@
 -- What lies behind a shared store, and what its type keeps.
 use Rattle.std.specs.Prelude.{◌≡◌, ℕ, ◌-◌, List, [], ◌++◌, length}
+use Rattle.std.specs.List.{AllByRecursion}
 use Rattle.atomic_table.specs.Seated.{TableId}
-use Rattle.branch_names.specs.declared.limits.Limits.{Limits}
+use Rattle.branch_names.specs.declared.terms.Terms.{Terms}
 use Rattle.branch_front.specs.Views.{Opening, View, IsIdle}
+use Rattle.branch_history.specs.declared.moves.Move.{Move}
+use Rattle.branch_history.specs.declared.moves.Move.TheVariants as move
 use Rattle.store_core.specs.Views.{StoreView}
 
 -- the faults that a store's disk has had since the store was made or opened
@@ -17,12 +20,24 @@ front_of table begun parts = record { table = table; begun = length begun; parts
 abbrev pub first_writer : {M : Type 0} → TableId → ℕ → ℕ → View M
 first_writer table parts faults = record { table = table; moves = []; mine = []; faults = faults; parts = parts; receipts = 0 }
 
+-- a move that drops no branch
+abbrev pub IsNoDrop : {O R : Type 0} → Move O R → Type 0
+IsNoDrop (move.Drop number) = ⊥
+IsNoDrop made = Unit {0}
+
+-- the moves that one history has behind another drop no branch
+pub record DropsNone {O R : Type 0} (old new : List (Move O R)) : Type 0 where
+  pub more : List (Move O R)
+  pub is : old ++ more ≡ new
+  pub none : AllByRecursion IsNoDrop more
+
 -- under the lock lie the core that was named and the front's writer, which is idle and knows the core's history and how
--- often its disk has failed
-pub record IsKept {M D : Type 0} (faults : D → ℕ) (table : TableId) (begun : List M) (limits : Limits) (opened : ℕ) (core : StoreView M D) (writer : View M) : Type 0 where
+-- often its disk has failed; no branch was dropped behind the history that it began with
+pub record IsKept {O R D : Type 0} (faults : D → ℕ) (table : TableId) (begun : List (Move O R)) (terms : Terms) (opened : ℕ) (core : StoreView (Move O R) D) (writer : View (Move O R)) : Type 0 where
   pub table_is : writer.table ≡ table
   pub history_is : core.history ≡ begun ++ writer.moves
-  pub limits_are : core.limits ≡ limits
+  pub terms_are : core.terms ≡ terms
   pub opened_is : faults core.opened ≡ opened
   pub faults_are : writer.faults ≡ faults_since faults core
   pub idle : IsIdle writer
+  pub drops_none : AllByRecursion IsNoDrop writer.moves

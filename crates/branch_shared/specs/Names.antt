@@ -3,6 +3,7 @@ use Rattle.std.specs.Prelude.{◌≡◌, ℕ, List, [], refl}
 use native.Mathlib.Nat.{le_refl, le_intro}
 use Rattle.atomic_table.specs.Seated.{TableId}
 use Rattle.branch_names.specs.declared.limits.Limits.{Limits}
+use Rattle.branch_names.specs.declared.terms.Terms.{Terms}
 use Rattle.store_core.specs.Views.{StoreView}
 
 -- a store that has no name yet: its front, its core, the number of parts, and the disk's faults when the core was opened
@@ -13,14 +14,14 @@ pub record BlankView (M D : Type 0) : Type 0 where
   pub opened : ℕ
 
 -- the name says what this store is
-pub record IsNamed {M D : Type 0} (blank : BlankView M D) (table : TableId) (begun : List M) (limits : Limits) (parts opened : ℕ) : Type 0 where
+pub record IsNamed {M D : Type 0} (blank : BlankView M D) (table : TableId) (begun : List M) (terms : Terms) (parts opened : ℕ) : Type 0 where
   pub table_is : blank.table ≡ table
   pub history_is : blank.core.history ≡ begun
-  pub limits_are : blank.core.limits ≡ limits
+  pub terms_are : blank.core.terms ≡ terms
   pub parts_are : blank.parts ≡ parts
   pub opened_is : blank.opened ≡ opened
 
--- the front and the limits of a name that was not picked
+-- the front and the terms of a name that was not picked
 abbrev pub no_table : TableId
 no_table = record { words = 0; slots = 0; views_name = 0; atom = 0; block = 0; offset = 0; slot_names = [] }
 
@@ -43,4 +44,11 @@ least_limits = record {
     moves_low = le_refl 1;
     moves_high = le_intro 1 281474976710655 refl;
   };
+}
+
+abbrev pub least_terms : Terms
+least_terms = record {
+  limits = least_limits;
+  origin = 0;
+  in_range = le_intro 1 4294967295 refl;
 }

@@ -21,7 +21,7 @@ use Rattle.store_core.specs.declared.answers.LandRefused.TheVariants as land_ref
 use Rattle.store_core.specs.declared.answers.ForkRefused.{ForkRefused}
 use Rattle.store_core.specs.declared.answers.ForkRefused.TheVariants as fork_refusal
 use Rattle.store_core.specs.Turns.{step_made}
-use Rattle.branch_names.specs.declared.limits.Limits.{Limits}
+use Rattle.branch_names.specs.declared.terms.Terms.{Terms}
 
 -- the history that its holder has seen; the lengths at which its own moves landed; the disk's faults since the core was
 -- opened, as last seen; its share of the parts; and the number of moves that it and the passes that left into it landed
@@ -33,8 +33,8 @@ pub record PassView (M : Type 0) : Type 0 where
   pub receipts : ℕ
 
 -- what a core holds whose history is what the holder of a pass has seen
-abbrev pub seen_by : {M : Type 0} → PassView M → Limits → CoreView M
-seen_by pass limits = record { history = pass.moves; limits = limits }
+abbrev pub seen_by : {M : Type 0} → PassView M → Terms → CoreView M
+seen_by pass terms = record { history = pass.moves; terms = terms }
 
 -- nothing but what the holder knows of the store is new
 abbrev pub IsSeenOn : {M : Type 0} → PassView M → PassView M → Type 0
@@ -68,8 +68,9 @@ ForkedAt fixed name from old new forked =
 
 -- Why what was prepared did not land, at the history that is seen then. The disk fails only where the machine makes the move.
 abbrev pub LandRefusedAt : {S O R Q A : Type 0} → Fixed S O R Q A → ℕ → PreparedView O R → PassView (Move O R) → PassView (Move O R) → LandRefused → Type 0
+LandRefusedAt fixed opened made old new (land_refusal.Dropped branch) = FullyRefuses fixed new.moves (step_made made) (machine.Dropped branch)
 LandRefusedAt fixed opened made old new (land_refusal.Stale newest) =
-    FullyRefuses fixed new.moves (step_made made) (machine.Stale newest) × IsTrue (reaches (graph_of (store_of new.moves).commits) newest made.seen.head)
+    FullyRefuses fixed new.moves (step_made made) (machine.Stale newest) × IsTrue (reaches (graph_of (store_of fixed.terms.origin new.moves).commits) newest made.seen.head)
 LandRefusedAt fixed opened made old new (land_refusal.FullCommits count) = FullyRefuses fixed new.moves (step_made made) (machine.FullCommits count)
 LandRefusedAt fixed opened made old new (land_refusal.FullMoves count) = FullyRefuses fixed new.moves (step_made made) (machine.FullMoves count)
 LandRefusedAt fixed opened made old new (land_refusal.Collision address stored fresh) = FullyRefuses fixed new.moves (step_made made) (machine.Collision address stored fresh)

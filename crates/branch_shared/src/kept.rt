@@ -1,5 +1,6 @@
 // What lies under the lock.
 ghost use Rattle.std.specs.Prelude.{ℕ, ◌≡◌, ◌≢◌, ◌+◌, ◌≤◌, ◌^◌, ◌∷◌, ◌++◌, [], length, true, false, Err, IfOk, IfErr, OnErr};
+ghost use Rattle.std.specs.List.{AllByRecursion};
 ghost use mathlib.Core.List.{IsPrefix};
 ghost use Rattle.branch_io.specs.Causes.{Rose};
 ghost use Rattle.branch_front.specs.Views.{IsIdle};
@@ -10,7 +11,7 @@ ghost use Rattle.branch_machine.specs.Fixed.{fix};
 ghost use Rattle.branch_machine.specs.Validity.{IsFullyValid};
 ghost use Rattle.store_seen.specs.Pairs.{IsPaired, PairRefusedAs};
 ghost use Rattle.store_seen.specs.Turns.{LookRefusedAs};
-ghost use Rattle.branch_shared.specs.Keeps.{faults_since, front_of};
+ghost use Rattle.branch_shared.specs.Keeps.{IsNoDrop, faults_since, front_of};
 ghost use Rattle.branch_shared.specs.Passes.{seen_by, IsSeenOn, LandedAt, LandRefusedAt, ForkedAt, ForkRefusedAt};
 
 use crate::name::{MoveOf, Named};
@@ -43,7 +44,7 @@ impl<T: Mrdt, D: Disk + Drop, A: Address, N: Named<T::Op, T::Reply>> Model for K
 
     ghost view = { λ k. k.core };
 
-    ghost invariant = { λ k. IsKept D.faults N.table N.begun N.limits N.opened k.core k.writer };
+    ghost invariant = { λ k. IsKept D.faults N.table N.begun N.terms N.opened k.core k.writer };
 }
 
 impl<T: Mrdt, D: Disk + Drop, A: Address, N: Named<T::Op, T::Reply>> Kept<T, D, A, N> {
@@ -57,12 +58,12 @@ impl<T: Mrdt, D: Disk + Drop, A: Address, N: Named<T::Op, T::Reply>> Kept<T, D, 
         requires front { front.now ≡ front_of N.table N.begun N.parts }
         ensures prefix { IsPrefix pass.old.moves pass.new.moves }
         ensures begun { IsPrefix N.begun pass.new.moves }
-        ensures valid { IsFullyValid (fix T.meaning N.limits A.address) pass.new.moves }
+        ensures valid { IsFullyValid (fix T.meaning N.terms A.address) pass.new.moves }
         ensures faults { pass.old.faults ≤ pass.new.faults }
         ensures rest { IsSeenOn pass.old pass.new }
-        ensures on { IfOk result (λ seen. (seen.history ≡ pass.new.moves) × (seen.limits ≡ N.limits)) }
-        ensures sees { IfOk result (λ seen. turn T.meaning N.limits pass.new.moves (machine.Look branch.now) ≡ answers (machine.Sees seen.branch seen.head)) }
-        ensures refused { IfErr result (LookRefusedAs T.meaning (seen_by pass.new N.limits) branch.now) }
+        ensures on { IfOk result (λ seen. (seen.history ≡ pass.new.moves) × (seen.terms ≡ N.terms)) }
+        ensures sees { IfOk result (λ seen. turn T.meaning N.terms pass.new.moves (machine.Look branch.now) ≡ answers (machine.Sees seen.branch seen.head)) }
+        ensures refused { IfErr result (LookRefusedAs T.meaning (seen_by pass.new N.terms) branch.now) }
     {
         see(front, &mut self.writer, pass, &self.core);
         self.core.look(branch)
@@ -78,14 +79,14 @@ impl<T: Mrdt, D: Disk + Drop, A: Address, N: Named<T::Op, T::Reply>> Kept<T, D, 
     ) -> Result<Pair<T>, PairRefused>
         requires front { front.now ≡ front_of N.table N.begun N.parts }
         requires history { IsPrefix seen.now.history pass.old.moves }
-        requires limits { seen.now.limits ≡ N.limits }
+        requires terms { seen.now.terms ≡ N.terms }
         ensures prefix { IsPrefix pass.old.moves pass.new.moves }
         ensures begun { IsPrefix N.begun pass.new.moves }
-        ensures valid { IsFullyValid (fix T.meaning N.limits A.address) pass.new.moves }
+        ensures valid { IsFullyValid (fix T.meaning N.terms A.address) pass.new.moves }
         ensures faults { pass.old.faults ≤ pass.new.faults }
         ensures rest { IsSeenOn pass.old pass.new }
-        ensures paired { IfOk result (IsPaired T.meaning (seen_by pass.new N.limits) seen.now from.now) }
-        ensures refused { IfErr result (PairRefusedAs T.meaning (seen_by pass.new N.limits) from.now) }
+        ensures paired { IfOk result (IsPaired T.meaning (seen_by pass.new N.terms) seen.now from.now) }
+        ensures refused { IfErr result (PairRefusedAs T.meaning (seen_by pass.new N.terms) from.now) }
     {
         see(front, &mut self.writer, pass, &self.core);
         self.core.pair(seen, from)
@@ -101,14 +102,14 @@ impl<T: Mrdt, D: Disk + Drop, A: Address, N: Named<T::Op, T::Reply>> Kept<T, D, 
     ) -> Result<Landed<T::Reply>, LandRefused>
         requires front { front.now ≡ front_of N.table N.begun N.parts }
         requires history { IsPrefix prepared.seen.history pass.old.moves }
-        requires limits { prepared.seen.limits ≡ N.limits }
+        requires terms { prepared.seen.terms ≡ N.terms }
         ensures prefix { IsPrefix pass.old.moves pass.new.moves }
         ensures begun { IsPrefix N.begun pass.new.moves }
-        ensures valid { IsFullyValid (fix T.meaning N.limits A.address) pass.new.moves }
+        ensures valid { IsFullyValid (fix T.meaning N.terms A.address) pass.new.moves }
         ensures faults { pass.old.faults ≤ pass.new.faults }
         ensures parts { pass.new.parts ≡ pass.old.parts }
-        ensures landed { IfOk result (λ landed. LandedAt (fix T.meaning N.limits A.address) prepared pass.old pass.new landed.moves landed.kind) }
-        ensures refused { IfErr result (LandRefusedAt (fix T.meaning N.limits A.address) N.opened prepared pass.old pass.new) }
+        ensures landed { IfOk result (λ landed. LandedAt (fix T.meaning N.terms A.address) prepared pass.old pass.new landed.moves landed.kind) }
+        ensures refused { IfErr result (LandRefusedAt (fix T.meaning N.terms A.address) N.opened prepared pass.old pass.new) }
         ensures rest { OnErr result (IsSeenOn pass.old pass.new) }
         ensures quiet { result ≢ Err LandRefused.DiskFault → ((moves : ℕ) → result ≢ Err (LandRefused.Failed moves)) → pass.new.faults ≡ 0 }
     {
@@ -133,11 +134,11 @@ impl<T: Mrdt, D: Disk + Drop, A: Address, N: Named<T::Op, T::Reply>> Kept<T, D, 
         requires front { front.now ≡ front_of N.table N.begun N.parts }
         ensures prefix { IsPrefix pass.old.moves pass.new.moves }
         ensures begun { IsPrefix N.begun pass.new.moves }
-        ensures valid { IsFullyValid (fix T.meaning N.limits A.address) pass.new.moves }
+        ensures valid { IsFullyValid (fix T.meaning N.terms A.address) pass.new.moves }
         ensures faults { pass.old.faults ≤ pass.new.faults }
         ensures parts { pass.new.parts ≡ pass.old.parts }
-        ensures forked { IfOk result (ForkedAt (fix T.meaning N.limits A.address) new from.now pass.old pass.new) }
-        ensures refused { IfErr result (ForkRefusedAt (fix T.meaning N.limits A.address) N.opened new from.now pass.old pass.new) }
+        ensures forked { IfOk result (ForkedAt (fix T.meaning N.terms A.address) new from.now pass.old pass.new) }
+        ensures refused { IfErr result (ForkRefusedAt (fix T.meaning N.terms A.address) N.opened new from.now pass.old pass.new) }
         ensures rest { OnErr result (IsSeenOn pass.old pass.new) }
         ensures quiet { result ≢ Err ForkRefused.DiskFault → ((moves : ℕ) → result ≢ Err (ForkRefused.Failed moves)) → pass.new.faults ≡ 0 }
     {
@@ -168,7 +169,7 @@ fn see<T: Mrdt, D: Disk + Drop, A: Address, N: Named<T::Op, T::Reply>>(
     ensures pass { pass.new ≡ record pass.old { moves = core.now.history; faults = faults_since D.faults core.now } }
     ensures prefix { IsPrefix pass.old.moves core.now.history }
     ensures faults { pass.old.faults ≤ writer.old.faults }
-    ensures valid { IsFullyValid (fix T.meaning core.now.limits A.address) core.now.history }
+    ensures valid { IsFullyValid (fix T.meaning core.now.terms A.address) core.now.history }
     ensures later { D.faults core.now.opened ≤ D.faults core.now.disk }
     ensures caused { core.now.failed ≡ true → Rose (D.faults core.now.opened) (D.faults core.now.disk) }
     ensures quiet { core.now.failed ≡ false → D.faults core.now.disk ≡ D.faults core.now.opened }
@@ -192,7 +193,7 @@ fn see_as<T: Mrdt, D: Disk + Drop, A: Address, N: Named<T::Op, T::Reply>, E: Tol
     ensures pass { pass.new ≡ record pass.old { moves = core.now.history; faults = faults_since D.faults core.now } }
     ensures prefix { IsPrefix pass.old.moves core.now.history }
     ensures faults { pass.old.faults ≤ writer.old.faults }
-    ensures valid { IsFullyValid (fix T.meaning core.now.limits A.address) core.now.history }
+    ensures valid { IsFullyValid (fix T.meaning core.now.terms A.address) core.now.history }
     ensures later { D.faults core.now.opened ≤ D.faults core.now.disk }
     ensures caused { core.now.failed ≡ true → Rose (D.faults core.now.opened) (D.faults core.now.disk) }
     ensures quiet { core.now.failed ≡ false → D.faults core.now.disk ≡ D.faults core.now.opened }
@@ -212,14 +213,16 @@ fn add<T: Mrdt, D: Disk + Drop, A: Address, N: Named<T::Op, T::Reply>>(
     requires front { front.now ≡ front_of N.table N.begun N.parts }
     requires table { writer.old.table ≡ N.table }
     requires idle { IsIdle writer.old }
-    requires grown { (made : Move T.Op T.Reply) × (core.now.history ≡ (N.begun ++ writer.old.moves) ++ made ∷ []) }
+    requires grown { (made : Move T.Op T.Reply) × (core.now.history ≡ (N.begun ++ writer.old.moves) ++ made ∷ []) × IsNoDrop made }
+    requires drops_none { AllByRecursion IsNoDrop writer.old.moves }
     requires rise { writer.old.faults ≤ faults_since D.faults core.now }
     requires room { length core.now.history ≤ 2 ^ 48 }
     ensures table { writer.new.table ≡ writer.old.table }
     ensures history { core.now.history ≡ N.begun ++ writer.new.moves }
     ensures writer { (writer.new.faults ≡ faults_since D.faults core.now) × IsIdle writer.new }
+    ensures drops_none { AllByRecursion IsNoDrop writer.new.moves }
     ensures pass { pass.new ≡ record pass.old { moves = core.now.history; mine = pass.old.mine ++ length core.now.history ∷ []; faults = faults_since D.faults core.now; receipts = pass.old.receipts + 1 } }
-    ensures valid { IsFullyValid (fix T.meaning core.now.limits A.address) core.now.history }
+    ensures valid { IsFullyValid (fix T.meaning core.now.terms A.address) core.now.history }
 {
     add_as::<T, D, A, N, Brand>(front, writer, pass, core);
 }
@@ -239,7 +242,7 @@ fn add_as<T: Mrdt, D: Disk + Drop, A: Address, N: Named<T::Op, T::Reply>, E: Tol
     requires room { length core.now.history ≤ 2 ^ 48 }
     ensures writer { writer.new ≡ record writer.old { moves = writer.old.moves ++ E.entry; faults = faults_since D.faults core.now } }
     ensures pass { pass.new ≡ record pass.old { moves = core.now.history; mine = pass.old.mine ++ length core.now.history ∷ []; faults = faults_since D.faults core.now; receipts = pass.old.receipts + 1 } }
-    ensures valid { IsFullyValid (fix T.meaning core.now.limits A.address) core.now.history }
+    ensures valid { IsFullyValid (fix T.meaning core.now.terms A.address) core.now.history }
 {
     // Its clauses say what is known of a core.
     let _ = core.moves();

@@ -13,7 +13,7 @@ pub(crate) type MoveOf<T> = Move<<T as Mrdt>::Op, <T as Mrdt>::Reply>;
 pub trait Named<O, R> {
     ghost use Rattle.std.specs.Prelude.{ℕ, List};
     ghost use Rattle.atomic_table.specs.Seated.{TableId};
-    ghost use Rattle.branch_names.specs.declared.limits.Limits.{Limits};
+    ghost use Rattle.branch_names.specs.declared.terms.Terms.{Terms};
     ghost use Rattle.branch_history.specs.declared.moves.Move.{Move};
 
     // Which front it is.
@@ -22,8 +22,8 @@ pub trait Named<O, R> {
     // The history that the store began with.
     ghost begun: { List (Move O R) };
 
-    // The limits of the store.
-    ghost limits: { Limits };
+    // The terms of the store.
+    ghost terms: { Terms };
 
     // The number of parts of all passes.
     ghost parts: { ℕ };
@@ -34,13 +34,13 @@ pub trait Named<O, R> {
 
 impl<O, R> Named<O, R> for Brand {
     ghost use Rattle.std.specs.Prelude.{[]};
-    ghost use Rattle.branch_shared.specs.Names.{no_table, least_limits};
+    ghost use Rattle.branch_shared.specs.Names.{no_table, least_terms};
 
     ghost table = { no_table };
 
     ghost begun = { [] };
 
-    ghost limits = { least_limits };
+    ghost terms = { least_terms };
 
     ghost parts = { 0 };
 

@@ -8,7 +8,7 @@ ghost use Rattle.branch_machine.specs.Fixed.{fix};
 ghost use Rattle.branch_machine.specs.Validity.{IsFullyValid};
 ghost use Rattle.store_seen.specs.Pairs.{IsPaired, PairRefusedAs};
 ghost use Rattle.store_seen.specs.Turns.{LookRefusedAs};
-ghost use Rattle.branch_shared.specs.Keeps.{faults_since};
+ghost use Rattle.branch_shared.specs.Keeps.{DropsNone, faults_since};
 ghost use Rattle.branch_shared.specs.Names.{IsNamed};
 ghost use Rattle.branch_shared.specs.Passes.{seen_by, IsSeenOn, LandedAt, LandRefusedAt, ForkedAt, ForkRefusedAt};
 
@@ -29,7 +29,7 @@ use store_core::{
     Prepared, Seen,
 };
 
-/// A store that threads share by reference. What it began with, its limits and the number of its parts are those that N
+/// A store that threads share by reference. What it began with, its terms and the number of its parts are those that N
 /// names. Contracts see the front's `Opening`.
 ///
 /// `look`, `pair`, `land` and `fork` wait for the one lock, and do under it what one event of the store is. After each
@@ -74,7 +74,7 @@ pub struct Closed<T: Mrdt, D: Disk + Drop, A: Address> {
 impl<T: Mrdt, D: Disk + Drop, A: Address, N: Named<T::Op, T::Reply>> Shared<T, D, A, N> {
     /// The store under its name, and the pass that holds all parts.
     pub fn new(blank: Blank<T, D, A>) -> (Shared<T, D, A, N>, Pass<T, N>)
-        requires name { IsNamed blank N.table N.begun N.limits N.parts N.opened }
+        requires name { IsNamed blank N.table N.begun N.terms N.parts N.opened }
         ensures { result.1 ≡ record { moves = blank.core.history; mine = []; faults = faults_since D.faults blank.core; parts = blank.parts; receipts = 0 } }
     {
         let Blank {
@@ -126,12 +126,12 @@ impl<T: Mrdt, D: Disk + Drop, A: Address, N: Named<T::Op, T::Reply>> Shared<T, D
     ) -> Result<Seen<T>, LookRefused>
         ensures prefix { IsPrefix pass.old.moves pass.new.moves }
         ensures begun { IsPrefix N.begun pass.new.moves }
-        ensures valid { IsFullyValid (fix T.meaning N.limits A.address) pass.new.moves }
+        ensures valid { IsFullyValid (fix T.meaning N.terms A.address) pass.new.moves }
         ensures faults { pass.old.faults ≤ pass.new.faults }
         ensures rest { IsSeenOn pass.old pass.new }
-        ensures on { IfOk result (λ seen. (seen.history ≡ pass.new.moves) × (seen.limits ≡ N.limits)) }
-        ensures sees { IfOk result (λ seen. turn T.meaning N.limits pass.new.moves (machine.Look branch.now) ≡ answers (machine.Sees seen.branch seen.head)) }
-        ensures refused { IfErr result (LookRefusedAs T.meaning (seen_by pass.new N.limits) branch.now) }
+        ensures on { IfOk result (λ seen. (seen.history ≡ pass.new.moves) × (seen.terms ≡ N.terms)) }
+        ensures sees { IfOk result (λ seen. turn T.meaning N.terms pass.new.moves (machine.Look branch.now) ≡ answers (machine.Sees seen.branch seen.head)) }
+        ensures refused { IfErr result (LookRefusedAs T.meaning (seen_by pass.new N.terms) branch.now) }
     {
         self.kept.lock(rt).look(&self.front, pass, branch)
     }
@@ -146,14 +146,14 @@ impl<T: Mrdt, D: Disk + Drop, A: Address, N: Named<T::Op, T::Reply>> Shared<T, D
         from: &Name,
     ) -> Result<Pair<T>, PairRefused>
         requires history { IsPrefix seen.now.history pass.old.moves }
-        requires limits { seen.now.limits ≡ N.limits }
+        requires terms { seen.now.terms ≡ N.terms }
         ensures prefix { IsPrefix pass.old.moves pass.new.moves }
         ensures begun { IsPrefix N.begun pass.new.moves }
-        ensures valid { IsFullyValid (fix T.meaning N.limits A.address) pass.new.moves }
+        ensures valid { IsFullyValid (fix T.meaning N.terms A.address) pass.new.moves }
         ensures faults { pass.old.faults ≤ pass.new.faults }
         ensures rest { IsSeenOn pass.old pass.new }
-        ensures paired { IfOk result (IsPaired T.meaning (seen_by pass.new N.limits) seen.now from.now) }
-        ensures refused { IfErr result (PairRefusedAs T.meaning (seen_by pass.new N.limits) from.now) }
+        ensures paired { IfOk result (IsPaired T.meaning (seen_by pass.new N.terms) seen.now from.now) }
+        ensures refused { IfErr result (PairRefusedAs T.meaning (seen_by pass.new N.terms) from.now) }
     {
         self.kept.lock(rt).pair(&self.front, pass, seen, from)
     }
@@ -172,14 +172,14 @@ impl<T: Mrdt, D: Disk + Drop, A: Address, N: Named<T::Op, T::Reply>> Shared<T, D
         prepared: Prepared<T>,
     ) -> Result<Landed<T::Reply>, LandRefused>
         requires history { IsPrefix prepared.seen.history pass.old.moves }
-        requires limits { prepared.seen.limits ≡ N.limits }
+        requires terms { prepared.seen.terms ≡ N.terms }
         ensures prefix { IsPrefix pass.old.moves pass.new.moves }
         ensures begun { IsPrefix N.begun pass.new.moves }
-        ensures valid { IsFullyValid (fix T.meaning N.limits A.address) pass.new.moves }
+        ensures valid { IsFullyValid (fix T.meaning N.terms A.address) pass.new.moves }
         ensures faults { pass.old.faults ≤ pass.new.faults }
         ensures parts { pass.new.parts ≡ pass.old.parts }
-        ensures landed { IfOk result (λ landed. LandedAt (fix T.meaning N.limits A.address) prepared pass.old pass.new landed.moves landed.kind) }
-        ensures refused { IfErr result (LandRefusedAt (fix T.meaning N.limits A.address) N.opened prepared pass.old pass.new) }
+        ensures landed { IfOk result (λ landed. LandedAt (fix T.meaning N.terms A.address) prepared pass.old pass.new landed.moves landed.kind) }
+        ensures refused { IfErr result (LandRefusedAt (fix T.meaning N.terms A.address) N.opened prepared pass.old pass.new) }
         ensures rest { OnErr result (IsSeenOn pass.old pass.new) }
         ensures quiet { result ≢ Err LandRefused.DiskFault → ((moves : ℕ) → result ≢ Err (LandRefused.Failed moves)) → pass.new.faults ≡ 0 }
     {
@@ -199,11 +199,11 @@ impl<T: Mrdt, D: Disk + Drop, A: Address, N: Named<T::Op, T::Reply>> Shared<T, D
     ) -> Result<Forked, ForkRefused>
         ensures prefix { IsPrefix pass.old.moves pass.new.moves }
         ensures begun { IsPrefix N.begun pass.new.moves }
-        ensures valid { IsFullyValid (fix T.meaning N.limits A.address) pass.new.moves }
+        ensures valid { IsFullyValid (fix T.meaning N.terms A.address) pass.new.moves }
         ensures faults { pass.old.faults ≤ pass.new.faults }
         ensures parts { pass.new.parts ≡ pass.old.parts }
-        ensures forked { IfOk result (ForkedAt (fix T.meaning N.limits A.address) new from.now pass.old pass.new) }
-        ensures refused { IfErr result (ForkRefusedAt (fix T.meaning N.limits A.address) N.opened new from.now pass.old pass.new) }
+        ensures forked { IfOk result (ForkedAt (fix T.meaning N.terms A.address) new from.now pass.old pass.new) }
+        ensures refused { IfErr result (ForkRefusedAt (fix T.meaning N.terms A.address) N.opened new from.now pass.old pass.new) }
         ensures rest { OnErr result (IsSeenOn pass.old pass.new) }
         ensures quiet { result ≢ Err ForkRefused.DiskFault → ((moves : ℕ) → result ≢ Err (ForkRefused.Failed moves)) → pass.new.faults ≡ 0 }
     {
@@ -235,7 +235,7 @@ impl<T: Mrdt, D: Disk + Drop, A: Address, N: Named<T::Op, T::Reply>> Shared<T, D
     /// `close_with` says it.
     pub fn close(self) -> Core<T, D, A>
         ensures history { IsPrefix N.begun result.history }
-        ensures limits { result.limits ≡ N.limits }
+        ensures terms { result.terms ≡ N.terms }
         ensures opened { D.faults result.opened ≡ N.opened }
     {
         let Shared {
@@ -253,13 +253,14 @@ impl<T: Mrdt, D: Disk + Drop, A: Address, N: Named<T::Op, T::Reply>> Shared<T, D
     }
 
     /// The core, how many moves landed since the store was shared, and how many of them the last pass, and those that
-    /// left into it, landed: all, where it holds all parts.
+    /// left into it, landed: all, where it holds all parts. None of these moves drops a branch.
     pub fn close_with(self, last: Pass<T, N>) -> Closed<T, D, A>
         ensures history { IsPrefix last.moves result.core.history }
         ensures begun { IsPrefix N.begun result.core.history }
-        ensures limits { result.core.limits ≡ N.limits }
+        ensures terms { result.core.terms ≡ N.terms }
         ensures opened { D.faults result.core.opened ≡ N.opened }
         ensures faults { last.faults ≤ faults_since D.faults result.core }
+        ensures drops_none { DropsNone N.begun result.core.history }
         ensures landed { length N.begun + result.landed ≡ length result.core.history }
         ensures receipts { result.receipts ≡ last.receipts }
         ensures all { last.parts ≡ N.parts → result.receipts ≡ result.landed }

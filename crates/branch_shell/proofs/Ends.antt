@@ -115,7 +115,7 @@ module _ (address : List ℕ → List ℕ) where
 
     module _ (l0 g0 : Option (List ℕ)) (first e : EngineView D) (pending : List ℕ) (read : ℕ) (l1 g1 : Option (List ℕ)) (r : IsReading may_leave moment left_since address first e pending read l0 l1 g0 g1) (store : DocStore) (at : IsAt may_leave (fixed_of address store) first (begins store.history)) where
       abbrev told : Tells may_leave moment left_since (lines_of r.done) first e g0 g1 (fixed_of address store) (begins store.history)
-      told = r.told store.limits (begins store.history) at
+      told = r.told store.terms (begins store.history) at
 
       abbrev said : List ℕ
       said = text_from (fixed_of address store) (begins store.history) (lines_of r.done)
@@ -195,7 +195,7 @@ module _ (address : List ℕ → List ℕ) where
             → WereRead l2 (r.done ++ more) (lines_of r.done ++ ls) → StopsLines may_leave moment left_since address ls e f g1 g2 status
             → Exchanges l0 l2 g0 g2 (Runs may_leave moment left_since address store first.core.disk f.core.disk l2 status)
         stopped f g2 gb gn db dn status ls stops small read_them s =
-            let x = stops-append may_leave moment left_since counts_now only_now address (lines_of r.done) ls first e f g0 g1 g2 status r.told s store.limits (begins store.history) at in (
+            let x = stops-append may_leave moment left_since counts_now only_now address (lines_of r.done) ls first e f g0 g1 g2 status r.told s store.terms (begins store.history) at in (
               r.done ++ more,
               text_from (fixed_of address store) (begins store.history) x.before ++ x.part,
               took_more,
@@ -246,7 +246,7 @@ module _ (address : List ℕ → List ℕ) where
           at_last : (f : EngineView D) (g2 : Option (List ℕ)) → TellsLines may_leave moment left_since address (lines_of more) e f g1 g2 → Exchanges l0 l2 g0 g2 (Runs may_leave moment left_since address store first.core.disk f.core.disk l2 Done)
           at_last f g2 tells =
               let ls : List (List ℕ) = lines_of r.done ++ lines_of more in
-              let x = tells-append may_leave moment left_since counts_now only_now address (lines_of r.done) (lines_of more) first e f g0 g1 g2 r.told tells store.limits (begins store.history) at in (
+              let x = tells-append may_leave moment left_since counts_now only_now address (lines_of r.done) (lines_of more) first e f g0 g1 g2 r.told tells store.terms (begins store.history) at in (
                 r.done ++ more,
                 text_from (fixed_of address store) (begins store.history) ls,
                 took_more,

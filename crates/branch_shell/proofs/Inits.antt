@@ -3,7 +3,8 @@ use Rattle.std.proofs.Common.{◌≡◌, ℕ, List, [], length, refl, ap, inl, i
 use Rattle.mrdt_model.specs.Laws.{Meaning}
 use Rattle.branch_disk.specs.Disk.{Files, LeavesOnly}
 use Rattle.branch_disk.specs.Moments.{weakened}
-use Rattle.branch_names.specs.declared.limits.Limits.{Limits}
+use Rattle.branch_names.specs.declared.terms.Terms.{Terms}
+use Rattle.branch_wire.specs.Fields.{version}
 use Rattle.branch_machine.specs.Fixed.{fix}
 use Rattle.branch_machine.specs.Validity.{IsFullyValid}
 use Rattle.branch_files.specs.Laws.{ReadsWhatStands}
@@ -20,32 +21,32 @@ has_bytes n files has empty =
     has.1 (omega (arith, has.0, objects, heads))
 
 module _ {S O R Q A : Type 0} (m : Meaning S O R Q A) (address : List ℕ → List ℕ) (stands : ReadsWhatStands m) (no_store : ReadsAsNoStore m) where
-  no_moves : (limits : Limits) → IsFullyValid (fix m limits address) []
+  no_moves : (terms : Terms) → IsFullyValid (fix m terms address) []
   unfolding IsFullyValid
-  no_moves limits = tt
+  no_moves terms = tt
 
-  pub empty_store : (limits : Limits) (P : Limits → Type 0) → P limits → (images : Files → Type 0) → AllStand (fix m limits address) [] images → (c : Files) → images c → ReadsAsEmpty m address P c
-  empty_store limits P is images all c image = (limits, is, stands limits address [] c (no_moves limits) (all c image))
+  pub empty_store : (terms : Terms) (P : Terms → Type 0) → P terms → (images : Files → Type 0) → AllStand (fix m terms address) [] images → (c : Files) → images c → ReadsAsEmpty m address P c
+  empty_store terms P is images all c image = (terms, is, stands terms address [] c (no_moves terms) (all c image))
 
-  none_or_empty : (limits : Limits) (P : Limits → Type 0) → P limits → (c : Files) → NoneOrEmpty (fix m limits address) c → ReadsAsNoneOrEmpty m address P c
-  none_or_empty limits P is c (inl none) = inl (no_store address c none)
-  none_or_empty limits P is c (inr empty) = inr (limits, is, stands limits address [] c (no_moves limits) empty)
+  none_or_empty : (terms : Terms) (P : Terms → Type 0) → P terms → (c : Files) → NoneOrEmpty (fix m terms address) c → ReadsAsNoneOrEmpty m address P c
+  none_or_empty terms P is c (inl none) = inl (no_store address c (λ there has. none (record { version = version; terms = there; kind = 0 }) has))
+  none_or_empty terms P is c (inr empty) = inr (terms, is, stands terms address [] c (no_moves terms) empty)
 
   module _ {D : Type 0} (may_leave : D → Files → Type 0) (moment : D → ℕ) (left_since : D → ℕ → Files → Type 0) where
-    pub made_empty : (limits : Limits) (P : Limits → Type 0) → P limits → (old new : D) → LeavesOnly moment left_since old new (NoneOrEmpty (fix m limits address)) → LeavesOnly moment left_since old new (ReadsAsNoneOrEmpty m address P)
-    made_empty limits P is old new all = weakened moment left_since old new (NoneOrEmpty (fix m limits address)) (ReadsAsNoneOrEmpty m address P) all (none_or_empty limits P is)
+    pub made_empty : (terms : Terms) (P : Terms → Type 0) → P terms → (old new : D) → LeavesOnly moment left_since old new (NoneOrEmpty (fix m terms address)) → LeavesOnly moment left_since old new (ReadsAsNoneOrEmpty m address P)
+    made_empty terms P is old new all = weakened moment left_since old new (NoneOrEmpty (fix m terms address)) (ReadsAsNoneOrEmpty m address P) all (none_or_empty terms P is)
 
 module _ {S O R Q A : Type 0} (m : Meaning S O R Q A) (address : List ℕ → List ℕ) where
   -- empty files read as no store
-  pub empty_reads : (P : Limits → Type 0) (c : Files) → IsEmpty c → ReadsAsNoneOrEmpty m address P c
+  pub empty_reads : (P : Terms → Type 0) (c : Files) → IsEmpty c → ReadsAsNoneOrEmpty m address P c
   empty_reads P c empty =
       let none : length c.heads ≡ 0 = ap length empty.1 in
-      inl (inl (refl, λ limits spans. omega (arith, spans.gate, none)))
+      inl (inl (refl, λ terms spans. omega (arith, spans.gate, none)))
 
-  -- limits of which this is true are such of which that is true
-  pub empty_map : (P Q : Limits → Type 0) → ((limits : Limits) → P limits → Q limits) → (c : Files) → ReadsAsEmpty m address P c → ReadsAsEmpty m address Q c
-  empty_map P Q f c (limits, is, reads) = (limits, f limits is, reads)
+  -- terms of which this is true are such of which that is true
+  pub empty_map : (P Q : Terms → Type 0) → ((terms : Terms) → P terms → Q terms) → (c : Files) → ReadsAsEmpty m address P c → ReadsAsEmpty m address Q c
+  empty_map P Q f c (terms, is, reads) = (terms, f terms is, reads)
 
-  pub none_or_empty_map : (P Q : Limits → Type 0) → ((limits : Limits) → P limits → Q limits) → (c : Files) → ReadsAsNoneOrEmpty m address P c → ReadsAsNoneOrEmpty m address Q c
+  pub none_or_empty_map : (P Q : Terms → Type 0) → ((terms : Terms) → P terms → Q terms) → (c : Files) → ReadsAsNoneOrEmpty m address P c → ReadsAsNoneOrEmpty m address Q c
   none_or_empty_map P Q f c (inl none) = inl none
   none_or_empty_map P Q f c (inr empty) = inr (empty_map P Q f c empty)

@@ -5,7 +5,7 @@ use Rattle.branch_disk.specs.Disk.{Files}
 use Rattle.branch_disk.specs.Moments.{started}
 use Rattle.branch_doc.specs.Document.{document}
 use Rattle.branch_files.specs.Reading.{Opens}
-use Rattle.branch_names.specs.declared.limits.Limits.{Limits}
+use Rattle.branch_names.specs.declared.terms.Terms.{Terms}
 use Rattle.branch_engine.specs.Play.{History}
 use Rattle.branch_shell.specs.declared.status.Status.{Status}
 use Rattle.branch_shell.specs.declared.status.Status.TheVariants.{Done, Usage, StoreRefused, DiskFault, ReadFault, WriteFault, LineTooLong, InputTooLong, Memory}
@@ -17,18 +17,18 @@ use Rattle.branch_shell.specs.Stores.{IsOpenedAs, SaysRefused}
 module _ (address : List ℕ → List ℕ) {D : Type 0} (disk : Ghosts D)
     (counts_now : (d : D) (t : ℕ) (c : Files) → t ≤ disk.moment d → disk.may_leave d c → disk.left_since d t c)
     (only_now : (d : D) (c : Files) → disk.left_since d (disk.moment d) c → disk.may_leave d c) where
-  abbrev stored : Limits → History → DocStore
-  stored limits history = record { limits = limits; history = history }
+  abbrev stored : Terms → History → DocStore
+  stored terms history = record { terms = terms; history = history }
 
   -- the store that opening found is the one as which the files read
   pub store_read : (old : D) (store found : DocStore) → HoldsStore disk address old store
       → IsOpenedAs document address (disk.contents old) found → found ≡ store
   store_read old store found holds opened =
-      let same : Opens store.limits store.history ≡ Opens found.limits found.history =
-      opened.only holds.files holds.told (Opens store.limits store.history) holds.reads in
-      let limits : found.limits ≡ store.limits = cc same in
+      let same : Opens store.terms store.history ≡ Opens found.terms found.history =
+      opened.only holds.files holds.told (Opens store.terms store.history) holds.reads in
+      let terms : found.terms ≡ store.terms = cc same in
       let history : found.history ≡ store.history = cc same in
-      ap (λ (l : Limits). stored l found.history) limits ∙ ap (stored store.limits) history
+      ap (λ (l : Terms). stored l found.history) terms ∙ ap (stored store.terms) history
 
   -- nothing was done
   pub untouched : (old : D) → LeavesAsBefore disk old old
@@ -38,7 +38,7 @@ module _ (address : List ℕ → List ℕ) {D : Type 0} (disk : Ghosts D)
   no_refusal : (old : D) (store : DocStore) (text : List ℕ) → HoldsStore disk address old store
       → SaysRefused document address (disk.contents old) text → ⊥
   no_refusal old store text holds says =
-      says.1.no_store holds.files holds.told store.limits store.history holds.reads
+      says.1.no_store holds.files holds.told store.terms store.history holds.reads
 
   -- what was written of a store that was not opened: nothing
   no_text : (old : D) (store : DocStore) (status : Status) (text : List ℕ) → HoldsStore disk address old store

@@ -96,6 +96,7 @@ stops_map P Q Memory f stops = stops
 module _ {S O R Q A : Type 0} (on : Setting S O R Q A) (old new : List (Move O R)) (faults count steps number : ℕ) (outcomes : List Outcome) (worked : HaveWorked on old new faults count steps number outcomes) where
   finds_branch : (client step : ℕ) (refusal : ClientRefusal) (places : List ℕ) → HasWorked on old new faults (client_steps client steps number) (outcome.Refused step refusal places) → FindsBranch refusal
   finds_branch client step (refused.UnknownBranch name) places h = h.may
+  finds_branch client step (refused.Dropped branch) places h = tt
   finds_branch client step (refused.Exhausted clock) places h = tt
   finds_branch client step (refused.FullCommits n) places h = tt
   finds_branch client step (refused.FullBranches n) places h = tt
@@ -117,6 +118,7 @@ module _ {S O R Q A : Type 0} (on : Setting S O R Q A) (old new : List (Move O R
   fault_of_step : (client step : ℕ) (refusal : ClientRefusal) (places : List ℕ) → HasWorked on old new faults (client_steps client steps number) (outcome.Refused step refusal places) → IsFault refusal
       → Rose on.opened (on.opened + faults)
   fault_of_step client step (refused.UnknownBranch name) places h fault = absurd fault
+  fault_of_step client step (refused.Dropped branch) places h fault = absurd fault
   fault_of_step client step (refused.Exhausted clock) places h fault = absurd fault
   fault_of_step client step (refused.FullCommits n) places h fault = absurd fault
   fault_of_step client step (refused.FullBranches n) places h fault = absurd fault
@@ -139,11 +141,11 @@ module _ {S O R Q A : Type 0} (on : Setting S O R Q A) (old new : List (Move O R
 -- what may be left of a store reads as it, after a fault of the disk with or without a move behind its history
 module _ (address : List ℕ → List ℕ) (reads : ReadsWhatStands document) (store : DocStore) (history : History) (valid : IsFullyValid (fixed_of address store) history) where
   pub reads_failed : (c : Files) → MayBeLeft (fixed_of address store) history c → ReadsUpTo address store history DiskFault c
-  reads_failed c (inl stands) = inl (reads store.limits address history c valid stands)
-  reads_failed c (inr more) = inr (refl, (more.0, reads store.limits address (history ++ more.0 ∷ []) c more.2 more.1))
+  reads_failed c (inl stands) = inl (reads store.terms address history c valid stands)
+  reads_failed c (inr more) = inr (refl, (more.0, reads store.terms address (history ++ more.0 ∷ []) c more.2 more.1))
 
   pub reads_all : (images : Files → Type 0) → AllStand (fixed_of address store) history images → (c : Files) → images c → ReadsAsStore document address (with_history store history) c
-  reads_all images stand c left = reads store.limits address history c valid (stand c left)
+  reads_all images stand c left = reads store.terms address history c valid (stand c left)
 
 -- the history that a store came to by clients, or by none
 pub came_together : {E : Type 0} (address : List ℕ → List ℕ) (store : DocStore) (clients : Clients) (history : History) (opened since : ℕ) (r : Result (List Outcome) E) → IsPrefix store.history history → IsFullyValid (fixed_of address store) history

@@ -8,7 +8,7 @@ use Rattle.branch_disk.specs.Disk.{Files}
 use Rattle.branch_disk.specs.Moments.{weakened}
 use Rattle.branch_doc.specs.Document.{document}
 use Rattle.store_core.specs.Opens.{ReadsAsNone}
-use Rattle.branch_command.specs.Numbers.{Numbers, AreLimits}
+use Rattle.branch_command.specs.Numbers.{Numbers}
 use Rattle.branch_command.specs.Work.{Clients as ClientsGiven}
 use Rattle.branch_command.specs.Commands.{Said, Init, Script, Check, Generate, Clients, Help}
 use Rattle.branch_shell.specs.declared.status.Status.{Status}
@@ -19,7 +19,7 @@ use Rattle.branch_shell.specs.Stores.{SaysReady, SaysNotEmpty, SaysReport, SaysR
 use Rattle.branch_shell.specs.Documents.{DocStore}
 use Rattle.branch_shell.specs.Together.{RanTogether, SaysTogether, LeftTogether}
 use Rattle.branch_shell.specs.Statuses.{Wrote, ScriptWrote, Holds}
-use Rattle.branch_shell.specs.Ran.{LeavesAsBefore, LeavesInit, LeavesChecked, Ran}
+use Rattle.branch_shell.specs.Ran.{AreTerms, LeavesAsBefore, LeavesInit, LeavesChecked, Ran}
 use Rattle.branch_shell.proofs.Once.{wrote_map}
 use Rattle.branch_shell.proofs.Said.{one_command}
 use Rattle.branch_shell.proofs.Inits.{empty_reads}
@@ -72,7 +72,7 @@ module _ (address : List ℕ → List ℕ) {D : Type 0} (disk : Ghosts D)
 
   module _ (old new : D) (status : Status) (l g0 g1 : Option (List ℕ)) where
     pub init_ran : (n : Numbers) → Answers (SaysReady (disk.contents old)) (SaysNotEmpty (disk.contents old)) status g0 g1
-        → LeavesInit disk address (AreLimits n) old new status → (status ≡ StoreRefused → LeavesAsBefore disk old new)
+        → LeavesInit disk address (AreTerms n) old new status → (status ≡ StoreRefused → LeavesAsBefore disk old new)
         → Exchanges l l g0 g1 (Ran disk address (Init n) old new l status)
     init_ran n w leaves refused = ([], w.0, Consumes-nil l, w.1, record { wrote = (refl, w.2); leaves = leaves; refused = refused })
 
@@ -134,8 +134,8 @@ module _ (address : List ℕ → List ℕ) {D : Type 0} (disk : Ghosts D)
         record {
           wrote = (refl, refl);
           leaves = record {
-            any_moment = λ empty. weakened disk.moment disk.left_since old old (disk.may_leave old) (ReadsAsNoneOrEmpty document address (AreLimits n))
-                same (λ c was. empty_reads document address (AreLimits n) c (empty c was));
+            any_moment = λ empty. weakened disk.moment disk.left_since old old (disk.may_leave old) (ReadsAsNoneOrEmpty document address (AreTerms n))
+                same (λ c was. empty_reads document address (AreTerms n) c (empty c was));
             made = λ done. absurd (cc);
             kept = λ files told full. same;
           };

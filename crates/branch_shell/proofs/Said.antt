@@ -3,12 +3,15 @@ use Rattle.std.proofs.Common.{◌≡◌, ℕ, refl, sym, subst, ◌∙◌, ap}
 use Rattle.std.specs.Prelude.{Option, Some, None, IfSome, IfNone, String}
 use Rattle.std.specs.declared.alloc.Global.{Global}
 use Rattle.branch_names.specs.declared.limits.Limits.{Limits}
+use Rattle.branch_names.specs.declared.terms.Terms.{Terms}
 use Rattle.branch_command.specs.declared.command.Command.{Command}
 use Rattle.branch_command.specs.declared.command.Command.TheVariants as read
 use Rattle.branch_command.specs.Numbers.{Numbers, AreLimits}
 use Rattle.branch_command.specs.Work.{Work, Clients as ClientsGiven}
 use Rattle.branch_command.specs.Commands.{Said, Init, Script, Check, Generate, Clients, Help, Means}
 use Rattle.branch_shell.specs.Alone.{alone}
+use Rattle.branch_shell.specs.Stores.{AreUnder}
+use Rattle.branch_shell.specs.Ran.{AreTerms}
 
 is_init : (said : Said) (limits : Limits) → Means said (read.Init limits) → (n : Numbers) × (said ≡ Init n) × AreLimits n limits
 is_init (Init n) limits means = (n, refl, means)
@@ -95,12 +98,15 @@ module _ (words : Option Said) where
   pub same_numbers : (m n : Numbers) → words ≡ Some (Init m) → words ≡ Some (Init n) → m ≡ n
   same_numbers m n x y = cc (x, y)
 
-  -- limits that are those of the command have the numbers that were said
-  pub limits_said : (command : Command) (limits : Limits) → command ≡ read.Init limits → Reads words command → (n : Numbers) → words ≡ Some (Init n) → (l : Limits) → l ≡ limits → AreLimits n l
-  limits_said command limits is r n said l same =
+  -- terms under the limits of the command have the numbers that were said
+  pub terms_said : (command : Command) (limits : Limits) → command ≡ read.Init limits → Reads words command → (n : Numbers) → words ≡ Some (Init n) → (terms : Terms) → AreUnder limits terms → AreTerms n terms
+  terms_said command limits is r n said terms under =
       let i = said_init command limits is r in
       let numbers : i.0 ≡ n = same_numbers i.0 n i.1 said in
-      subst (AreLimits n) (sym same) (subst (λ (m : Numbers). AreLimits m limits) numbers i.2)
+      record {
+        limits = subst (AreLimits n) (sym under.limits_are) (subst (λ (m : Numbers). AreLimits m limits) numbers i.2);
+        origin = under.origin;
+      }
 
 -- clients are no command that needs no threads
 pub never_alone : (words : Option Said) (clients : ClientsGiven) → alone words ≡ Some (Clients clients) → ⊥

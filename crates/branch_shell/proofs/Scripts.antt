@@ -8,7 +8,7 @@ use Rattle.branch_disk.specs.Disk.{Files, LeavesOnly}
 use Rattle.branch_doc.specs.Document.{document}
 use Rattle.branch_files.specs.Reading.{Opens}
 use Rattle.branch_script.specs.Lines.{lines_of}
-use Rattle.branch_names.specs.declared.limits.Limits.{Limits}
+use Rattle.branch_names.specs.declared.terms.Terms.{Terms}
 use Rattle.branch_command.specs.Commands.{Script}
 use Rattle.branch_engine.specs.Play.{History, begins, text_from, after_from}
 use Rattle.branch_shell.specs.declared.status.Status.{Status}
@@ -75,15 +75,15 @@ module _ (address : List ℕ → List ℕ) where
         → Exchanges l0 l1 g0 g2 (Runs may_leave moment left_since address store old new l1 status)
     finished store old new l0 l1 g0 g1 g2 status keeps e = (e.0, e.1, e.2, Appends-kept g0 g1 g2 e.1 e.3 keeps, e.4)
 
-    abbrev stored : Limits → History → DocStore
-    stored limits history = record { limits = limits; history = history }
+    abbrev stored : Terms → History → DocStore
+    stored terms history = record { terms = terms; history = history }
 
     pub same_store : (disk : D) (store found : DocStore) → Holds contents may_leave address disk store → IsOpenedAs document address (contents disk) found → found ≡ store
     same_store disk store found holds opened =
-        let same : Opens store.limits store.history ≡ Opens found.limits found.history = opened.only holds.files holds.told (Opens store.limits store.history) holds.reads in
-        let limits : found.limits ≡ store.limits = cc same in
+        let same : Opens store.terms store.history ≡ Opens found.terms found.history = opened.only holds.files holds.told (Opens store.terms store.history) holds.reads in
+        let terms : found.terms ≡ store.terms = cc same in
         let history : found.history ≡ store.history = cc same in
-        ap (λ (l : Limits). stored l found.history) limits ∙ ap (stored store.limits) history
+        ap (λ (l : Terms). stored l found.history) terms ∙ ap (stored store.terms) history
 
   -- from the opening of the store on
   module _ {D : Type 0} (disk : Ghosts D)
@@ -117,7 +117,7 @@ module _ (address : List ℕ → List ℕ) where
         leaves = record {
           over = script_over;
           none = λ files told none. absurd {A = LeavesAsBefore disk old new}
-              (none found.limits found.history (is.reads files told));
+              (none found.terms found.history (is.reads files told));
         };
         refused = λ refused. absurd {A = LeavesAsBefore disk old new} (never_refused refused);
       }

@@ -88,8 +88,8 @@ module _ {D : Type 0} (may_leave : D → Files → Type 0) (moment : D → ℕ) 
     (only_now : (d : D) (c : Files) → left_since d (moment d) c → may_leave d c) where
   -- no line was told
   pub tells-none : (address : List ℕ → List ℕ) (a : EngineView D) (f : Option (List ℕ)) → TellsLines may_leave moment left_since address [] a a f f
-  tells-none address a f limits p at =
-      let fixed = doc_fixed address limits in
+  tells-none address a f terms p at =
+      let fixed = doc_fixed address terms in
       record {
         at = at;
         gave = Appends-nil f;
@@ -130,15 +130,15 @@ module _ {D : Type 0} (may_leave : D → Files → Type 0) (moment : D → ℕ) 
 
   pub tells-append : (address : List ℕ → List ℕ) (ls ms : List (List ℕ)) (a b c : EngineView D) (f g h : Option (List ℕ)) → TellsLines may_leave moment left_since address ls a b f g
       → TellsLines may_leave moment left_since address ms b c g h → TellsLines may_leave moment left_since address (ls ++ ms) a c f h
-  tells-append address ls ms a b c f g h first second limits p at =
-      let fixed = doc_fixed address limits in
-      let x = first limits p at in tells_behind fixed p ls ms a b c f g x h (second limits (after_from fixed p ls) x.at)
+  tells-append address ls ms a b c f g h first second terms p at =
+      let fixed = doc_fixed address terms in
+      let x = first terms p at in tells_behind fixed p ls ms a b c f g x h (second terms (after_from fixed p ls) x.at)
 
   pub stops-append : (address : List ℕ → List ℕ) (ls ms : List (List ℕ)) (a b c : EngineView D) (f g h : Option (List ℕ)) (status : Status) → TellsLines may_leave moment left_since address ls a b f g
       → StopsLines may_leave moment left_since address ms b c g h status → StopsLines may_leave moment left_since address (ls ++ ms) a c f h status
-  stops-append address ls ms a b c f g h status first second limits p at =
-      let fixed = doc_fixed address limits in
-      let x = first limits p at in stops_behind fixed p ls ms a b c f g x h status (second limits (after_from fixed p ls) x.at)
+  stops-append address ls ms a b c f g h status first second terms p at =
+      let fixed = doc_fixed address terms in
+      let x = first terms p at in stops_behind fixed p ls ms a b c f g x h status (second terms (after_from fixed p ls) x.at)
 
   -- one line, by what the engine says of it
   module _ (line : List ℕ) (a b : EngineView D) (fixed : DocFixed) (p : Play) (moments : LeavesOnly moment left_since a.core.disk b.core.disk (ReadAsEither fixed p.moves (line_told fixed p line).after.moves)) where

@@ -5,7 +5,7 @@ use Rattle.std.specs.List.{list_any}
 use Rattle.std.proofs.lemmas.Bool.{or_parts}
 use Rattle.branch_disk.specs.Disk.{Files, LeavesOnly}
 use Rattle.branch_disk.specs.Moments.{weakened}
-use Rattle.branch_names.specs.declared.limits.Limits.{Limits}
+use Rattle.branch_names.specs.declared.terms.Terms.{Terms}
 use Rattle.branch_print.specs.declared.summaries.Summary.{Summary}
 use Rattle.branch_print.specs.Summaries.{summary_of}
 use Rattle.branch_engine.specs.Play.{DocFixed, Play, line_told, after_from}
@@ -68,38 +68,38 @@ module _ {D : Type 0} (may_leave : D → Files → Type 0) (moment : D → ℕ) 
     (counts_now : (d : D) (t : ℕ) (c : Files) → t ≤ moment d → may_leave d c → left_since d t c)
     (only_now : (d : D) (c : Files) → left_since d (moment d) c → may_leave d c) (address : List ℕ → List ℕ) where
   pub counts-none : (a : EngineView D) (s : Summary) → CountsLines may_leave address [] a s s
-  counts-none a s limits p at replies is = is ∙ ap summary_of (sym (append-nil replies))
+  counts-none a s terms p at replies is = is ∙ ap summary_of (sym (append-nil replies))
 
   pub counts-append : (ls ms : List (List ℕ)) (a b c : EngineView D) (s t u : Summary) → TellsLines may_leave moment left_since address ls a b None None
       → CountsLines may_leave address ls a s t → CountsLines may_leave address ms b t u → CountsLines may_leave address (ls ++ ms) a s u
-  counts-append ls ms a b c s t u told first second limits p at replies is =
-      let fixed = doc_fixed address limits in
+  counts-append ls ms a b c s t u told first second terms p at replies is =
+      let fixed = doc_fixed address terms in
       let mid = after_from fixed p ls in
-      second limits mid (told limits p at).at (replies ++ replies_from fixed p ls) (first limits p at replies is)
+      second terms mid (told terms p at).at (replies ++ replies_from fixed p ls) (first terms p at replies is)
       ∙ ap summary_of (append_assoc replies (replies_from fixed p ls) (replies_from fixed mid ms) ∙ ap (λ r. replies ++ r) (sym (replies_from-append fixed p ls ms)))
 
   -- at each moment of telling one line
   pub leaves_line : (line : List ℕ) (a b : EngineView D)
-      → ((limits : Limits) (p : Play) → IsAt may_leave (doc_fixed address limits) a p → LeavesOnly moment left_since a.core.disk b.core.disk (ReadAsEither (doc_fixed address limits) p.moves (line_told (doc_fixed address limits) p line).after.moves))
+      → ((terms : Terms) (p : Play) → IsAt may_leave (doc_fixed address terms) a p → LeavesOnly moment left_since a.core.disk b.core.disk (ReadAsEither (doc_fixed address terms) p.moves (line_told (doc_fixed address terms) p line).after.moves))
       → LeavesSome may_leave moment left_since address (line ∷ []) a b
-  leaves_line line a b moments limits p at =
-      let fixed = doc_fixed address limits in
-      weakened moment left_since a.core.disk b.core.disk (ReadAsEither fixed p.moves (line_told fixed p line).after.moves) (ReadsAfterSome fixed p (line ∷ []) []) (moments limits p at) (one_line fixed p line)
+  leaves_line line a b moments terms p at =
+      let fixed = doc_fixed address terms in
+      weakened moment left_since a.core.disk b.core.disk (ReadAsEither fixed p.moves (line_told fixed p line).after.moves) (ReadsAfterSome fixed p (line ∷ []) []) (moments terms p at) (one_line fixed p line)
 
   -- of lines behind others
   pub leaves-append : (ls ms : List (List ℕ)) (a b c : EngineView D) → TellsLines may_leave moment left_since address ls a b None None
       → LeavesSome may_leave moment left_since address ms b c → LeavesSome may_leave moment left_since address (ls ++ ms) a c
-  leaves-append ls ms a b c told second limits p at =
-      let fixed = doc_fixed address limits in
-      let x = told limits p at in
-      moments_behind may_leave moment left_since counts_now only_now fixed p ls ms a b c None None x (second limits (after_from fixed p ls) x.at)
+  leaves-append ls ms a b c told second terms p at =
+      let fixed = doc_fixed address terms in
+      let x = told terms p at in
+      moments_behind may_leave moment left_since counts_now only_now fixed p ls ms a b c None None x (second terms (after_from fixed p ls) x.at)
 
   -- and of more lines
   pub leaves_more : (ls ms : List (List ℕ)) (a b : EngineView D) → LeavesSome may_leave moment left_since address ls a b → LeavesSome may_leave moment left_since address (ls ++ ms) a b
-  leaves_more ls ms a b moments limits p at =
-      let fixed = doc_fixed address limits in
-      weakened moment left_since a.core.disk b.core.disk (ReadsAfterSome fixed p ls []) (ReadsAfterSome fixed p (ls ++ ms) []) (moments limits p at) (more_lines fixed p ls ms [])
+  leaves_more ls ms a b moments terms p at =
+      let fixed = doc_fixed address terms in
+      weakened moment left_since a.core.disk b.core.disk (ReadsAfterSome fixed p ls []) (ReadsAfterSome fixed p (ls ++ ms) []) (moments terms p at) (more_lines fixed p ls ms [])
 
   -- those of lines that were told
   pub leaves_told : (ls : List (List ℕ)) (a b : EngineView D) → TellsLines may_leave moment left_since address ls a b None None → LeavesSome may_leave moment left_since address ls a b
-  leaves_told ls a b told limits p at = (told limits p at).moments
+  leaves_told ls a b told terms p at = (told terms p at).moments

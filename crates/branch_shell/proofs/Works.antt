@@ -56,9 +56,9 @@ never_refused P status g0 g1 w is = subst (λ (s : Status). WroteOnce P (λ whol
 
 module _ (address : List ℕ → List ℕ) where
   pub work_said : (store : DocStore) (lines : List (List ℕ)) (summary : Summary) (history : History) → summary ≡ summary_of (replies_over address store lines)
-      → history ≡ (after_from (fixed_of address store) (begins store.history) lines).moves → (whole : List ℕ) → whole ≡ (summary_text summary ++ line_end) ++ report_text history → whole ≡ work_text address store lines
+      → history ≡ (after_from (fixed_of address store) (begins store.history) lines).moves → (whole : List ℕ) → whole ≡ (summary_text summary ++ line_end) ++ report_text store.terms.origin history → whole ≡ work_text address store lines
   work_said store lines summary history counted after whole is =
-      is ∙ ap₂ (λ (s : Summary) (h : History). (summary_text s ++ line_end) ++ report_text h) counted (after ∙ after_lines-is address store lines)
+      is ∙ ap₂ (λ (s : Summary) (h : History). (summary_text s ++ line_end) ++ report_text store.terms.origin h) counted (after ∙ after_lines-is address store lines)
 
   module _ {D : Type 0} (contents : D → Option Files) (may_leave : D → Files → Type 0) (moment : D → ℕ) (left_since : D → ℕ → Files → Type 0)
       (counts_now : (d : D) (t : ℕ) (c : Files) → t ≤ moment d → may_leave d c → left_since d t c) where
@@ -66,16 +66,16 @@ module _ (address : List ℕ → List ℕ) where
     pub survives_told : (store : DocStore) (lines : List (List ℕ)) (old new : EngineView D) (status : Status) → IsAt may_leave (fixed_of address store) old (begins store.history)
         → TellsLines may_leave moment left_since address lines old new None None → SurvivesWork may_leave moment left_since address store lines old.core.disk new.core.disk status
     survives_told store lines old new status at told =
-        let t = told store.limits (begins store.history) at in
+        let t = told store.terms (begins store.history) at in
         record {
           any_moment = t.moments;
-          complete = λ done c left. subst (λ (h : History). ReadsAsStore document address (record { limits = store.limits; history = h }) c) (after_lines-is address store lines) (t.at.images c left);
+          complete = λ done c left. subst (λ (h : History). ReadsAsStore document address (record { terms = store.terms; history = h }) c) (after_lines-is address store lines) (t.at.images c left);
         }
 
     -- or some of them
     pub survives_stopped : (store : DocStore) (lines : List (List ℕ)) (old new : EngineView D) (status : Status) → IsAt may_leave (fixed_of address store) old (begins store.history)
         → LeavesSome may_leave moment left_since address lines old new → status ≢ Done → SurvivesWork may_leave moment left_since address store lines old.core.disk new.core.disk status
-    survives_stopped store lines old new status at moments undone = record { any_moment = moments store.limits (begins store.history) at; complete = λ done. absurd (undone done) }
+    survives_stopped store lines old new status at moments undone = record { any_moment = moments store.terms (begins store.history) at; complete = λ done. absurd (undone done) }
 
   -- from the opening of the store on
   module _ {D : Type 0} (disk : Ghosts D)
@@ -113,7 +113,7 @@ module _ (address : List ℕ → List ℕ) where
         leaves = record {
           over = work_over;
           none = λ files says none. absurd {A = LeavesAsBefore disk old new}
-              (none found.limits found.history (is.reads files says));
+              (none found.terms found.history (is.reads files says));
         };
         refused = λ refused. absurd {A = LeavesAsBefore disk old new}
             (subst (λ (s : Status). WroteOnce (λ whole. whole ≡ work_text address found (drawn_lines work)) (λ whole. ⊥) s text) refused w);

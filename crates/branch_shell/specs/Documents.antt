@@ -10,7 +10,7 @@ abbrev pub DocStore : Type 0
 DocStore = Stored DocOp DocReply
 
 abbrev pub fixed_of : (List ℕ → List ℕ) → DocStore → DocFixed
-fixed_of address store = doc_fixed address store.limits
+fixed_of address store = doc_fixed address store.terms
 
 -- the text of lines over a store
 abbrev pub script_text : (List ℕ → List ℕ) → DocStore → List (List ℕ) → List ℕ
@@ -19,7 +19,7 @@ script_text address store lines = text_of (fixed_of address store) store.history
 -- the store after lines
 abbrev pub store_after : (List ℕ → List ℕ) → DocStore → List (List ℕ) → DocStore
 store_after address store lines = record {
-  limits = store.limits;
+  terms = store.terms;
   history = after_lines (fixed_of address store) store.history lines;
 }
 

@@ -24,7 +24,7 @@ drawn_lines work = lines_of (drawn.script_text work.steps work.number)
 -- what came of lines over a store, and then the report of the store after them
 abbrev pub work_text : (List ℕ → List ℕ) → DocStore → List (List ℕ) → List ℕ
 work_text address store lines = (summary_text (summary_of (replies_over address store lines))
-    ++ line_end) ++ report_text (store_after address store lines).history
+    ++ line_end) ++ report_text store.terms.origin (store_after address store lines).history
 
 -- what came of the drawn lines over the store that opening found, and the report of the store after
 -- them

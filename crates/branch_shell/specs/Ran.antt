@@ -5,12 +5,12 @@ use Rattle.std.specs.declared.option.Option.{Option}
 use Rattle.branch_disk.specs.declared.disk.Disk.{Ghosts}
 use Rattle.branch_disk.specs.Disk.{Files, LeavesOnly}
 use Rattle.branch_doc.specs.Document.{document}
-use Rattle.branch_names.specs.declared.limits.Limits.{Limits}
+use Rattle.branch_names.specs.declared.terms.Terms.{Terms}
 use Rattle.branch_script.specs.Lines.{lines_of}
 use Rattle.store_core.specs.Inits.{IsEmpty}
 use Rattle.store_core.specs.Opens.{ReadsAsNone}
 use Rattle.branch_command.specs.Commands.{Said, Init, Script, Check, Generate, Clients, Help}
-use Rattle.branch_command.specs.Numbers.{AreLimits}
+use Rattle.branch_command.specs.Numbers.{Numbers, AreLimits}
 use Rattle.branch_command.specs.Work.{Clients as ClientsGiven}
 use Rattle.branch_shell.specs.declared.status.Status.{Status}
 use Rattle.branch_shell.specs.declared.status.Status.TheVariants.{Done, StoreRefused, DiskFault, Memory}
@@ -83,7 +83,7 @@ pub record LeavesStore {D : Type 0} (disk : Ghosts D) (address : List ℕ → Li
 -- What `init` leaves: where each image was empty, no store or one of no moves at each moment; after
 -- `Done` the latter; and of files with a byte only what a crash might have left before.
 pub record LeavesInit {D : Type 0} (disk : Ghosts D) (address : List ℕ → List ℕ)
-    (P : Limits → Type 0) (old new : D) (status : Status) : Type 0 where
+    (P : Terms → Type 0) (old new : D) (status : Status) : Type 0 where
   pub any_moment : ((c : Files) → disk.may_leave old c → IsEmpty c)
       → LeavesOnly disk.moment disk.left_since old new (ReadsAsNoneOrEmpty document address P)
   pub made : status ≡ Done → (c : Files) → disk.may_leave new c → ReadsAsEmpty document address P c
@@ -109,11 +109,16 @@ pub record LeavesTogether {D : Type 0} (disk : Ghosts D) (address : List ℕ →
   pub none : (files : Files) → disk.contents old ≡ Some files → ReadsAsNone document address files
       → LeavesAsBefore disk old new
 
+-- the terms of a new store: its limits have the numbers that were said, and its first origin is 0
+pub record AreTerms (numbers : Numbers) (terms : Terms) : Type 0 where
+  pub limits : AreLimits numbers terms.limits
+  pub origin : terms.origin ≡ 0
+
 -- what a crash leaves of the disk of a command
 abbrev pub Leaves : {D : Type 0} → Ghosts D → (List ℕ → List ℕ) → Said → D → D → Option (List ℕ)
     → Status → List ℕ → List ℕ → Type 0
 Leaves disk address (Init numbers) old new left status input text =
-    LeavesInit disk address (AreLimits numbers) old new status
+    LeavesInit disk address (AreTerms numbers) old new status
 Leaves disk address Script old new left status input text =
     LeavesStore disk address old new
     (λ store. LeavesScript disk address store old new left status input text)

@@ -5,6 +5,7 @@ use Rattle.std.specs.Option.{ForSome}
 use Rattle.mrdt_model.specs.Laws.{Meaning}
 use Rattle.branch_disk.specs.Disk.{Files}
 use Rattle.branch_names.specs.declared.limits.Limits.{Limits}
+use Rattle.branch_names.specs.declared.terms.Terms.{Terms}
 use Rattle.branch_history.specs.declared.moves.Move.{Move}
 use Rattle.branch_machine.specs.Fixed.{fix}
 use Rattle.branch_machine.specs.Validity.{IsFullyValid}
@@ -13,24 +14,24 @@ use Rattle.branch_print.specs.Reports.{report_text, ready_text, not_empty_text, 
 use Rattle.store_core.specs.Inits.{IsEmpty}
 use Rattle.store_core.specs.Opens.{ReadsOnlyAs, ReadsAsNone}
 
--- a store: its limits and its history
+-- a store: its terms and its history
 pub record Stored (O R : Type 0) : Type 0 where
-  pub limits : Limits
+  pub terms : Terms
   pub history : List (Move O R)
 
 -- the files read as the store
 abbrev pub ReadsAsStore : {S O R Q A : Type 0} → Meaning S O R Q A → (List ℕ → List ℕ) → Stored O R
     → Files → Type 0
 ReadsAsStore meaning address store files = ReadsAs meaning address files
-    (Opens store.limits store.history)
+    (Opens store.terms store.history)
 
 -- The store that opening found: its history is valid and, of a disk that tells, the files read as
 -- the store and as nothing else.
 pub record IsOpenedAs {S O R Q A : Type 0} (meaning : Meaning S O R Q A) (address : List ℕ → List ℕ)
     (told : Option Files) (store : Stored O R) : Type 0 where
-  pub valid : IsFullyValid (fix meaning store.limits address) store.history
+  pub valid : IsFullyValid (fix meaning store.terms address) store.history
   pub reads : ForSome told (ReadsAsStore meaning address store)
-  pub only : ForSome told (ReadsOnlyAs meaning address (Opens store.limits store.history))
+  pub only : ForSome told (ReadsOnlyAs meaning address (Opens store.terms store.history))
 
 -- Why opening was refused: of a disk that tells, the files read as this answer, and as no store.
 pub record IsRefusedAs {S O R Q A : Type 0} (meaning : Meaning S O R Q A)
@@ -40,7 +41,7 @@ pub record IsRefusedAs {S O R Q A : Type 0} (meaning : Meaning S O R Q A)
 
 -- the text of why files are refused; what opens is not
 abbrev pub IsRefusalText : {O R : Type 0} → Answer O R → List ℕ → Type 0
-IsRefusalText (Opens limits history) text = ⊥
+IsRefusalText (Opens terms history) text = ⊥
 IsRefusalText NotAStore text = text ≡ no_store_text
 IsRefusalText (BadRecord number) text = text ≡ bad_record_text number
 IsRefusalText (BadObject place) text = text ≡ bad_object_text place
@@ -56,7 +57,7 @@ SaysRefused {S} {O} {R} meaning address told text = (answer : Answer O R)
 abbrev pub SaysReport : {S O R Q A : Type 0} → Meaning S O R Q A → (List ℕ → List ℕ) → Option Files
     → List ℕ → Type 0
 SaysReport {S} {O} {R} meaning address told text = (store : Stored O R)
-    × IsOpenedAs meaning address told store × (text ≡ report_text store.history)
+    × IsOpenedAs meaning address told store × (text ≡ report_text store.terms.origin store.history)
 
 abbrev pub SaysReady : Option Files → List ℕ → Type 0
 SaysReady told text = ForSome told IsEmpty × (text ≡ ready_text)
@@ -64,14 +65,19 @@ SaysReady told text = ForSome told IsEmpty × (text ≡ ready_text)
 abbrev pub SaysNotEmpty : Option Files → List ℕ → Type 0
 SaysNotEmpty told text = ForSome told (λ files. ¬ IsEmpty files) × (text ≡ not_empty_text)
 
--- the files read as a store of no moves, of whose limits this is true
+-- the terms whose limits are these, and whose first origin is 0
+pub record AreUnder (limits : Limits) (terms : Terms) : Type 0 where
+  pub limits_are : terms.limits ≡ limits
+  pub origin : terms.origin ≡ 0
+
+-- the files read as a store of no moves, of whose terms this is true
 abbrev pub ReadsAsEmpty : {S O R Q A : Type 0} → Meaning S O R Q A → (List ℕ → List ℕ)
-    → (Limits → Type 0) → Files → Type 0
-ReadsAsEmpty meaning address P files = (limits : Limits) × P limits
-    × ReadsAs meaning address files (Opens limits [])
+    → (Terms → Type 0) → Files → Type 0
+ReadsAsEmpty meaning address P files = (terms : Terms) × P terms
+    × ReadsAs meaning address files (Opens terms [])
 
 -- a crash left no store, or one of no moves
 abbrev pub ReadsAsNoneOrEmpty : {S O R Q A : Type 0} → Meaning S O R Q A → (List ℕ → List ℕ)
-    → (Limits → Type 0) → Files → Type 0
+    → (Terms → Type 0) → Files → Type 0
 ReadsAsNoneOrEmpty meaning address P files = ReadsAs meaning address files NotAStore
     ⊎ ReadsAsEmpty meaning address P files

@@ -3,7 +3,7 @@ use Rattle.std.specs.Prelude.{◌≡◌, ℕ, List, [], ◌∷◌, ◌++◌, len
 use Rattle.std.specs.declared.option.Option.{Option}
 use Rattle.std.specs.Io.KnownBytes.{Appends, Consumes, IsAtEnd}
 use Rattle.branch_disk.specs.Disk.{Files, LeavesOnly}
-use Rattle.branch_names.specs.declared.limits.Limits.{Limits}
+use Rattle.branch_names.specs.declared.terms.Terms.{Terms}
 use Rattle.branch_script.specs.Lines.{lines_of}
 use Rattle.branch_print.specs.declared.summaries.Summary.{Summary}
 use Rattle.branch_print.specs.Summaries.{summary_of}
@@ -39,9 +39,9 @@ abbrev pub TellsLines : {D : Type 0} → (D → Files → Type 0) → (D → ℕ
     → (List ℕ → List ℕ) → List (List ℕ) → EngineView D → EngineView D → Option (List ℕ)
     → Option (List ℕ) → Type 0
 TellsLines may_leave moment left_since address lines old new given_old given_new =
-    (limits : Limits) (p : Play) → IsAt may_leave (doc_fixed address limits) old p
+    (terms : Terms) (p : Play) → IsAt may_leave (doc_fixed address terms) old p
     → Tells may_leave moment left_since lines old new given_old given_new
-    (doc_fixed address limits) p
+    (doc_fixed address terms) p
 
 -- of the reply at which telling stopped: a first part, where the sink failed; else nothing
 abbrev pub IsPartGiven : Status → List ℕ → List ℕ → Type 0
@@ -68,9 +68,9 @@ abbrev pub StopsLines : {D : Type 0} → (D → Files → Type 0) → (D → ℕ
     → (List ℕ → List ℕ) → List (List ℕ) → EngineView D → EngineView D → Option (List ℕ)
     → Option (List ℕ) → Status → Type 0
 StopsLines may_leave moment left_since address lines old new given_old given_new status =
-    (limits : Limits) (p : Play) → IsAt may_leave (doc_fixed address limits) old p
+    (terms : Terms) (p : Play) → IsAt may_leave (doc_fixed address terms) old p
     → Stops may_leave moment left_since lines old new given_old given_new status
-    (doc_fixed address limits) p
+    (doc_fixed address terms) p
 
 -- the whole lines of the bytes were told, and this is left behind them
 pub record TellsWhole {D : Type 0} (may_leave : D → Files → Type 0) (moment : D → ℕ)
@@ -120,14 +120,14 @@ pub record IsReading {D : Type 0} (may_leave : D → Files → Type 0) (moment :
 abbrev pub CountsLines : {D : Type 0} → (D → Files → Type 0) → (List ℕ → List ℕ) → List (List ℕ)
     → EngineView D → Summary → Summary → Type 0
 CountsLines may_leave address lines old before after =
-    (limits : Limits) (p : Play) → IsAt may_leave (doc_fixed address limits) old p
+    (terms : Terms) (p : Play) → IsAt may_leave (doc_fixed address terms) old p
     → (replies : List (List ℕ)) → before ≡ summary_of replies
-    → after ≡ summary_of (replies ++ replies_from (doc_fixed address limits) p lines)
+    → after ≡ summary_of (replies ++ replies_from (doc_fixed address terms) p lines)
 
 -- at each moment a crash left the history after some of the lines, from a play on
 abbrev pub LeavesSome : {D : Type 0} → (D → Files → Type 0) → (D → ℕ) → (D → ℕ → Files → Type 0)
     → (List ℕ → List ℕ) → List (List ℕ) → EngineView D → EngineView D → Type 0
 LeavesSome may_leave moment left_since address lines old new =
-    (limits : Limits) (p : Play) → IsAt may_leave (doc_fixed address limits) old p
+    (terms : Terms) (p : Play) → IsAt may_leave (doc_fixed address terms) old p
     → LeavesOnly moment left_since old.core.disk new.core.disk
-    (ReadsAfterSome (doc_fixed address limits) p lines [])
+    (ReadsAfterSome (doc_fixed address terms) p lines [])

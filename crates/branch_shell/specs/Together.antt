@@ -27,6 +27,7 @@ use Rattle.branch_shell.specs.Documents.{DocStore, fixed_of}
 -- the machine's refusal of a client's step; none, where the disk failed or memory was short
 abbrev pub machine_refusal : ClientRefusal → Option machine.Refusal
 machine_refusal (refused.UnknownBranch name) = Some (machine.UnknownBranch name)
+machine_refusal (refused.Dropped branch) = Some (machine.Dropped branch)
 machine_refusal (refused.Exhausted clock) = Some (machine.Exhausted clock)
 machine_refusal (refused.FullCommits count) = Some (machine.FullCommits count)
 machine_refusal (refused.FullBranches count) = Some (machine.FullBranches count)
@@ -58,11 +59,11 @@ abbrev pub client_lines : ℕ → List Outcome → Option (List ℕ)
 client_lines client [] = Some []
 client_lines client (one ∷ others) = both_texts (client_line client one) (client_lines (client + 1) others)
 
--- a line for each client, and then the report of a store with this history
-pub record TellsClients (outcomes : List Outcome) (history : History) (text : List ℕ) : Type 0 where
+-- a line for each client, and then the report of a store of this first origin with this history
+pub record TellsClients (origin : ℕ) (outcomes : List Outcome) (history : History) (text : List ℕ) : Type 0 where
   pub lines : List ℕ
   pub told : client_lines 0 outcomes ≡ Some lines
-  pub text_is : text ≡ lines ++ report_text history
+  pub text_is : text ≡ lines ++ report_text origin history
 
 -- Clients worked on the store, which came to this history. How many faults the disk had had when the store was opened, and how many since, matters only to refusals
 -- that have no line.
@@ -77,7 +78,7 @@ pub record WorkedTogether (address : List ℕ → List ℕ) (store : DocStore) (
 pub record ToldTogether (address : List ℕ → List ℕ) (store : DocStore) (clients : Clients) (history : History) (text : List ℕ) : Type 0 where
   pub outcomes : List Outcome
   pub worked : WorkedTogether address store clients history outcomes
-  pub tells : TellsClients outcomes history text
+  pub tells : TellsClients store.terms.origin outcomes history text
 
 -- the text of clients that worked on a store
 abbrev pub SaysOver : (List ℕ → List ℕ) → DocStore → Clients → List ℕ → Type 0
@@ -89,7 +90,7 @@ SaysTogether address told clients text = (store : DocStore) × IsOpenedAs docume
 
 -- the store with another history
 abbrev pub with_history : DocStore → History → DocStore
-with_history store history = record { limits = store.limits; history = history }
+with_history store history = record { terms = store.terms; history = history }
 
 -- clients worked on a store and this is their text, and each image of the disk reads as the store with the history that they came to
 pub record RanOver {D : Type 0} (may_leave : D → Files → Type 0) (address : List ℕ → List ℕ) (store : DocStore) (clients : Clients) (new : D) (text : List ℕ) : Type 0 where

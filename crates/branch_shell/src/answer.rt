@@ -1,15 +1,15 @@
 // The commands that take no input, and what they write.
-ghost use Rattle.std.specs.Prelude.{◌≡◌, ◌⊎◌, ◌++◌, [], ℕ, List, Some, Err, OnOk, IfErr, IfSome, IsSome, ◌↔◌};
+ghost use Rattle.std.specs.Prelude.{◌≡◌, ◌⊎◌, ◌<◌, ◌++◌, [], ℕ, List, length, slice_get, Some, Err, OnOk, IfErr, IfSome, IsSome, ◌↔◌};
 ghost use Rattle.std.specs.Io.KnownBytes.{Keeps};
 ghost use Rattle.branch_io.specs.Causes.{Rose};
 ghost use Rattle.branch_disk.specs.Disk.{Files, LeavesOnly};
-ghost use Rattle.branch_names.specs.declared.limits.Limits.{Limits as SpecLimits};
-ghost use Rattle.branch_print.specs.Reports.{report_text};
+ghost use Rattle.branch_history.specs.History.{store_of};
+ghost use Rattle.branch_print.specs.Reports.{branch_line, report_text};
 ghost use Rattle.store_core.specs.Inits.{IsEmpty};
 ghost use Rattle.store_core.specs.Opens.{ReadsAsNone};
 ghost use Rattle.branch_shell.specs.Counts.{HasReason, SaysReason};
 ghost use Rattle.branch_shell.specs.Refusals.{open_refusal_text};
-ghost use Rattle.branch_shell.specs.Stores.{Stored, ReadsAsStore, SaysRefused, SaysReport, SaysReady, SaysNotEmpty, ReadsAsEmpty, ReadsAsNoneOrEmpty};
+ghost use Rattle.branch_shell.specs.Stores.{Stored, AreUnder, ReadsAsStore, SaysRefused, SaysReport, SaysReady, SaysNotEmpty, ReadsAsEmpty, ReadsAsNoneOrEmpty};
 ghost use Rattle.branch_shell.specs.Once.{Answers, Says};
 
 use crate::script::give_all;
@@ -18,7 +18,7 @@ use branch_address::Address;
 use branch_disk::Disk;
 use branch_files::laws::reads_what_stands;
 use branch_io::{Sink, SinkFailed};
-use branch_names::Limits;
+use branch_names::{Limits, Terms};
 use branch_print::reports::{
     put_bad_commit, put_bad_object, put_bad_record, put_branch, put_no_store, put_totals,
     put_truncated,
@@ -86,16 +86,34 @@ pub(crate) fn refuse<K: Sink>(alloc: Global, sink: &mut K, refusal: OpenRefused)
     }
 }
 
-/// Writes the report of a store.
+// Writes the line of a branch: none where it was dropped.
+fn put_branch_line<T: Mrdt, D: Disk + Drop, A: Address>(
+    out: &mut Vec<u8>,
+    core: &Core<T, D, A>,
+    number: u32,
+) -> Result<(), Memory>
+    requires { number < length (store_of core.now.terms.origin core.now.history).branches }
+    ensures { OnOk result (IfSome
+        (slice_get (store_of core.now.terms.origin core.now.history).branches number)
+        (λ b. out.new.items ≡ out.old.items ++ branch_line b)) }
+{
+    if core.is_dropped(number) {
+        return Ok(());
+    }
+    let (name, head) = core.branch(number).unwrap();
+    put_branch(out, &name, head)
+}
+
+/// Writes the report of a store. The branches that were dropped have no line in it.
 pub(crate) fn put_report<T: Mrdt, D: Disk + Drop, A: Address>(
     out: &mut Vec<u8>,
     core: &Core<T, D, A>,
 ) -> Result<(), Memory>
-    ensures { OnOk result (out.new.items ≡ out.old.items ++ report_text core.now.history) }
+    ensures { OnOk result (out.new.items ≡ out.old.items
+        ++ report_text core.now.terms.origin core.now.history) }
 {
     for number in 0..core.branches() {
-        let (name, head) = core.branch(number).unwrap();
-        put_branch(out, &name, head)?;
+        put_branch_line(out, core, number)?;
     }
     put_totals(out, core.moves(), core.commits(), core.branches())
 }
@@ -106,8 +124,8 @@ fn report<T: Mrdt, K: Sink, D: Disk + Drop, A: Address>(
     sink: &mut K,
     core: &Core<T, D, A>,
 ) -> Status
-    ensures wrote { Answers (λ whole. whole ≡ report_text core.now.history) (λ whole. ⊥) result
-        (K.given sink.old) (K.given sink.new) }
+    ensures wrote { Answers (λ whole. whole ≡ report_text core.now.terms.origin core.now.history)
+        (λ whole. ⊥) result (K.given sink.old) (K.given sink.new) }
     ensures other { result ≡ Status.DiskFault → ⊥ }
     ensures reason { SaysReason (K.faults sink.old) (K.faults sink.new) result }
 {
@@ -147,7 +165,7 @@ pub(crate) fn run_check<T: Mrdt, K: Sink, D: Disk + Drop, A: Address>(
     }
 }
 
-/// Makes a store of a disk that holds no bytes.
+/// Makes a store of a disk that holds no bytes, under these limits, whose first origin is 0.
 pub(crate) fn run_init<T: Mrdt, K: Sink, D: Disk + Drop, A: Address>(
     alloc: Global,
     limits: Limits,
@@ -160,9 +178,9 @@ pub(crate) fn run_init<T: Mrdt, K: Sink, D: Disk + Drop, A: Address>(
     // were.
     ensures any_moment { ((c : Files) → D.may_leave disk c → IsEmpty c)
         → LeavesOnly D.moment D.left_since disk result.1
-        (ReadsAsNoneOrEmpty T.meaning A.address (λ (l : SpecLimits). l ≡ limits)) }
+        (ReadsAsNoneOrEmpty T.meaning A.address (AreUnder limits)) }
     ensures made { result.0 ≡ Status.Done → (c : Files) → D.may_leave result.1 c
-        → ReadsAsEmpty T.meaning A.address (λ (l : SpecLimits). l ≡ limits) c }
+        → ReadsAsEmpty T.meaning A.address (AreUnder limits) c }
     // Where there are bytes, a crash leaves only what it might have left at the start.
     ensures refused { result.0 ≡ Status.StoreRefused
         → LeavesOnly D.moment D.left_since disk result.1 (D.may_leave disk) }
@@ -176,7 +194,8 @@ pub(crate) fn run_init<T: Mrdt, K: Sink, D: Disk + Drop, A: Address>(
 {
     reads_what_stands::<T>();
     reads_as_no_store::<T>();
-    match Core::<T, D, A>::init(alloc, disk, limits) {
+    let terms = Terms::under(limits);
+    match Core::<T, D, A>::init(alloc, disk, terms) {
         Ok(core) => (say(sink, b"ready\n", Status::Done), core.close()),
         Err((InitRefused::NotEmpty { .. }, disk)) => {
             (

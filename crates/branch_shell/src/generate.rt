@@ -122,7 +122,8 @@ fn put_work<D: Disk + Drop, A: Address>(
     core: &Core<Doc, D, A>,
 ) -> Result<(), Memory>
     ensures { OnOk result (out.new.items ≡ out.old.items
-        ++ ((summary_text summary.now ++ line_end) ++ report_text core.now.history)) }
+        ++ ((summary_text summary.now ++ line_end)
+        ++ report_text core.now.terms.origin core.now.history)) }
 {
     put_summary(out, summary)?;
     put_report(out, core)
@@ -136,7 +137,8 @@ fn say_work<K: Sink, D: Disk + Drop, A: Address>(
     core: &Core<Doc, D, A>,
 ) -> Status
     ensures wrote { Answers (λ whole. whole ≡ (summary_text summary.now ++ line_end)
-        ++ report_text core.now.history) (λ whole. ⊥) result (K.given sink.old) (K.given sink.new) }
+        ++ report_text core.now.terms.origin core.now.history) (λ whole. ⊥) result
+        (K.given sink.old) (K.given sink.new) }
     ensures other { result ≡ Status.DiskFault → ⊥ }
     ensures reason { SaysReason (K.faults sink.old) (K.faults sink.new) result }
 {
@@ -157,11 +159,11 @@ fn work_over<K: Sink, D: Disk + Drop, A: Address>(
 ) -> (Status, D)
     requires { core.failed ≡ false }
     ensures wrote { Answers (λ whole. whole
-        ≡ work_text A.address (record { limits = core.limits; history = core.history })
+        ≡ work_text A.address (record { terms = core.terms; history = core.history })
         (drawn_lines (record { steps = steps; number = number }))) (λ whole. ⊥) result.0
         (K.given sink.old) (K.given sink.new) }
     ensures survives { SurvivesWork D.may_leave D.moment D.left_since A.address
-        (record { limits = core.limits; history = core.history })
+        (record { terms = core.terms; history = core.history })
         (drawn_lines (record { steps = steps; number = number })) core.disk result.1 result.0 }
     ensures reason { (n : ℕ) → HasReason
         (record { source = n; sink = K.faults sink.old; disk = D.faults core.disk })

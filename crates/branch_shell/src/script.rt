@@ -257,7 +257,7 @@ fn run_opened<S: Source, K: Sink, D: Disk + Drop, A: Address>(
     requires { core.failed ≡ false }
     ensures ran { Exchanges (S.left source.old) (S.left source.new) (K.given sink.old)
         (K.given sink.new) (Runs D.may_leave D.moment D.left_since A.address
-        (record { limits = core.limits; history = core.history }) core.disk result.1
+        (record { terms = core.terms; history = core.history }) core.disk result.1
         (S.left source.new) result.0) }
     ensures reason { HasReason
         (record {
@@ -275,13 +275,13 @@ fn run_opened<S: Source, K: Sink, D: Disk + Drop, A: Address>(
         → (S.faults source.new ≡ S.faults source.old)
         ⊎ Exchanges (S.left source.old) (S.left source.new) (K.given sink.old) (K.given sink.new)
         (Runs D.may_leave D.moment D.left_since A.address
-        (record { limits = core.limits; history = core.history }) core.disk result.1
+        (record { terms = core.terms; history = core.history }) core.disk result.1
         (S.left source.new) Status.ReadFault) }
     ensures behind_disk { result.0 ≡ Status.WriteFault
         → (D.faults result.1 ≡ D.faults core.disk)
         ⊎ Exchanges (S.left source.old) (S.left source.new) (K.given sink.old) (K.given sink.new)
         (Runs D.may_leave D.moment D.left_since A.address
-        (record { limits = core.limits; history = core.history }) core.disk result.1
+        (record { terms = core.terms; history = core.history }) core.disk result.1
         (S.left source.new) Status.DiskFault) }
 {
     let mut engine = Engine::new(alloc, core);

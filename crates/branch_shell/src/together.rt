@@ -20,7 +20,7 @@ use branch_files::laws::reads_what_stands;
 use branch_io::Sink;
 use branch_print::clients::{put_client, put_client_done};
 use branch_print::refusals::{
-    put_collision, put_exhausted, put_full_branches, put_full_commits, put_full_moves,
+    put_collision, put_dropped, put_exhausted, put_full_branches, put_full_commits, put_full_moves,
     put_too_large,
 };
 use client_runs::{Finished, Work, run_on};
@@ -39,6 +39,7 @@ fn put_client_refusal(out: &mut Vec<u8>, refusal: &ClientRefusal) -> Result<(), 
     ensures err { IfErr result (StopsFor (IsFault refusal.now)) }
 {
     match refusal {
+        ClientRefusal::Dropped { branch } => Ok(put_dropped(out, *branch)?),
         ClientRefusal::Exhausted { clock } => Ok(put_exhausted(out, *clock)?),
         ClientRefusal::FullCommits { count } => Ok(put_full_commits(out, *count)?),
         ClientRefusal::FullBranches { count } => Ok(put_full_branches(out, *count)?),
@@ -93,7 +94,8 @@ fn put_together<D: Disk + Drop, A: Address>(
 ) -> Result<(), Status>
     requires finds { AllByRecursion FindsAll outcomes.now }
     requires empty { out.old.items ≡ [] }
-    ensures ok { OnOk result (TellsClients outcomes.now core.now.history out.new.items) }
+    ensures ok { OnOk result (TellsClients core.now.terms.origin outcomes.now core.now.history
+        out.new.items) }
     ensures err { IfErr result (StopsFor (SomeTellFault outcomes.now)) }
 {
     put_outcomes(out, outcomes)?;
@@ -108,7 +110,8 @@ fn say_together<K: Sink, D: Disk + Drop, A: Address>(
     core: &Core<Doc, D, A>,
 ) -> Status
     requires { AllByRecursion FindsAll outcomes.now }
-    ensures wrote { Answers (TellsClients outcomes.now core.now.history) (λ whole. ⊥) result (K.given sink.old) (K.given sink.new) }
+    ensures wrote { Answers (TellsClients core.now.terms.origin outcomes.now core.now.history)
+        (λ whole. ⊥) result (K.given sink.old) (K.given sink.new) }
     ensures fault { result ≡ Status.DiskFault → SomeTellFault outcomes.now }
     ensures reason { SaysReason (K.faults sink.old) (K.faults sink.new) result }
 {
@@ -128,10 +131,10 @@ fn together_over<K: Sink, D: Disk + Drop + Send, A: Address + Send, R: Threads +
     sink: &mut K,
 ) -> (Status, D)
     requires { core.opened ≡ core.disk }
-    ensures wrote { Answers (RanOver D.may_leave A.address (record { limits = core.limits; history = core.history }) (record { count = work.count; work = record { steps = work.steps; number = work.number } }) result.1)
+    ensures wrote { Answers (RanOver D.may_leave A.address (record { terms = core.terms; history = core.history }) (record { count = work.count; work = record { steps = work.steps; number = work.number } }) result.1)
         (λ whole. ⊥) result.0 (K.given sink.old) (K.given sink.new) }
     ensures survives { LeftTogether D.may_leave A.address
-        (record { limits = core.limits; history = core.history })
+        (record { terms = core.terms; history = core.history })
         (record {
           count = work.count;
           work = record { steps = work.steps; number = work.number };

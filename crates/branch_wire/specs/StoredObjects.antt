@@ -8,13 +8,21 @@ use Rattle.branch_wire.specs.Fields.{short_number, version}
 abbrev pub Stored : Type 0
 Stored = List (List ℕ)
 
--- the letters, the version, and four bytes 0
-abbrev pub header : List ℕ
-header = codes "MRDTOBJS" ++ (short_number version ++ short_number 0)
+-- the letters, a version, and four bytes 0
+abbrev pub header_of : ℕ → List ℕ
+header_of number = codes "MRDTOBJS" ++ (short_number number ++ short_number 0)
 
--- the bytes of the file
+-- the header that is written
+abbrev pub header : List ℕ
+header = header_of version
+
+-- the bytes of the file in a version
+abbrev pub file_in : ℕ → Stored → List ℕ
+file_in number stored = header_of number ++ concat stored
+
+-- the bytes of the file that is written
 abbrev pub file_of : Stored → List ℕ
-file_of stored = header ++ concat stored
+file_of stored = file_in version stored
 
 -- the file begins with this text
 abbrev pub Begins : List ℕ → List ℕ → Type 0

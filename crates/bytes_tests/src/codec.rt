@@ -38,6 +38,60 @@ qqqqqqqqqqqqqqqqqqqqqqqqqqqqqqqq\
 vvvvvvvvvvvvvvvvvvvvvvvvvvvvvvvv\
 \x02";
 
+// On branch 1 and at clock 2, the merge of `p` to `x`, as many as a merge may have.
+const MERGE_OF_NINE: &[u8] = b"\
+\x02\x00\x00\x00\x00\x00\x00\x01\x55\
+\x00\x00\x00\x00\x00\x00\x00\x09\
+pppppppppppppppppppppppppppppppp\
+qqqqqqqqqqqqqqqqqqqqqqqqqqqqqqqq\
+rrrrrrrrrrrrrrrrrrrrrrrrrrrrrrrr\
+ssssssssssssssssssssssssssssssss\
+tttttttttttttttttttttttttttttttt\
+uuuuuuuuuuuuuuuuuuuuuuuuuuuuuuuu\
+vvvvvvvvvvvvvvvvvvvvvvvvvvvvvvvv\
+wwwwwwwwwwwwwwwwwwwwwwwwwwwwwwww\
+xxxxxxxxxxxxxxxxxxxxxxxxxxxxxxxx\
+\x00\x00\x00\x01\
+\x00\x00\x00\x00\x00\x00\x00\x02\
+vvvvvvvvvvvvvvvvvvvvvvvvvvvvvvvv\
+\x02";
+
+// A merge of one parent more.
+const MERGE_OF_TEN: &[u8] = b"\
+\x02\x00\x00\x00\x00\x00\x00\x01\x75\
+\x00\x00\x00\x00\x00\x00\x00\x0a\
+pppppppppppppppppppppppppppppppp\
+qqqqqqqqqqqqqqqqqqqqqqqqqqqqqqqq\
+rrrrrrrrrrrrrrrrrrrrrrrrrrrrrrrr\
+ssssssssssssssssssssssssssssssss\
+tttttttttttttttttttttttttttttttt\
+uuuuuuuuuuuuuuuuuuuuuuuuuuuuuuuu\
+vvvvvvvvvvvvvvvvvvvvvvvvvvvvvvvv\
+wwwwwwwwwwwwwwwwwwwwwwwwwwwwwwww\
+xxxxxxxxxxxxxxxxxxxxxxxxxxxxxxxx\
+yyyyyyyyyyyyyyyyyyyyyyyyyyyyyyyy\
+\x00\x00\x00\x01\
+\x00\x00\x00\x00\x00\x00\x00\x02\
+vvvvvvvvvvvvvvvvvvvvvvvvvvvvvvvv\
+\x02";
+
+// A merge that says the greatest count of parents, and has two.
+const MERGE_OF_MOST: &[u8] = b"\
+\x02\x00\x00\x00\x00\x00\x00\x00\x75\
+\xff\xff\xff\xff\xff\xff\xff\xff\
+pppppppppppppppppppppppppppppppp\
+qqqqqqqqqqqqqqqqqqqqqqqqqqqqqqqq\
+\x00\x00\x00\x01\
+\x00\x00\x00\x00\x00\x00\x00\x02\
+vvvvvvvvvvvvvvvvvvvvvvvvvvvvvvvv\
+\x02";
+
+// The parents of a merge of nine.
+const NINE: [[u8; 32]; 9] = [
+    [b'p'; 32], [b'q'; 32], [b'r'; 32], [b's'; 32], [b't'; 32], [b'u'; 32], [b'v'; 32], [b'w'; 32],
+    [b'x'; 32],
+];
+
 // A root with a parent, and a merge of one.
 const ROOT_WITH_PARENT: &[u8] = b"\
 \x02\x00\x00\x00\x00\x00\x00\x00\x55\
@@ -134,6 +188,29 @@ fn objects_are_spelled(rt: HostRuntime) {
     assert!(rt; text.as_slice() == MERGE);
 }
 
+#[test]
+fn merges_have_two_to_nine_parents(rt: HostRuntime) {
+    let alloc = rt.alloc();
+    for (count, length) in [
+        (2, 126),
+        (3, 158),
+        (4, 190),
+        (5, 222),
+        (6, 254),
+        (7, 286),
+        (8, 318),
+        (9, 350),
+    ] {
+        let parents = &NINE[..NINE.len().min(count)];
+        let object = commit(alloc, parents, 1, 2, Action::Merge).expect(&rt, "a merge");
+        let text = spelled(alloc, &object).expect(&rt, "bytes");
+        assert!(rt; text.len() == length, "{} parents", count);
+        assert!(rt; count < 9 || text.as_slice() == MERGE_OF_NINE);
+        let again = again(alloc, &text).expect(&rt, "an object");
+        assert!(rt; again.as_slice() == text.as_slice(), "{} parents", count);
+    }
+}
+
 // How many bytes are left behind the object at the front; none where there is no object, and all are left then.
 fn left_behind(alloc: Global, bytes: &[u8]) -> Option<usize> {
     let mut cursor = Cursor::new(bytes);
@@ -187,6 +264,8 @@ fn other_bytes_are_no_object(rt: HostRuntime) {
         &MERGE[..125],
         ROOT_WITH_PARENT,
         MERGE_OF_ONE,
+        MERGE_OF_TEN,
+        MERGE_OF_MOST,
         OTHER_ACTION,
     ] {
         assert!(rt; is_none(rt.alloc(), bytes));

@@ -1,22 +1,24 @@
 -- A client of drawn steps names no branch that is not there, and each session of its has looked.
-use Rattle.std.proofs.Common.{zero, suc, ◌≡◌, ℕ, ◌+◌, ◌-◌, ◌%◌, ◌^◌, ◌<◌, ◌≤◌, ◌⊎◌, ⊎_elim, List, [], ◌∷◌, ◌++◌, length, codes, refl, ap, sym, subst, ◌∙◌, Option, Some, None, arith, append-nil, length-append}
+use Rattle.std.proofs.Common.{zero, suc, ◌≡◌, ℕ, ◌+◌, ◌-◌, ◌%◌, ◌^◌, ◌<◌, ◌≤◌, ◌⊎◌, ⊎_elim, true, List, [], ◌∷◌, ◌++◌, length, codes, refl, ap, sym, subst, ◌∙◌, Option, Some, None, arith, append_assoc, append-nil, length-append}
 use Rattle.std.specs.Prelude.{slice_get, take}
+use Rattle.std.specs.List.{AllByRecursion}
+use Rattle.std.proofs.lemmas.Bool.{cases_lt, both_ways, false_from_ne_true}
 use mathlib.Core.List.{IsPrefix}
 use Rattle.mrdt_model.specs.Laws.{Meaning}
-use Rattle.branch_names.specs.declared.limits.Limits.{Limits}
-use Rattle.branch_names.specs.Heads.{Branch, name_of, head_of, branch_named}
-use Rattle.branch_names.proofs.Tables.{name_of-branch_named}
+use Rattle.branch_names.specs.declared.terms.Terms.{Terms}
+use Rattle.branch_names.specs.declared.branch.Branch.{Branch}
+use Rattle.branch_names.specs.Heads.{name_of, head_of, is_dropped, branch_named, with_branch, IsKeptBranch}
 use Rattle.branch_history.specs.declared.moves.Move.{Move}
 use Rattle.branch_history.specs.declared.moves.Move.TheVariants as move
 use Rattle.branch_history.specs.History.{Store, store_of, after_move}
-use Rattle.branch_history.specs.Laws.{IsWithin, KeepsLimits}
+use Rattle.branch_history.specs.Laws.{IsWithin, KeepsLimits, KeepsOrder}
 use Rattle.branch_history.specs.Steps as machine
 use Rattle.branch_history.specs.Machine.{turn, answers}
 use Rattle.recorded_history.specs.Machine.{FullyRefuses}
 use Rattle.branch_history.proofs.Heads.{same_branch}
 use Rattle.branch_history.proofs.Later.{commits-longer}
-use Rattle.branch_history.proofs.Stores.{name_of-new, branch_named-none}
-use Rattle.branch_history.proofs.Valid.{store_of-none, store_of-more, branch_named-there}
+use Rattle.branch_history.proofs.Stores.{length-with_branch, name_of-new, is_dropped-old, is_dropped-new, is_dropped-with_head, branch_named-none, branch_named-kept, branch_named-is}
+use Rattle.branch_history.proofs.Valid.{store_of-none, store_of-more}
 use Rattle.branch_machine.specs.Fixed.{fix}
 use Rattle.branch_machine.specs.Laws.{MakesFewerMoves, HasFullyValidPrefixes}
 use Rattle.branch_machine.specs.Validity.{IsFullyValid}
@@ -24,6 +26,7 @@ use Rattle.branch_doc.specs.declared.plain.PlainOp.{PlainOp}
 use Rattle.branch_script.specs.declared.step.Step.{Step}
 use Rattle.branch_script.specs.declared.step.Step.TheVariants.{Look, Fork, Merge, Do, Ask}
 use Rattle.branch_gen.specs.Clients.{client_branch, own, top, drawn_steps, client_steps}
+use Rattle.branch_shared.specs.Keeps.{IsNoDrop, DropsNone}
 use Rattle.parallel_clients.specs.declared.outcome.ClientRefusal.{ClientRefusal}
 use Rattle.parallel_clients.specs.declared.outcome.ClientRefusal.TheVariants as refusal
 use Rattle.parallel_clients.specs.declared.outcome.Outcome.{Outcome}
@@ -35,99 +38,173 @@ use Rattle.client_runs.proofs.Drawn.{IsSession, IsOfBoth, IsDrawn, steps-drawn, 
 use Rattle.client_runs.proofs.Reasons.{Says, reason-full, says-look, says-fork, says-land, says-merge}
 
 -- some branch has the name
-abbrev pub IsThere : {O R : Type 0} → List (Move O R) → List ℕ → Type 0
-IsThere moves name = branch_named (store_of moves).branches name ≡ None → ⊥
+abbrev pub IsThere : {O R : Type 0} → ℕ → List (Move O R) → List ℕ → Type 0
+IsThere origin moves name = branch_named (store_of origin moves).branches name ≡ None → ⊥
 
 -- each branch that a step names is there
-abbrev Knows : {O R : Type 0} → List (Move O R) → Step → Type 0
-Knows moves (Look session from) = IsThere moves from
-Knows moves (Fork new from) = IsThere moves from
-Knows moves (Merge session from) = IsThere moves from
-Knows moves (Do session op) = Unit {0}
-Knows moves (Ask from query) = IsThere moves from
+abbrev Knows : {O R : Type 0} → ℕ → List (Move O R) → Step → Type 0
+Knows origin moves (Look session from) = IsThere origin moves from
+Knows origin moves (Fork new from) = IsThere origin moves from
+Knows origin moves (Merge session from) = IsThere origin moves from
+Knows origin moves (Do session op) = Unit {0}
+Knows origin moves (Ask from query) = IsThere origin moves from
 
-module _ {O R : Type 0} where
+-- moves that drop no branch
+
+all-first : {X : Type 0} (P : X → Type 0) (xs ys : List X) → AllByRecursion P (xs ++ ys) → AllByRecursion P xs
+all-first P [] ys all = tt
+all-first P (x ∷ xs) ys all = (all.0, all-first P xs ys all.1)
+
+all-second : {X : Type 0} (P : X → Type 0) (xs ys : List X) → AllByRecursion P (xs ++ ys) → AllByRecursion P ys
+all-second P [] ys all = all
+all-second P (x ∷ xs) ys all = all-second P xs ys all.1
+
+-- what holds of all behind a list holds of all behind a longer one
+all-behind : {X : Type 0} (P : X → Type 0) (old more first rest : List X) → old ++ more ≡ first ++ rest → length old ≤ length first → AllByRecursion P more → AllByRecursion P rest
+all-behind P [] more first rest is le all = all-second P first rest (subst (AllByRecursion P) is all)
+all-behind P (x ∷ old) more [] rest is le all = absurd (omega (arith, le))
+all-behind {X} P (x ∷ old) more (y ∷ first) rest is le all = let tail : old ++ more ≡ first ++ rest = cc in all-behind P old more first rest tail (omega (arith, le)) all
+
+dropped-there : (branches : List Branch) (r : ℕ) → is_dropped branches r ≡ true → r < length branches
+dropped-there [] r is = let never : ⊥ = cc in absurd never
+dropped-there (b ∷ bs) zero is = omega arith
+dropped-there (b ∷ bs) (suc r) is = let rest = dropped-there bs r is in omega (arith, rest)
+
+dropped-new : (branches : List Branch) (name : List ℕ) (head r : ℕ) → is_dropped (with_branch branches name head) r ≡ true → is_dropped branches r ≡ true
+dropped-new branches name head r is =
+    ⊎_elim
+    (λ lt. sym (is_dropped-old branches name head r lt) ∙ is)
+    (λ le.
+    let there = dropped-there (with_branch branches name head) r is in
+    let last : r ≡ length branches = omega (arith, le, there, length-with_branch branches name head) in
+    absurd (both_ways (is_dropped (with_branch branches name head) r) (is_dropped-new branches name head r last) is))
+    (cases_lt r (length branches))
+
+module _ {O R : Type 0} (origin : ℕ) where
+  -- a branch that is dropped then was dropped before
+  move-dropped : (s : Store O R) (m : Move O R) (r : ℕ) → IsNoDrop m → is_dropped (after_move origin s m).branches r ≡ true → is_dropped s.branches r ≡ true
+  move-dropped s (move.Fork name number from) r none is = dropped-new s.branches name (head_of s.branches from) r is
+  move-dropped s (move.Place name number n) r none is = dropped-new s.branches name n r is
+  move-dropped s (move.Operation q op reply) r none is = sym (is_dropped-with_head s.branches q (length s.commits) r) ∙ is
+  move-dropped s (move.Merge q m) r none is = sym (is_dropped-with_head s.branches q (length s.commits) r) ∙ is
+  move-dropped s (move.Join q ms) r none is = sym (is_dropped-with_head s.branches q (length s.commits) r) ∙ is
+  move-dropped s (move.Forward q m) r none is = sym (is_dropped-with_head s.branches q m r) ∙ is
+  move-dropped s (move.Received parents from clock act) r none is = is
+  move-dropped s (move.Drop q) r none is = absurd none
+
+  dropped-before : (before more : List (Move O R)) (r : ℕ) → AllByRecursion IsNoDrop more → is_dropped (store_of origin (before ++ more)).branches r ≡ true → is_dropped (store_of origin before).branches r ≡ true
+  dropped-before before [] r none is = ap (λ (ms : List (Move O R)). is_dropped (store_of origin ms).branches r) (sym (append-nil before)) ∙ is
+  dropped-before before (m ∷ ms) r none is =
+      let next : List (Move O R) = before ++ m ∷ [] in
+      let later = dropped-before next ms r none.1 (ap (λ (ns : List (Move O R)). is_dropped (store_of origin ns).branches r) (append_assoc before (m ∷ []) ms) ∙ is) in
+      move-dropped (store_of origin before) m r none.0 (ap (λ (s : Store O R). is_dropped s.branches r) (sym (store_of-more origin before m)) ∙ later)
+
+  kept-later : (before more : List (Move O R)) (r : ℕ) → AllByRecursion IsNoDrop more → IsKeptBranch (store_of origin before).branches r → IsKeptBranch (store_of origin (before ++ more)).branches r
+  kept-later before more r none kept =
+      let new = store_of origin (before ++ more) in (
+        (same_branch origin before more r kept.0).there,
+        false_from_ne_true (is_dropped new.branches r) (λ is. both_ways (is_dropped (store_of origin before).branches r) kept.1 (dropped-before before more r none is)),
+      )
+
+-- a history that goes on from an old one, behind which no branch is dropped
+abbrev pub GoesOnFrom : {O R : Type 0} → List (Move O R) → List (Move O R) → Type 0
+GoesOnFrom {O} {R} old moves = (before : List (Move O R)) (begins : IsPrefix before moves) → length old ≤ length before → AllByRecursion IsNoDrop begins.0
+
+pub goes-on-from : {O R : Type 0} (old moves new : List (Move O R)) → DropsNone old new → IsPrefix moves new → GoesOnFrom old moves
+goes-on-from {O} {R} old moves new drops begins before first le =
+    let whole : old ++ drops.more ≡ before ++ (first.0 ++ begins.0) =
+    drops.is ∙ sym begins.1 ∙ ap (λ (ms : List (Move O R)). ms ++ begins.0) (sym first.1) ∙ append_assoc before first.0 begins.0 in
+    all-first IsNoDrop first.0 begins.0 (all-behind IsNoDrop old drops.more before (first.0 ++ begins.0) whole le drops.none)
+
+module _ {O R : Type 0} (origin : ℕ) (old moves : List (Move O R)) (on : GoesOnFrom old moves) (main : IsKeptBranch (store_of origin moves).branches 0) where
   -- a branch is there with its name later
-  stays-there : (before moves : List (Move O R)) (name : List ℕ) (r : ℕ) → IsPrefix before moves → r < length (store_of before).branches → name_of (store_of before).branches r ≡ name → IsThere moves name
-  stays-there before moves name r begins there named none =
-      let kept = same_branch before begins.0 r there in
-      branch_named-none (store_of (before ++ begins.0)).branches name r (ap (λ (ms : List (Move O R)). branch_named (store_of ms).branches name) begins.1 ∙ none) kept.there (kept.name ∙ named)
+  stays-there : (before : List (Move O R)) (name : List ℕ) (r : ℕ) → IsPrefix before moves → length old ≤ length before → IsKeptBranch (store_of origin before).branches r → name_of (store_of origin before).branches r ≡ name
+      → IsThere origin moves name
+  stays-there before name r begins le kept named none =
+      let later = kept-later origin before begins.0 r (on before begins le) kept in
+      branch_named-none (store_of origin (before ++ begins.0)).branches name r (ap (λ (ms : List (Move O R)). branch_named (store_of origin ms).branches name) begins.1 ∙ none) later ((same_branch origin before begins.0 r kept.0).name ∙ named)
 
-  main-there : (moves : List (Move O R)) → IsThere moves (codes "main")
-  main-there moves =
-      let none : Store O R = store_of [] in
-      stays-there [] moves (codes "main") 0 (moves, refl)
-      (subst (λ (s : Store O R). 0 < length s.branches) (sym store_of-none) (omega arith))
-      (ap (λ (s : Store O R). name_of s.branches 0) store_of-none)
+  main-there : IsThere origin moves (codes "main")
+  main-there none =
+      let first : Store O R = store_of origin [] in
+      let there : 0 < length first.branches = subst (λ (s : Store O R). 0 < length s.branches) (sym (store_of-none origin)) (omega arith) in
+      branch_named-none (store_of origin moves).branches (codes "main") 0 none main ((same_branch origin [] moves 0 there).name ∙ ap (λ (s : Store O R). name_of s.branches 0) (store_of-none origin))
 
   -- a history up to a move of it
-  record UpTo (moves : List (Move O R)) (made : Move O R) : Type 0 where
+  record UpTo (all : List (Move O R)) (k : ℕ) (made : Move O R) : Type 0 where
     first : List (Move O R)
-    begins : IsPrefix (first ++ made ∷ []) moves
+    begins : IsPrefix (first ++ made ∷ []) all
+    long : length first ≡ k
 
-  up-to : (moves : List (Move O R)) (k : ℕ) (made : Move O R) → slice_get moves k ≡ Some made → UpTo moves made
+  up-to : (all : List (Move O R)) (k : ℕ) (made : Move O R) → slice_get all k ≡ Some made → UpTo all k made
   up-to [] k made is = let never : ⊥ = cc in absurd never
-  up-to (m ∷ ms) zero made is = let same : made ≡ m = cc in record { first = []; begins = (ms, ap (λ (n : Move O R). n ∷ ms) same) }
-  up-to (m ∷ ms) (suc k) made is = let rest = up-to ms k made is in record { first = m ∷ rest.first; begins = (rest.begins.0, ap (λ (ns : List (Move O R)). m ∷ ns) rest.begins.1) }
+  up-to (m ∷ ms) zero made is = let same : made ≡ m = cc in record { first = []; begins = (ms, ap (λ (n : Move O R). n ∷ ms) same); long = refl }
+  up-to (m ∷ ms) (suc k) made is =
+      let rest = up-to ms k made is in
+      record { first = m ∷ rest.first; begins = (rest.begins.0, ap (λ (ns : List (Move O R)). m ∷ ns) rest.begins.1); long = let l = rest.long in omega (arith, l) }
 
-  forked-there : (moves : List (Move O R)) (new from : List ℕ) (place : ℕ) → IsForked moves new from place → IsThere moves new
-  forked-there moves new from place is =
+  forked-there : (new from : List ℕ) (place : ℕ) → length old < place → IsForked origin moves new from place → IsThere origin moves new
+  forked-there new from place behind is =
       let at = up-to moves (place - 1) (move.Fork new is.number is.source) is.made in
-      let s : Store O R = store_of at.first in
-      let b : Branch = record { name = new; head = head_of s.branches is.source } in
-      let forked : store_of (at.first ++ move.Fork new is.number is.source ∷ []) ≡ after_move s (move.Fork new is.number is.source) = store_of-more at.first (move.Fork new is.number is.source) in
-      stays-there (at.first ++ move.Fork new is.number is.source ∷ []) moves new (length s.branches) at.begins
-      (subst (λ (t : Store O R). length s.branches < length t.branches) (sym forked) (omega (arith, length-append s.branches (b ∷ []))))
-      (ap (λ (t : Store O R). name_of t.branches (length s.branches)) forked ∙ name_of-new s.branches b)
+      let s : Store O R = store_of origin at.first in
+      let head : ℕ = head_of s.branches is.source in
+      let made : Move O R = move.Fork new is.number is.source in
+      let forked : store_of origin (at.first ++ made ∷ []) ≡ after_move origin s made = store_of-more origin at.first made in
+      let branches : List Branch = with_branch s.branches new head in
+      let there : length s.branches < length branches = omega (arith, length-with_branch s.branches new head) in
+      let long = at.long in
+      stays-there (at.first ++ made ∷ []) new (length s.branches) at.begins (omega (arith, long, behind, length-append at.first (made ∷ [])))
+      (subst (λ (t : Store O R). IsKeptBranch t.branches (length s.branches)) (sym forked) (there, is_dropped-new s.branches new head (length s.branches) refl))
+      (ap (λ (t : Store O R). name_of t.branches (length s.branches)) forked ∙ name_of-new s.branches new head (length s.branches) refl)
 
-  named-there : (before moves : List (Move O R)) (name : List ℕ) → IsPrefix before moves → HasBranch name before → IsThere moves name
-  named-there before moves name begins is =
-      stays-there before moves name is.0 begins (branch_named-there (store_of before).branches name is.0 is.1) (name_of-branch_named (store_of before).branches name is.0 is.1)
+  named-there : (before : List (Move O R)) (name : List ℕ) → IsPrefix before moves → length old ≤ length before → HasBranch origin name before → IsThere origin moves name
+  named-there before name begins le is =
+      stays-there before name is.0 begins le (branch_named-kept (store_of origin before).branches name is.0 is.1) (branch_named-is (store_of origin before).branches name is.0 is.1)
 
-  one-there : (moves : List (Move O R)) (new from : List ℕ) (Rest : ℕ → List ℕ → Type 0) (last : ℕ) (places : List ℕ) → TakesOne (IsForked moves new from) Rest last places → IsThere moves new
-  one-there moves new from Rest last [] is = absurd is
-  one-there moves new from Rest last (place ∷ places) is = forked-there moves new from place is.1
+  one-there : (new from : List ℕ) (Rest : ℕ → List ℕ → Type 0) (places : List ℕ) → TakesOne (IsForked origin moves new from) Rest (length old) places → IsThere origin moves new
+  one-there new from Rest [] is = absurd is
+  one-there new from Rest (place ∷ places) is = forked-there new from place is.0 is.1
 
   -- a branch that was to be forked is there
-  played-there : (op_of : PlainOp → O) (moves : List (Move O R)) (begun : ℕ) (new from : List ℕ) (steps : List Step) (places : List ℕ) → Played op_of begun (Fork new from ∷ steps) places moves → IsThere moves new
+  played-there : (op_of : PlainOp → O) (new from : List ℕ) (steps : List Step) (places : List ℕ) → Played op_of origin (length old) (Fork new from ∷ steps) places moves → IsThere origin moves new
   unfolding Played
-  played-there op_of moves begun new from steps places is =
+  played-there op_of new from steps places is =
       ⊎_elim
-      (λ one. one-there moves new from (PlayedFrom op_of moves steps no_sights) begun places one)
-      (λ none. named-there none.before moves new none.begins none.here.0)
+      (λ one. one-there new from (PlayedFrom op_of origin moves steps no_sights) places one)
+      (λ none. named-there none.before new none.begins none.behind none.here.0)
       is
 
-  both-there : (moves : List (Move O R)) (branch name : List ℕ) → IsThere moves branch → IsOfBoth branch name → IsThere moves name
-  both-there moves branch name there is =
+  both-there : (branch name : List ℕ) → IsThere origin moves branch → IsOfBoth branch name → IsThere origin moves name
+  both-there branch name there is =
       ⊎_elim
-      (λ e. subst (IsThere moves) (sym e) (main-there moves))
-      (λ e. subst (IsThere moves) (sym e) there)
+      (λ e. subst (IsThere origin moves) (sym e) main-there)
+      (λ e. subst (IsThere origin moves) (sym e) there)
       is
 
-  drawn-knows : (moves : List (Move O R)) (branch : List ℕ) (s : Step) → IsThere moves branch → IsDrawn branch s → Knows moves s
-  drawn-knows moves branch (Do session op) there is = tt
-  drawn-knows moves branch (Merge session from) there is = both-there moves branch from there is.1
-  drawn-knows moves branch (Look session from) there is = absurd is
-  drawn-knows moves branch (Fork new from) there is = absurd is
-  drawn-knows moves branch (Ask from query) there is = absurd is
+  drawn-knows : (branch : List ℕ) (s : Step) → IsThere origin moves branch → IsDrawn branch s → Knows origin moves s
+  drawn-knows branch (Do session op) there is = tt
+  drawn-knows branch (Merge session from) there is = both-there branch from there is.1
+  drawn-knows branch (Look session from) there is = absurd is
+  drawn-knows branch (Fork new from) there is = absurd is
+  drawn-knows branch (Ask from query) there is = absurd is
 
   -- a client knows each branch that its step names, where the history has what the steps before it made
-  pub client-knows : (op_of : PlainOp → O) (moves : List (Move O R)) (begun client steps number k : ℕ) (s : Step) (places : List ℕ)
-      → slice_get (client_steps client steps number) k ≡ Some s → Played op_of begun (take k (client_steps client steps number)) places moves → Knows moves s
+  pub client-knows : (op_of : PlainOp → O) (client steps number k : ℕ) (s : Step) (places : List ℕ)
+      → slice_get (client_steps client steps number) k ≡ Some s → Played op_of origin (length old) (take k (client_steps client steps number)) places moves → Knows origin moves s
   unfolding client_steps
-  client-knows op_of moves begun client steps number zero s places is played =
-      let same : Fork (client_branch client) (codes "main") ≡ s = cc in subst (Knows moves) same (main-there moves)
-  client-knows op_of moves begun client steps number (suc zero) s places is played =
+  client-knows op_of client steps number zero s places is played =
+      let same : Fork (client_branch client) (codes "main") ≡ s = cc in subst (Knows origin moves) same main-there
+  client-knows op_of client steps number (suc zero) s places is played =
       let same : Look own (client_branch client) ≡ s = cc in
-      subst (Knows moves) same (played-there op_of moves begun (client_branch client) (codes "main") [] places played)
-  client-knows op_of moves begun client steps number (suc (suc zero)) s places is played =
-      let same : Look top (codes "main") ≡ s = cc in subst (Knows moves) same (main-there moves)
-  client-knows op_of moves begun client steps number (suc (suc (suc k))) s places is played =
+      subst (Knows origin moves) same (played-there op_of (client_branch client) (codes "main") [] places played)
+  client-knows op_of client steps number (suc (suc zero)) s places is played =
+      let same : Look top (codes "main") ≡ s = cc in subst (Knows origin moves) same main-there
+  client-knows op_of client steps number (suc (suc (suc k))) s places is played =
       let x : ℕ = (number + client) % 2 ^ 64 in
       let branch : List ℕ = client_branch client in
       let rest : List Step = take k (drawn_steps branch steps x) in
-      drawn-knows moves branch s
-      (played-there op_of moves begun branch (codes "main") (Look own branch ∷ Look top (codes "main") ∷ rest) places played)
+      drawn-knows branch s
+      (played-there op_of branch (codes "main") (Look own branch ∷ Look top (codes "main") ∷ rest) places played)
       (steps-drawn branch steps x k s is)
 
 -- what each session sees behind the first three steps
@@ -159,93 +236,110 @@ client-sees client steps number (suc (suc (suc k))) s is none =
     let branch : List ℕ = client_branch client in
     drawn-sees branch s (steps-drawn branch steps x k s is) (subst (λ sights. SeesNone sights s) (steps-see branch steps x k (started branch)) none)
 
-module _ {S O R Q A : Type 0} (on : Setting S O R Q A) (moves : List (Move O R)) (within : IsWithin on.fixed.limits moves) where
+module _ {S O R Q A : Type 0} (on : Setting S O R Q A) (moves : List (Move O R)) (within : IsWithin on.fixed.terms moves) where
   -- what the machine says where a client knows its branches
   abbrev SaysNone : machine.Refusal → Type 0
   SaysNone = Says on.fixed moves (λ name. ⊥)
 
-  says-full : (step : machine.Step O Q) (why : machine.Refusal) → (turn on.fixed.meaning on.fixed.limits moves step ≡ answers (machine.Refused why) → SaysNone why) → FullyRefuses on.fixed moves step why → SaysNone why
+  says-full : (step : machine.Step O Q) (why : machine.Refusal) → (turn on.fixed.meaning on.fixed.terms moves step ≡ answers (machine.Refused why) → SaysNone why) → FullyRefuses on.fixed moves step why → SaysNone why
   says-full step why rest is = reason-full SaysNone on.fixed moves step why (λ stored fresh is. (is.0, refl, is.1)) rest is
 
   says-seen : (branch : Option (List ℕ)) (Does : List ℕ → Type 0) (why : machine.Refusal) → ((name : List ℕ) → Does name → SaysNone why) → IfSees branch Does → SaysNone why
   says-seen None Does why does is = absurd is
   says-seen (Some name) Does why does is = does name is
 
-  knows-says : (sights : Sights) (s : Step) (why : machine.Refusal) → Knows moves s → RefusesStep on moves sights s why → SaysNone why
+  knows-says : (sights : Sights) (s : Step) (why : machine.Refusal) → Knows on.fixed.terms.origin moves s → RefusesStep on moves sights s why → SaysNone why
   knows-says sights (Look session from) why knows is = says-full (machine.Look from) why (says-look on.fixed moves within (λ name. ⊥) from why knows) is
   knows-says sights (Ask from query) why knows is = says-full (machine.Look from) why (says-look on.fixed moves within (λ name. ⊥) from why knows) is
   knows-says sights (Fork new from) why knows is = says-full (machine.Fork new from) why (says-fork on.fixed moves within (λ name. ⊥) new from why knows) is
   knows-says sights (Do session op) why knows is =
-      says-seen (sights session) (λ branch. (number head : ℕ) × WasHead moves branch number head × FullyRefuses on.fixed moves (machine.Land number head (on.op_of op)) why) why
+      says-seen (sights session) (λ branch. (number head : ℕ) × WasHead on.fixed.terms.origin moves branch number head × FullyRefuses on.fixed moves (machine.Land number head (on.op_of op)) why) why
       (λ branch does. says-full (machine.Land does.0 does.1 (on.op_of op)) why (says-land on.fixed moves within (λ name. ⊥) does.0 does.1 (on.op_of op) why) does.3)
       is
   knows-says sights (Merge session from) why knows is =
       says-seen (sights session)
       (λ branch. FullyRefuses on.fixed moves (machine.Look from) why
-      ⊎ ((number head source commit : ℕ) × WasHead moves branch number head × WasHead moves from source commit × FullyRefuses on.fixed moves (machine.Merge number head commit) why)) why
+      ⊎ ((number head source commit : ℕ) × WasHead on.fixed.terms.origin moves branch number head × WasHead on.fixed.terms.origin moves from source commit × FullyRefuses on.fixed moves (machine.Merge number head (commit ∷ [])) why)) why
       (λ branch does. ⊎_elim
       (λ look. says-full (machine.Look from) why (says-look on.fixed moves within (λ name. ⊥) from why knows) look)
-      (λ merge. says-full (machine.Merge merge.0 merge.1 merge.3) why (says-merge on.fixed moves within (λ name. ⊥) merge.0 merge.1 merge.3 why) merge.6)
+      (λ merge. says-full (machine.Merge merge.0 merge.1 (merge.3 ∷ [])) why (says-merge on.fixed moves within (λ name. ⊥) merge.0 merge.1 merge.3 why) merge.6)
       does)
       is
 
   -- and what a longer history says
-  module _ (later : List (Move O R)) (grows : IsPrefix moves later) (bounds : IsWithin on.fixed.limits later) where
+  module _ (later : List (Move O R)) (grows : IsPrefix moves later) (bounds : IsWithin on.fixed.terms later) where
     prefix-length : length moves ≤ length later
     prefix-length = let e = ap (λ (ms : List (Move O R)). length ms) grows.1 in omega (arith, length-append moves grows.0, e)
 
-    commits-length : length (store_of moves).commits ≤ length (store_of later).commits
+    commits-length : length (store_of on.fixed.terms.origin moves).commits ≤ length (store_of on.fixed.terms.origin later).commits
     commits-length =
-        let longer = commits-longer moves grows.0 in
-        let e = ap (λ (ms : List (Move O R)). length (store_of ms).commits) grows.1 in
+        let longer = commits-longer on.fixed.terms.origin moves grows.0 in
+        let e = ap (λ (ms : List (Move O R)). length (store_of on.fixed.terms.origin ms).commits) grows.1 in
         let at = ap (λ (cs : List _). length cs) longer.is in
-        omega (arith, length-append (store_of moves).commits longer.more, e, at)
+        omega (arith, length-append (store_of on.fixed.terms.origin moves).commits longer.more, e, at)
 
-    branches-length : length (store_of moves).branches ≤ length (store_of later).branches
-    branches-length = by-length (length (store_of moves).branches) refl
+    branches-length : length (store_of on.fixed.terms.origin moves).branches ≤ length (store_of on.fixed.terms.origin later).branches
+    branches-length = by-length (length (store_of on.fixed.terms.origin moves).branches) refl
       where
-        by-length : (n : ℕ) → n ≡ length (store_of moves).branches → n ≤ length (store_of later).branches
+        by-length : (n : ℕ) → n ≡ length (store_of on.fixed.terms.origin moves).branches → n ≤ length (store_of on.fixed.terms.origin later).branches
         by-length zero is = omega arith
         by-length (suc n) is =
-            let there : n < length (store_of moves).branches = omega (arith, is) in
-            let kept = (same_branch moves grows.0 n there).there in
-            let e = ap (λ (ms : List (Move O R)). length (store_of ms).branches) grows.1 in
+            let there : n < length (store_of on.fixed.terms.origin moves).branches = omega (arith, is) in
+            let kept = (same_branch on.fixed.terms.origin moves grows.0 n there).there in
+            let e = ap (λ (ms : List (Move O R)). length (store_of on.fixed.terms.origin ms).branches) grows.1 in
             omega (arith, kept, e)
 
-    says-may : (r : ClientRefusal) (faults : ℕ) (sights : Sights) (s : Step) → Knows moves s → StepRefused on moves faults sights s r → MayRefuse on.fixed later r
-    says-may (refusal.UnknownBranch name) faults sights s knows is = knows-says sights s (machine.UnknownBranch name) knows is
-    says-may (refusal.Exhausted clock) faults sights s knows is = knows-says sights s (machine.Exhausted clock) knows is
-    says-may (refusal.FullCommits count) faults sights s knows is =
+    says-may : (old : List (Move O R)) → DropsNone old moves → (r : ClientRefusal) (faults : ℕ) (sights : Sights) (s : Step) → Knows on.fixed.terms.origin moves s → StepRefused on moves faults sights s r → MayRefuse on.fixed old later r
+    says-may old drops (refusal.UnknownBranch name) faults sights s knows is = knows-says sights s (machine.UnknownBranch name) knows is
+    says-may old drops (refusal.Dropped branch) faults sights s knows is =
+        let origin : ℕ = on.fixed.terms.origin in
+        let dropped : is_dropped (store_of origin moves).branches branch ≡ true = knows-says sights s (machine.Dropped branch) knows is in
+        dropped-before origin old drops.more branch drops.none (ap (λ (ms : List (Move O R)). is_dropped (store_of origin ms).branches branch) drops.is ∙ dropped)
+    says-may old drops (refusal.Exhausted clock) faults sights s knows is = knows-says sights s (machine.Exhausted clock) knows is
+    says-may old drops (refusal.FullCommits count) faults sights s knows is =
         let says = knows-says sights s (machine.FullCommits count) knows is in
         let most = bounds.commits in
         (says.0, omega (arith, says.0, says.1, commits-length))
-    says-may (refusal.FullBranches count) faults sights s knows is =
+    says-may old drops (refusal.FullBranches count) faults sights s knows is =
         let says = knows-says sights s (machine.FullBranches count) knows is in
         let most = bounds.branches in
         (says.0, omega (arith, says.0, says.1, branches-length))
-    says-may (refusal.FullMoves count) faults sights s knows is =
+    says-may old drops (refusal.FullMoves count) faults sights s knows is =
         let says = knows-says sights s (machine.FullMoves count) knows is in
         let most = bounds.accepted in
         (says.0, omega (arith, says.0, says.1, prefix-length))
-    says-may (refusal.ValueTooLarge length) faults sights s knows is = knows-says sights s (machine.ValueTooLarge length) knows is
-    says-may (refusal.Collision address stored fresh) faults sights s knows is = knows-says sights s (machine.Collision address stored fresh) knows is
-    says-may refusal.DiskFault faults sights s knows is = tt
-    says-may (refusal.Failed count) faults sights s knows is = tt
-    says-may refusal.Memory faults sights s knows is = tt
+    says-may old drops (refusal.ValueTooLarge length) faults sights s knows is = knows-says sights s (machine.ValueTooLarge length) knows is
+    says-may old drops (refusal.Collision address stored fresh) faults sights s knows is = knows-says sights s (machine.Collision address stored fresh) knows is
+    says-may old drops refusal.DiskFault faults sights s knows is = tt
+    says-may old drops (refusal.Failed count) faults sights s knows is = tt
+    says-may old drops refusal.Memory faults sights s knows is = tt
 
 -- what may become of a client
-module _ {S O R Q A : Type 0} (on : Setting S O R Q A) (old new : List (Move O R)) (within : (moves : List (Move O R)) → IsPrefix moves new → IsWithin on.fixed.limits moves) where
-  pub may-come : (faults client steps number : ℕ) (outcome : Outcome) → ComesTo on old new faults (client_steps client steps number) outcome → MayComeTo on.fixed new outcome
+module _ {S O R Q A : Type 0} (on : Setting S O R Q A) (old new : List (Move O R)) (drops : DropsNone old new)
+    (within : (moves : List (Move O R)) → IsPrefix moves new → IsWithin on.fixed.terms moves)
+    (main : (moves : List (Move O R)) → IsPrefix moves new → IsKeptBranch (store_of on.fixed.terms.origin moves).branches 0) where
+  -- up to a first part that begins with the old history, no branch is dropped either
+  drops-none : (moves : List (Move O R)) → IsPrefix old moves → IsPrefix moves new → DropsNone old moves
+  drops-none moves begun begins = record { more = begun.0; is = begun.1; none = goes-on-from old moves new drops begins old begun (omega arith) }
+
+  pub may-come : (faults client steps number : ℕ) (outcome : Outcome) → ComesTo on old new faults (client_steps client steps number) outcome → MayComeTo on.fixed old new outcome
   may-come faults client steps number (Done places) is = tt
   may-come faults client steps number (Refused k r places) is =
-      says-may on is.before (within is.before is.begins) new is.begins (within new ([], append-nil new)) r faults (sights_after (take k (client_steps client steps number)) no_sights) is.step
-      (client-knows on.op_of is.before (length old) client steps number k is.step places is.is_step is.played)
+      says-may on is.before (within is.before is.begins) new is.begins (within new ([], append-nil new)) old (drops-none is.before is.begun is.begins) r faults (sights_after (take k (client_steps client steps number)) no_sights) is.step
+      (client-knows on.fixed.terms.origin old is.before (goes-on-from old is.before new drops is.begins) (main is.before is.begins) on.op_of client steps number k is.step places is.is_step is.played)
       is.refused
   may-come faults client steps number (Unseen k places) is = client-sees client steps number k is.step is.is_step is.unseen
 
--- each first part of a valid history is within the limits
-pub first-within : {S O R Q A : Type 0} (m : Meaning S O R Q A) (limits : Limits) (address : List ℕ → List ℕ) → KeepsLimits m → MakesFewerMoves m → HasFullyValidPrefixes m
-    → (new : List (Move O R)) → IsFullyValid (fix m limits address) new → (moves : List (Move O R)) → IsPrefix moves new → IsWithin limits moves
-first-within {S} {O} {R} {Q} {A} m limits address keeps fewer prefixes new valid moves begins =
-    let whole : IsFullyValid (fix m limits address) (moves ++ begins.0) = subst (IsFullyValid (fix m limits address)) (sym begins.1) valid in
-    keeps limits moves (fewer limits address moves (prefixes limits address moves begins.0 whole))
+-- each first part of a valid history is within the terms
+pub first-within : {S O R Q A : Type 0} (m : Meaning S O R Q A) (terms : Terms) (address : List ℕ → List ℕ) → KeepsLimits m → MakesFewerMoves m → HasFullyValidPrefixes m
+    → (new : List (Move O R)) → IsFullyValid (fix m terms address) new → (moves : List (Move O R)) → IsPrefix moves new → IsWithin terms moves
+first-within {S} {O} {R} {Q} {A} m terms address keeps fewer prefixes new valid moves begins =
+    let whole : IsFullyValid (fix m terms address) (moves ++ begins.0) = subst (IsFullyValid (fix m terms address)) (sym begins.1) valid in
+    keeps terms moves (fewer terms address moves (prefixes terms address moves begins.0 whole))
+
+-- and has `main`
+pub first-main : {S O R Q A : Type 0} (m : Meaning S O R Q A) (terms : Terms) (address : List ℕ → List ℕ) → KeepsOrder m → MakesFewerMoves m → HasFullyValidPrefixes m
+    → (new : List (Move O R)) → IsFullyValid (fix m terms address) new → (moves : List (Move O R)) → IsPrefix moves new → IsKeptBranch (store_of terms.origin moves).branches 0
+first-main {S} {O} {R} {Q} {A} m terms address keeps fewer prefixes new valid moves begins =
+    let whole : IsFullyValid (fix m terms address) (moves ++ begins.0) = subst (IsFullyValid (fix m terms address)) (sym begins.1) valid in
+    (keeps terms moves (fewer terms address moves (prefixes terms address moves begins.0 whole))).main

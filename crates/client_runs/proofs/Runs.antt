@@ -8,14 +8,17 @@ use Rattle.std.proofs.lemmas.Option.{slice_get_within}
 use Rattle.std.proofs.lemmas.Slice.Zip.{AllZip-long}
 use mathlib.Core.List.{IsPrefix}
 use Rattle.mrdt_model.specs.Laws.{Meaning}
-use Rattle.branch_names.specs.declared.limits.Limits.{Limits}
+use Rattle.branch_names.specs.declared.terms.Terms.{Terms}
+use Rattle.branch_names.specs.Heads.{IsKeptBranch}
 use Rattle.branch_history.specs.declared.moves.Move.{Move}
+use Rattle.branch_history.specs.History.{store_of}
 use Rattle.branch_history.specs.Laws.{IsWithin}
 use Rattle.branch_history.proofs.Lists.{slice_get-append, slice_get-new}
 use Rattle.branch_machine.specs.Fixed.{fix}
 use Rattle.branch_doc.specs.declared.plain.PlainOp.{PlainOp}
 use Rattle.branch_script.specs.declared.step.Step.{Step}
 use Rattle.branch_gen.specs.Clients.{client_steps}
+use Rattle.branch_shared.specs.Keeps.{DropsNone}
 use Rattle.branch_shared.specs.Passes.{PassView}
 use Rattle.parallel_clients.specs.declared.outcome.Outcome.{Outcome}
 use Rattle.parallel_clients.specs.Clients.{Ran}
@@ -36,10 +39,10 @@ all-say P Q says (x ∷ xs) [] is = is
 all-say P Q says (x ∷ xs) (y ∷ ys) is = (says x y is.0, all-say P Q says xs ys is.1)
 
 -- a store's setting is that of its name
-pub named-setting : {S O R Q A : Type 0} (m : Meaning S O R Q A) (address : List ℕ → List ℕ) (op_of : PlainOp → O) (limits named : Limits) (opened given : ℕ) → limits ≡ named → opened ≡ given
-    → setting (fix m named address) op_of given ≡ setting (fix m limits address) op_of opened
-named-setting m address op_of limits named opened given same at =
-    ap (λ l. setting (fix m l address) op_of given) (sym same) ∙ ap (λ n. setting (fix m limits address) op_of n) (sym at)
+pub named-setting : {S O R Q A : Type 0} (m : Meaning S O R Q A) (address : List ℕ → List ℕ) (op_of : PlainOp → O) (terms named : Terms) (opened given : ℕ) → terms ≡ named → opened ≡ given
+    → setting (fix m named address) op_of given ≡ setting (fix m terms address) op_of opened
+named-setting m address op_of terms named opened given same at =
+    ap (λ l. setting (fix m l address) op_of given) (sym same) ∙ ap (λ n. setting (fix m terms address) op_of n) (sym at)
 
 -- what holds after want of memory, in other words
 pub failure-says : {T E : Type 0} (P Q : Type 0) (r : Result T E) → (P → Q) → OnErr r P → OnErr r Q
@@ -161,13 +164,15 @@ beside Q (x ∷ xs) (z ∷ ys) zero y all is = let same : z ≡ y = cc in record
 beside Q (x ∷ xs) (z ∷ ys) (suc k) y all is = let rest = beside Q xs ys k y all.1 is in record { first = rest.first; at = rest.at; holds = rest.holds }
 
 -- clients of drawn steps, over a valid history
-module _ {S O R Q A : Type 0} (on : Setting S O R Q A) (old new : List (Move O R)) (within : (moves : List (Move O R)) → IsPrefix moves new → IsWithin on.fixed.limits moves) (faults count steps number : ℕ) where
+module _ {S O R Q A : Type 0} (on : Setting S O R Q A) (old new : List (Move O R)) (drops : DropsNone old new)
+    (within : (moves : List (Move O R)) → IsPrefix moves new → IsWithin on.fixed.terms moves)
+    (main : (moves : List (Move O R)) → IsPrefix moves new → IsKeptBranch (store_of on.fixed.terms.origin moves).branches 0) (faults count steps number : ℕ) where
   pub have-worked : (outcomes : List Outcome) → HaveRun on old new faults (scripts_of count steps number) outcomes → HaveWorked on old new faults count steps number outcomes
   have-worked outcomes run = record {
     clients = AllZip-long (IsOutcome on old new faults) (scripts_of count steps number) outcomes run.each ∙ length-scripts_of count steps number;
     each = λ client outcome at.
         let script = beside (IsOutcome on old new faults) (scripts_of count steps number) outcomes client outcome run.each at in
         let is : IsOutcome on old new faults (client_steps client steps number) outcome = subst (λ steps. IsOutcome on old new faults steps outcome) (scripts-at count steps number client script.first script.at) script.holds in
-        record { is = is; may = may-come on old new within faults client steps number outcome is.comes };
+        record { is = is; may = may-come on old new drops within main faults client steps number outcome is.comes };
     counted = run.counted;
   }

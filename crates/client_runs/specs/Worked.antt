@@ -1,7 +1,8 @@
 -- What becomes of clients that do drawn steps. Its words are no part of this: the layer that writes them tells a client's number, and then that it is done and how
 -- many places it has, or the text of the refusal.
-use Rattle.std.specs.Prelude.{◌≡◌, ◌≢◌, ℕ, ◌+◌, ◌<◌, List, length, slice_get, Some}
+use Rattle.std.specs.Prelude.{◌≡◌, ◌≢◌, ℕ, ◌+◌, ◌<◌, true, List, length, slice_get, Some}
 use Rattle.std.specs.List.{AllZip}
+use Rattle.branch_names.specs.Heads.{is_dropped}
 use Rattle.branch_history.specs.declared.moves.Move.{Move}
 use Rattle.branch_history.specs.History.{store_of}
 use Rattle.branch_machine.specs.Fixed.{Fixed}
@@ -20,30 +21,31 @@ pub record HaveRun {S O R Q A : Type 0} (on : Setting S O R Q A) (old new : List
   pub each : AllZip (IsOutcome on old new faults) scripts outcomes
   pub counted : length new ≡ length old + count_places outcomes
 
--- What may refuse a client of drawn steps: no unknown branch. A full store has the count that is told, which is the limit; a clock is exhausted at the limit, and a
--- value is too large over the limit. Objects that collide have one address and other bytes.
-abbrev pub MayRefuse : {S O R Q A : Type 0} → Fixed S O R Q A → List (Move O R) → ClientRefusal → Type 0
-MayRefuse fixed moves (refusal.UnknownBranch name) = ⊥
-MayRefuse fixed moves (refusal.Exhausted clock) = clock ≡ fixed.limits.clock
-MayRefuse fixed moves (refusal.FullCommits count) = (count ≡ fixed.limits.commits) × (count ≡ length (store_of moves).commits)
-MayRefuse fixed moves (refusal.FullBranches count) = (count ≡ fixed.limits.branches) × (count ≡ length (store_of moves).branches)
-MayRefuse fixed moves (refusal.FullMoves count) = (count ≡ fixed.limits.moves) × (count ≡ length moves)
-MayRefuse fixed moves (refusal.ValueTooLarge length) = fixed.limits.value < length
-MayRefuse fixed moves (refusal.Collision address stored fresh) = (fixed.address stored ≡ address) × (fixed.address fresh ≡ address) × (stored ≢ fresh)
-MayRefuse fixed moves refusal.DiskFault = Unit {0}
-MayRefuse fixed moves (refusal.Failed count) = Unit {0}
-MayRefuse fixed moves refusal.Memory = Unit {0}
+-- What may refuse a client of drawn steps, where a history grew from an old one to a new one: no unknown branch, and none that was dropped since. A full store has the
+-- count that is told, which is the limit; a clock is exhausted at the limit, and a value is too large over the limit. Objects that collide have one address and other bytes.
+abbrev pub MayRefuse : {S O R Q A : Type 0} → Fixed S O R Q A → List (Move O R) → List (Move O R) → ClientRefusal → Type 0
+MayRefuse fixed old new (refusal.UnknownBranch name) = ⊥
+MayRefuse fixed old new (refusal.Dropped branch) = is_dropped (store_of fixed.terms.origin old).branches branch ≡ true
+MayRefuse fixed old new (refusal.Exhausted clock) = clock ≡ fixed.terms.limits.clock
+MayRefuse fixed old new (refusal.FullCommits count) = (count ≡ fixed.terms.limits.commits) × (count ≡ length (store_of fixed.terms.origin new).commits)
+MayRefuse fixed old new (refusal.FullBranches count) = (count ≡ fixed.terms.limits.branches) × (count ≡ length (store_of fixed.terms.origin new).branches)
+MayRefuse fixed old new (refusal.FullMoves count) = (count ≡ fixed.terms.limits.moves) × (count ≡ length new)
+MayRefuse fixed old new (refusal.ValueTooLarge length) = fixed.terms.limits.value < length
+MayRefuse fixed old new (refusal.Collision address stored fresh) = (fixed.address stored ≡ address) × (fixed.address fresh ≡ address) × (stored ≢ fresh)
+MayRefuse fixed old new refusal.DiskFault = Unit {0}
+MayRefuse fixed old new (refusal.Failed count) = Unit {0}
+MayRefuse fixed old new refusal.Memory = Unit {0}
 
 -- what may become of such a client: none names a session that has not looked
-abbrev pub MayComeTo : {S O R Q A : Type 0} → Fixed S O R Q A → List (Move O R) → Outcome → Type 0
-MayComeTo fixed moves (Done places) = Unit {0}
-MayComeTo fixed moves (Refused step refusal places) = MayRefuse fixed moves refusal
-MayComeTo fixed moves (Unseen step places) = ⊥
+abbrev pub MayComeTo : {S O R Q A : Type 0} → Fixed S O R Q A → List (Move O R) → List (Move O R) → Outcome → Type 0
+MayComeTo fixed old new (Done places) = Unit {0}
+MayComeTo fixed old new (Refused step refusal places) = MayRefuse fixed old new refusal
+MayComeTo fixed old new (Unseen step places) = ⊥
 
 -- what became of a client with these steps, where a history grew from an old one to a new one, and the disk has had so many faults since it was opened
 pub record HasWorked {S O R Q A : Type 0} (on : Setting S O R Q A) (old new : List (Move O R)) (faults : ℕ) (steps : List Step) (outcome : Outcome) : Type 0 where
   pub is : IsOutcome on old new faults steps outcome
-  pub may : MayComeTo on.fixed new outcome
+  pub may : MayComeTo on.fixed old new outcome
 
 -- so many clients have one outcome each, in their order, and as many moves are new as the outcomes have places
 pub record HaveWorked {S O R Q A : Type 0} (on : Setting S O R Q A) (old new : List (Move O R)) (faults count steps number : ℕ) (outcomes : List Outcome) : Type 0 where

@@ -11,7 +11,7 @@ use crate::scripts::scripts;
 use crate::share::{Finished, share};
 use branch_address::Address;
 use branch_disk::Disk;
-use branch_history::laws::keeps_limits;
+use branch_history::laws::{keeps_limits, keeps_order};
 use branch_machine::laws::{has_fully_valid_prefixes, makes_fewer_moves};
 use branch_shared::Blank;
 use parallel_clients::Plain;
@@ -35,7 +35,8 @@ pub struct Work {
 /// Clients do the drawn steps of a number on a core, each in a thread of its own as far as threads are to be had.
 ///
 /// Each client has one outcome, by the history that the core comes back with: what it played behind the old history, or
-/// which step was refused, and why. None is refused for a branch that is not there, and each of its sessions has looked.
+/// which step was refused, and why. None is refused for a branch that is not there, nor for one that was dropped since
+/// they began, and each of its sessions has looked.
 /// As many moves lie behind the old history as the clients have places in all; that no two of them have one in common is
 /// in no clause. A client tells that the disk failed only where it has, since the core was opened. Where memory is short
 /// before the first client begins, that is the answer, and no move is made. That clients work in threads of their own is
@@ -47,14 +48,15 @@ pub fn run_on<
     R: Threads + Wait + Sync,
 >(rt: &R, alloc: Global, core: Core<T, D, A>, work: Work) -> Finished<T, D, A>
     ensures grows { IsPrefix core.history result.core.history }
-    ensures valid { IsFullyValid (fix T.meaning core.limits A.address) result.core.history }
-    ensures limits { result.core.limits ≡ core.limits }
+    ensures valid { IsFullyValid (fix T.meaning core.terms A.address) result.core.history }
+    ensures terms { result.core.terms ≡ core.terms }
     ensures opened { D.faults result.core.opened ≡ D.faults core.opened }
     ensures faults { D.faults core.disk ≤ D.faults result.core.disk }
-    ensures worked { IfOk result.outcomes (HaveWorked (setting (fix T.meaning core.limits A.address) T.op_of (D.faults core.opened)) core.history result.core.history (faults_since D.faults result.core) work.count work.steps work.number) }
+    ensures worked { IfOk result.outcomes (HaveWorked (setting (fix T.meaning core.terms A.address) T.op_of (D.faults core.opened)) core.history result.core.history (faults_since D.faults result.core) work.count work.steps work.number) }
     ensures idle { OnErr result.outcomes (result.core.history ≡ core.history) }
 {
     keeps_limits::<T>();
+    keeps_order::<T>();
     makes_fewer_moves::<T>();
     has_fully_valid_prefixes::<T>();
     // Its clauses say what is known of a core.

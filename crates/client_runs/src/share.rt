@@ -3,7 +3,7 @@ ghost use Rattle.std.specs.Prelude.{◌≡◌, ◌*◌, ◌<◌, ◌≤◌, leng
 ghost use mathlib.Core.List.{IsPrefix};
 ghost use Rattle.branch_machine.specs.Fixed.{fix};
 ghost use Rattle.branch_machine.specs.Validity.{IsFullyValid};
-ghost use Rattle.branch_shared.specs.Keeps.{faults_since};
+ghost use Rattle.branch_shared.specs.Keeps.{DropsNone, faults_since};
 ghost use Rattle.branch_shared.specs.Names.{IsNamed};
 ghost use Rattle.parallel_clients.specs.Outcomes.{setting};
 ghost use Rattle.client_runs.specs.Worked.{HaveRun};
@@ -38,15 +38,16 @@ pub(crate) fn share<
     N: Named<T::Op, T::Reply> + Drop + Send + Sync,
     R: Threads + Wait + Sync,
 >(rt: &R, alloc: Global, blank: Blank<T, D, A>, scripts: &[Listing<Step>]) -> Finished<T, D, A>
-    requires name { IsNamed blank N.table N.begun N.limits N.parts N.opened }
+    requires name { IsNamed blank N.table N.begun N.terms N.parts N.opened }
     requires parts { 2 * length scripts.now < blank.parts }
     ensures grows { IsPrefix blank.core.history result.core.history }
-    ensures valid { IsFullyValid (fix T.meaning blank.core.limits A.address) result.core.history }
-    ensures limits { result.core.limits ≡ blank.core.limits }
+    ensures drops_none { DropsNone blank.core.history result.core.history }
+    ensures valid { IsFullyValid (fix T.meaning blank.core.terms A.address) result.core.history }
+    ensures terms { result.core.terms ≡ blank.core.terms }
     ensures opened { D.faults result.core.opened ≡ blank.opened }
     ensures later { D.faults result.core.opened ≤ D.faults result.core.disk }
     ensures faults { faults_since D.faults blank.core ≤ faults_since D.faults result.core }
-    ensures ran { IfOk result.outcomes (HaveRun (setting (fix T.meaning blank.core.limits A.address) T.op_of blank.opened) blank.core.history result.core.history (faults_since D.faults result.core) scripts.now) }
+    ensures ran { IfOk result.outcomes (HaveRun (setting (fix T.meaning blank.core.terms A.address) T.op_of blank.opened) blank.core.history result.core.history (faults_since D.faults result.core) scripts.now) }
     ensures idle { OnErr result.outcomes (result.core.history ≡ blank.core.history) }
 {
     stays_outcome::<T>();

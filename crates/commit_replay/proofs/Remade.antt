@@ -15,7 +15,7 @@ use Rattle.commit_replay.proofs.Steps.{other-remade}
 
 module _ {S O R Q A : Type 0} (m : Meaning S O R Q A) (address : List ℕ → List ℕ) (old new : RecordedView (Move O R)) (step : Step O Q) (made : Move O R) (r : Record) (bytes : List ℕ) where
   abbrev fixed : Fixed S O R Q A
-  fixed = fix m old.limits address
+  fixed = fix m old.terms address
 
   abbrev pending : RecordedView (Move O R)
   pending = record old { pending = made ∷ [] }
@@ -27,10 +27,10 @@ module _ {S O R Q A : Type 0} (m : Meaning S O R Q A) (address : List ℕ → Li
       (is.0 ∙ back, other-remade fixed old.written step made r bytes makes is.1)
 
   -- after a landing or a fork
-  pub kept-made : old.pending ≡ [] → (full_turn fixed old.written step).made ≡ made ∷ [] → (mid : RecordedView (Move O R)) → mid ≡ pending → (own : Record) → own ≡ record_of fixed old.written made → IsFullyValid (fix m mid.limits address) (mid.written ++ mid.pending)
-      → (same : Bool) → ((n : Move O R) → mid.pending ≡ n ∷ [] → own ≡ record_of (fix m mid.limits address) mid.written n → IsKeptIfSame (fix m mid.limits address) mid new n r bytes same) → Remade fixed old new step r bytes same
+  pub kept-made : old.pending ≡ [] → (full_turn fixed old.written step).made ≡ made ∷ [] → (mid : RecordedView (Move O R)) → mid ≡ pending → (own : Record) → own ≡ record_of fixed old.written made → IsFullyValid (fix m mid.terms address) (mid.written ++ mid.pending)
+      → (same : Bool) → ((n : Move O R) → mid.pending ≡ n ∷ [] → own ≡ record_of (fix m mid.terms address) mid.written n → IsKeptIfSame (fix m mid.terms address) mid new n r bytes same) → Remade fixed old new step r bytes same
   kept-made settled makes mid is own own_is valid same keeps =
-      kept settled makes (subst (λ (x : RecordedView (Move O R)). IsFullyValid (fix m x.limits address) (x.written ++ x.pending)) is valid) same
+      kept settled makes (subst (λ (x : RecordedView (Move O R)). IsFullyValid (fix m x.terms address) (x.written ++ x.pending)) is valid) same
       (subst
-      (λ (x : RecordedView (Move O R)). (n : Move O R) → x.pending ≡ n ∷ [] → own ≡ record_of (fix m x.limits address) x.written n → IsKeptIfSame (fix m x.limits address) x new n r bytes same) is
+      (λ (x : RecordedView (Move O R)). (n : Move O R) → x.pending ≡ n ∷ [] → own ≡ record_of (fix m x.terms address) x.written n → IsKeptIfSame (fix m x.terms address) x new n r bytes same) is
       keeps made refl own_is)

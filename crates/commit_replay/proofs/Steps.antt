@@ -18,29 +18,30 @@ use Rattle.branch_objects_codec.specs.Grammar.{IsCommit}
 use Rattle.branch_history.specs.declared.moves.Move.{Move}
 use Rattle.branch_history.specs.declared.moves.Move.TheVariants as move
 use Rattle.branch_history.specs.Commits.{clock_of, visible}
-use Rattle.branch_history.specs.History.{Store, store_of}
-use Rattle.branch_history.specs.Machine.{turn, answers, makes, unless}
+use Rattle.branch_history.specs.History.{Store}
+use Rattle.branch_history.specs.Machine.{turn, answers, makes}
 use Rattle.branch_history.specs.Steps as machine
 use Rattle.branch_history.proofs.Turns.{fork-makes, land-makes, merge-makes, forward-makes}
 use Rattle.branch_history.proofs.Histories.{valid-few}
 use Rattle.branch_history.proofs.Valid.{IsAccepted, IsAccepted-from}
 use Rattle.heads_journal.specs.declared.record.Record.{Record}
-use Rattle.heads_journal.specs.declared.record.Record.TheVariants.{Fork, Operation, Merge, Forward}
+use Rattle.heads_journal.specs.declared.record.Record.TheVariants.{Fork, Operation, Merge, Forward, Join, Received, Place, Drop}
 use Rattle.heads_journal.specs.Format.{fields_of, record_fields, Fits}
 use Rattle.heads_journal.proofs.Spelled.{length-spelled}
 use Rattle.branch_machine.specs.Fixed.{Fixed}
-use Rattle.branch_machine.specs.Objects.{objects_text, region, end_of}
-use Rattle.branch_machine.specs.Machine.{collision_refusal, unless_made, full_turn}
+use Rattle.branch_machine.specs.Objects.{store_after, objects_text, region, end_of}
+use Rattle.branch_machine.specs.Machine.{collision_refusal, commit_here, unless_made, full_turn}
 use Rattle.branch_machine.specs.Laws.{HasSize}
 use Rattle.branch_machine.specs.Validity.{IsFullMove, IsFullyValid}
 use Rattle.branch_machine.proofs.Valid.{full_move-is, valid-before, valid-second, valid-more}
-use Rattle.branch_files.specs.Records.{record_of, records_of, history_text}
+use Rattle.branch_files.specs.Records.{record_of, records_of, IsKnown, AreKnown, history_text}
 use Rattle.branch_files.specs.Stands.{Spans}
 use Rattle.branch_files.specs.Next.{end_at, MakesCommit, IsNext, bytes_behind, Suits, Does, IsValuePart, HasShape, IsMade}
-use Rattle.branch_files.proofs.Longer.{more-begins, records-more, objects_text-more}
+use Rattle.branch_files.proofs.Longer.{more-begins, records-more, known-more, objects_text-more}
 use Rattle.branch_files.proofs.All.{grown, next-plain}
 use Rattle.branch_files.proofs.Next.{bytes-are}
 use Rattle.branch_files.proofs.Shapes.{operation-tells}
+use Rattle.recorded_history.proofs.Steps.{full-plain, full-makes}
 use Rattle.commit_replay.specs.Follows.{Follows, MayCome, Remakes}
 use Rattle.commit_replay.specs.declared.commit.NotRemade.{NotRemade}
 use Rattle.commit_replay.specs.declared.commit.NotRemade.TheVariants as unmade
@@ -54,20 +55,14 @@ use Rattle.commit_replay.proofs.Lists.{take-at}
 
 module _ {S O R Q A : Type 0} (fixed : Fixed S O R Q A) (moves : List (Move O R)) where
   abbrev s : Store O R
-  s = store_of moves
-
-  -- a turn whose move does not collide is the full one
-  pub full-makes : (step : machine.Step O Q) (m : Move O R) (outcome : machine.Outcome A R) → turn fixed.meaning fixed.limits moves step ≡ makes m outcome → collision_refusal fixed moves m ≡ None → full_turn fixed moves step ≡ makes m outcome
-  unfolding full_turn
-  full-makes step m outcome is none =
-      ap (λ t. unless_made (collision_refusal fixed moves) t.made t) is ∙ ap (λ o. unless o (makes m outcome)) none
+  s = store_after fixed moves
 
   module _ (m : Move O R) (full : IsFullMove fixed moves m) where
-    accepted : IsAccepted fixed.meaning fixed.limits moves m
-    accepted = IsAccepted-from fixed.meaning fixed.limits moves m (full_move-is fixed moves m full).0
+    accepted : IsAccepted fixed.meaning fixed.terms moves m
+    accepted = IsAccepted-from fixed.meaning fixed.terms moves m (full_move-is fixed moves m full).0
 
     free : collision_refusal fixed moves m ≡ None
-    free = (full_move-is fixed moves m full).1
+    free = (full_move-is fixed moves m full).2
 
   -- a move of the machine is made by the step of one that sees the head of the branch
   again-fork : (name from_name : List ℕ) (count from : ℕ) → branch_named s.branches from_name ≡ Some from → IsFullMove fixed moves (move.Fork name count from) → (full_turn fixed moves (machine.Fork name from_name)).made ≡ move.Fork name count from ∷ []
@@ -76,58 +71,61 @@ module _ {S O R Q A : Type 0} (fixed : Fixed S O R Q A) (moves : List (Move O R)
       let is = accepted m full in
       let same : move.Fork name (length s.branches) from ≡ m = ap (λ (k : ℕ). move.Fork name k from) (sym is.next) in
       ap (λ t. t.made)
-      (full-makes (machine.Fork name from_name) m (machine.Forked (length s.branches) (head_of s.branches from))
-      (fork-makes fixed.meaning fixed.limits moves name from_name from named is.free is.landed ∙ ap (λ (x : Move O R). makes x (machine.Forked (length s.branches) (head_of s.branches from))) same) (free m full))
+      (full-makes fixed moves (machine.Fork name from_name) refl m (machine.Forked (length s.branches) (head_of s.branches from))
+      (fork-makes fixed.meaning fixed.terms moves name from_name from named is.free is.landed ∙ ap (λ (x : Move O R). makes x (machine.Forked (length s.branches) (head_of s.branches from))) same) (free m full))
 
   again-operation : (r : ℕ) (op : O) (reply : R) → IsFullMove fixed moves (move.Operation r op reply) → (full_turn fixed moves (machine.Land r (head_of s.branches r) op)).made ≡ move.Operation r op reply ∷ []
   again-operation r op reply full =
       let m : Move O R = move.Operation r op reply in
       let is = accepted m full in
       let h : ℕ = head_of s.branches r in
-      let turned = land-makes fixed.meaning fixed.limits moves r h op is.prepared is.landed in
+      let turned = land-makes fixed.meaning fixed.terms moves r h op is.prepared is.landed in
       let same : move.Operation r op (fixed.meaning.reply_of (visible s.commits h) op) ≡ m = ap (λ x. move.Operation r op x) (sym is.replies) in
       ap (λ t. t.made)
-      (full-makes (machine.Land r h op) m (turn fixed.meaning fixed.limits moves (machine.Land r h op)).outcome
-      (turned ∙ ap (λ (x : Move O R). makes x (machine.Landed (length s.commits) (record { clock = clock_of s.commits h + 1; origin = r }) (fixed.meaning.reply_of (visible s.commits h) op))) same ∙ ap (λ o. makes m o) (ap (λ t. t.outcome) (sym turned))) (free m full))
+      (full-makes fixed moves (machine.Land r h op) refl m (turn fixed.meaning fixed.terms moves (machine.Land r h op)).outcome
+      (turned ∙ ap (λ (x : Move O R). makes x (machine.Landed (length s.commits) (record { clock = clock_of s.commits h + 1; origin = fixed.terms.origin + r }) (fixed.meaning.reply_of (visible s.commits h) op))) same ∙ ap (λ o. makes m o) (ap (λ t. t.outcome) (sym turned))) (free m full))
 
-  again-merge : (r k : ℕ) → IsFullMove fixed moves (move.Merge r k) → (full_turn fixed moves (machine.Merge r (head_of s.branches r) k)).made ≡ move.Merge r k ∷ []
+  again-merge : (r k : ℕ) → IsFullMove fixed moves (move.Merge r k) → (full_turn fixed moves (machine.Merge r (head_of s.branches r) (k ∷ []))).made ≡ move.Merge r k ∷ []
   again-merge r k full =
       let m : Move O R = move.Merge r k in
       let is = accepted m full in
       let h : ℕ = head_of s.branches r in
       ap (λ t. t.made)
-      (full-makes (machine.Merge r h k) m (machine.Merged (length s.commits)) (merge-makes fixed.meaning fixed.limits moves r h k is.above is.below is.prepared is.landed) (free m full))
+      (full-makes fixed moves (machine.Merge r h (k ∷ [])) refl m (machine.Merged (length s.commits)) (merge-makes fixed.meaning fixed.terms moves r h k is.above is.below is.prepared is.landed) (free m full))
 
-  again-forward : (r k : ℕ) → IsFullMove fixed moves (move.Forward r k) → (full_turn fixed moves (machine.Merge r (head_of s.branches r) k)).made ≡ move.Forward r k ∷ []
+  again-forward : (r k : ℕ) → IsFullMove fixed moves (move.Forward r k) → (full_turn fixed moves (machine.Merge r (head_of s.branches r) (k ∷ []))).made ≡ move.Forward r k ∷ []
   again-forward r k full =
       let m : Move O R = move.Forward r k in
       let is = accepted m full in
       let h : ℕ = head_of s.branches r in
       ap (λ t. t.made)
-      (full-makes (machine.Merge r h k) m (machine.Forwarded k) (forward-makes fixed.meaning fixed.limits moves r h k is.above is.below is.landed) (free m full))
+      (full-makes fixed moves (machine.Merge r h (k ∷ [])) refl m (machine.Forwarded k) (forward-makes fixed.meaning fixed.terms moves r h k is.above is.below is.landed) (free m full))
 
   -- a merge with this record and region is what the step remakes
-  remade-merge : (r k : ℕ) (address : List ℕ) (end : ℕ) (bytes : List ℕ) (m : Move O R) → IsFullMove fixed moves m → record_of fixed moves m ≡ Merge r k address end → region fixed moves m ≡ bytes → Remakes fixed moves (machine.Merge r (head_of s.branches r) k) (Merge r k address end) bytes
+  remade-merge : (r k : ℕ) (address : List ℕ) (end : ℕ) (bytes : List ℕ) (m : Move O R) → IsFullMove fixed moves m → record_of fixed moves m ≡ Merge r k address end → region fixed moves m ≡ bytes → Remakes fixed moves (machine.Merge r (head_of s.branches r) (k ∷ [])) (Merge r k address end) bytes
   remade-merge r k address end bytes (move.Fork name count from) full same is = absurd (cc same)
   remade-merge r k address end bytes (move.Operation r' op reply) full same is = absurd (cc same)
   remade-merge r k address end bytes (move.Forward r' k') full same is = absurd (cc same)
+  remade-merge r k address end bytes (move.Join r' ks) full same is = absurd (cc same)
+  remade-merge r k address end bytes (move.Received parents origin clock act) full same is = absurd (cc same)
+  remade-merge r k address end bytes (move.Place name count k') full same is = absurd (cc same)
+  remade-merge r k address end bytes (move.Drop r') full same is = absurd (cc same)
   remade-merge r k address end bytes (move.Merge r' k') full same is =
       let a : r' ≡ r = cc same in
       let b : k' ≡ k = cc same in
       record {
         made = move.Merge r' k';
-        makes = ap (λ (x : ℕ). (full_turn fixed moves (machine.Merge x (head_of s.branches x) k)).made) (sym a) ∙ ap (λ (x : ℕ). (full_turn fixed moves (machine.Merge r' (head_of s.branches r') x)).made) (sym b) ∙ again-merge r' k' full;
+        makes = ap (λ (x : ℕ). (full_turn fixed moves (machine.Merge x (head_of s.branches x) (k ∷ []))).made) (sym a) ∙ ap (λ (x : ℕ). (full_turn fixed moves (machine.Merge r' (head_of s.branches r') (x ∷ []))).made) (sym b) ∙ again-merge r' k' full;
         recorded = same;
         stored = is;
       }
 
-  pub not-merged : (r k : ℕ) (address : List ℕ) (end : ℕ) (bytes : List ℕ) → (Remakes fixed moves (machine.Merge r (head_of s.branches r) k) (Merge r k address end) bytes → ⊥) → IsMade fixed moves (Merge r k address end) bytes → ⊥
+  pub not-merged : (r k : ℕ) (address : List ℕ) (end : ℕ) (bytes : List ℕ) → (Remakes fixed moves (machine.Merge r (head_of s.branches r) (k ∷ [])) (Merge r k address end) bytes → ⊥) → IsMade fixed moves (Merge r k address end) bytes → ⊥
   not-merged r k address end bytes none (m, full, same, is) = none (remade-merge r k address end bytes m full same is)
 
   -- a step that the machine answers without a move remakes none
-  pub full-answers : (step : machine.Step O Q) (outcome : machine.Outcome A R) → turn fixed.meaning fixed.limits moves step ≡ answers outcome → full_turn fixed moves step ≡ answers outcome
-  unfolding full_turn
-  full-answers step outcome is = ap (λ t. unless_made (collision_refusal fixed moves) t.made t) is
+  pub full-answers : (step : machine.Step O Q) → commit_here fixed moves step ≡ None → (outcome : machine.Outcome A R) → turn fixed.meaning fixed.terms moves step ≡ answers outcome → full_turn fixed moves step ≡ answers outcome
+  full-answers step plain outcome is = full-plain fixed moves step plain ∙ ap (λ t. unless_made (collision_refusal fixed moves) t.made t) is
 
   pub none-remade : (step : machine.Step O Q) (r : Record) (bytes : List ℕ) → (full_turn fixed moves step).made ≡ [] → Remakes fixed moves step r bytes → ⊥
   none-remade step r bytes none again = let e : [] ≡ again.made ∷ [] = sym none ∙ again.makes in cc e
@@ -140,8 +138,8 @@ module _ {S O R Q A : Type 0} (fixed : Fixed S O R Q A) (moves : List (Move O R)
       other (ap (record_of fixed moves) same ∙ again.recorded) (ap (region fixed moves) same ∙ again.stored)
 
   -- a move of the machine with this record and the region behind the history: records that the history follows go on with it
-  pub follows-more : (objects : List ℕ) (records : List Record) (r : Record) (m : Move O R) → Follows fixed moves records objects → slice_get records (length moves) ≡ Some r → IsFullMove fixed moves m → record_of fixed moves m ≡ r → region fixed moves m ≡ bytes_behind fixed moves objects r → Follows fixed (moves ++ m ∷ []) records objects
-  follows-more objects records r m follows comes full same is =
+  pub follows-more : (objects : List ℕ) (records : List Record) (r : Record) (m : Move O R) → Follows fixed moves records objects → slice_get records (length moves) ≡ Some r → IsKnown r → IsFullMove fixed moves m → record_of fixed moves m ≡ r → region fixed moves m ≡ bytes_behind fixed moves objects r → Follows fixed (moves ++ m ∷ []) records objects
+  follows-more objects records r m follows comes known full same is =
       let count : length (moves ++ m ∷ []) ≡ suc (length moves) = omega (arith, length-append moves (m ∷ [])) in
       let there = slice_get_within records (length moves) r comes in
       let k : ℕ = end_at r - end_of fixed moves in
@@ -150,6 +148,7 @@ module _ {S O R Q A : Type 0} (fixed : Fixed S O R Q A) (moves : List (Move O R)
         within = omega (arith, count, there);
         recorded = records-more fixed moves m ∙ ap (λ (q : Record). records_of fixed moves ++ q ∷ []) same ∙ ap (λ (l : List Record). l ++ r ∷ []) follows.recorded
             ∙ sym (take-at records (length moves) r comes) ∙ ap (λ (n : ℕ). take n records) (sym count);
+        known = known-more fixed moves m follows.known (subst IsKnown (sym same) known);
         stored = more-begins (objects_text fixed (moves ++ m ∷ [])) objects
             (record {
               more = drop k rest;
@@ -160,7 +159,7 @@ module _ {S O R Q A : Type 0} (fixed : Fixed S O R Q A) (moves : List (Move O R)
       }
 
 -- files that have the history and the record, and these objects
-module _ {S O R Q A : Type 0} (fixed : Fixed S O R Q A) (moves : List (Move O R)) (objects : List ℕ) (r : Record) (valid : IsFullyValid fixed moves) (begins : Begins (objects_text fixed moves) objects) (fits : Fits r) (may : MayCome fixed moves r) where
+module _ {S O R Q A : Type 0} (fixed : Fixed S O R Q A) (moves : List (Move O R)) (objects : List ℕ) (r : Record) (valid : IsFullyValid fixed moves) (begins : Begins (objects_text fixed moves) objects) (known : AreKnown fixed moves) (fits : Fits r) (may : MayCome fixed moves r) where
   abbrev text : List ℕ
   text = history_text fixed moves
 
@@ -171,7 +170,7 @@ module _ {S O R Q A : Type 0} (fixed : Fixed S O R Q A) (moves : List (Move O R)
   files = record { objects = objects; heads = text ++ behind }
 
   spanned : Spans fixed moves files
-  spanned = record { valid = valid; objects = begins; heads = take-append_seam text behind; gate = omega (arith, length-append text behind) }
+  spanned = record { valid = valid; objects = begins; heads = take-append_seam text behind; gate = omega (arith, length-append text behind); known = known }
 
   next : IsNext fixed moves files.heads r
   next = record {
@@ -181,6 +180,7 @@ module _ {S O R Q A : Type 0} (fixed : Fixed S O R Q A) (moves : List (Move O R)
     };
     spelled = ap (take 63) (drop-append-add text behind 1) ∙ take_at (record_fields r) (0 ∷ []) 63 (length-spelled (fields_of r) fits.0);
     fits = fits;
+    known = may.known;
     room = may.room;
     suits = may.suits;
   }
@@ -210,11 +210,15 @@ end-field (Fork number from name end) = refl
 end-field (Operation branch address end) = refl
 end-field (Merge branch from address end) = refl
 end-field (Forward branch to end) = refl
+end-field (Join branch joined end) = refl
+end-field (Received address end) = refl
+end-field (Place number commit name end) = refl
+end-field (Drop branch end) = refl
 
 -- bytes that may stand behind the history
-module _ {S O R Q A : Type 0} (fixed : Fixed S O R Q A) (moves : List (Move O R)) (r : Record) (bytes : List ℕ) (laws : KeepsLaws fixed.meaning) (size : HasSize fixed.address) (valid : IsFullyValid fixed moves) (fits : Fits r) (may : MayCome fixed moves r) (long : end_of fixed moves + length bytes ≡ end_at r) where
+module _ {S O R Q A : Type 0} (fixed : Fixed S O R Q A) (moves : List (Move O R)) (r : Record) (bytes : List ℕ) (laws : KeepsLaws fixed.meaning) (size : HasSize fixed.address) (valid : IsFullyValid fixed moves) (known : AreKnown fixed moves) (fits : Fits r) (may : MayCome fixed moves r) (long : end_of fixed moves + length bytes ≡ end_at r) where
   abbrev t : Store O R
-  t = store_of moves
+  t = store_after fixed moves
 
   abbrev before : List ℕ
   before = objects_text fixed moves
@@ -238,14 +242,17 @@ module _ {S O R Q A : Type 0} (fixed : Fixed S O R Q A) (moves : List (Move O R)
     remade-operation b address end is_r (move.Fork name count from) full same is = absurd (let e : Fork count from name (end_of fixed (moves ++ move.Fork name count from ∷ [])) ≡ Operation b address end = same ∙ is_r in cc e)
     remade-operation b address end is_r (move.Merge r' k') full same is = absurd (let e : record_of fixed moves (move.Merge r' k') ≡ Operation b address end = same ∙ is_r in cc e)
     remade-operation b address end is_r (move.Forward r' k') full same is = absurd (let e : record_of fixed moves (move.Forward r' k') ≡ Operation b address end = same ∙ is_r in cc e)
+    remade-operation b address end is_r (move.Join r' ks) full same is = absurd (let e : record_of fixed moves (move.Join r' ks) ≡ Operation b address end = same ∙ is_r in cc e)
+    remade-operation b address end is_r (move.Received parents origin clock act) full same is = absurd (let e : record_of fixed moves (move.Received parents origin clock act) ≡ Operation b address end = same ∙ is_r in cc e)
+    remade-operation b address end is_r (move.Place name count k') full same is = absurd (let e : record_of fixed moves (move.Place name count k') ≡ Operation b address end = same ∙ is_r in cc e)
+    remade-operation b address end is_r (move.Drop r') full same is = absurd (let e : record_of fixed moves (move.Drop r') ≡ Operation b address end = same ∙ is_r in cc e)
     remade-operation b address end is_r (move.Operation b' other reply) full same is =
         let e : record_of fixed moves (move.Operation b' other reply) ≡ Operation b address end = same ∙ is_r in
         let branch : b' ≡ b = cc e in
-        let spelled = operation-of fixed moves whole r valid starts fits may laws size whole-short b' other reply full same (is ∙ sym behind-is) (value_text value) c (value-part fixed r bytes value are.short inside) are.commit (behind-is ∙ are.whole) in
+        let spelled = operation-of fixed moves whole r valid starts known fits may laws size whole-short b' other reply full same (is ∙ sym behind-is) (value_text value) c (value-part fixed r bytes value are.short inside) are.commit (behind-is ∙ are.whole) in
         let actions : wire.Operation text told ≡ wire.Operation (fixed.meaning.op_spelling other) (fixed.meaning.reply_spelling reply) = sym does ∙ spelled in
         let texts : text ≡ fixed.meaning.op_spelling other = cc actions in
-        let known = (accepted fixed moves (move.Operation b' other reply) full).known in
-        let ops : op ≡ other = one other known (sym texts) in
+        let ops : op ≡ other = one other (accepted fixed moves (move.Operation b' other reply) full).known (sym texts) in
         record {
           made = move.Operation b' other reply;
           makes = ap (λ (x : ℕ). (full_turn fixed moves (machine.Land x (head_of t.branches x) op)).made) (sym branch) ∙ ap (λ (x : O). (full_turn fixed moves (machine.Land b' (head_of t.branches b') x)).made) ops
@@ -272,15 +279,19 @@ module _ {S O R Q A : Type 0} (fixed : Fixed S O R Q A) (moves : List (Move O R)
   forked name from_name number from end is_r named (move.Operation b' op reply) same full is = absurd (let e : record_of fixed moves (move.Operation b' op reply) ≡ Fork number from name end = same ∙ is_r in cc e)
   forked name from_name number from end is_r named (move.Merge b' k') same full is = absurd (let e : record_of fixed moves (move.Merge b' k') ≡ Fork number from name end = same ∙ is_r in cc e)
   forked name from_name number from end is_r named (move.Forward b' k') same full is = absurd (let e : record_of fixed moves (move.Forward b' k') ≡ Fork number from name end = same ∙ is_r in cc e)
+  forked name from_name number from end is_r named (move.Join b' ks) same full is = absurd (let e : record_of fixed moves (move.Join b' ks) ≡ Fork number from name end = same ∙ is_r in cc e)
+  forked name from_name number from end is_r named (move.Received parents origin clock act) same full is = absurd (let e : record_of fixed moves (move.Received parents origin clock act) ≡ Fork number from name end = same ∙ is_r in cc e)
+  forked name from_name number from end is_r named (move.Place name' count k') same full is = absurd (let e : record_of fixed moves (move.Place name' count k') ≡ Fork number from name end = same ∙ is_r in cc e)
+  forked name from_name number from end is_r named (move.Drop b') same full is = absurd (let e : record_of fixed moves (move.Drop b') ≡ Fork number from name end = same ∙ is_r in cc e)
 
-  forwarded : (b k end : ℕ) → r ≡ Forward b k end → (m : Move O R) → record_of fixed moves m ≡ r → IsFullMove fixed moves m → region fixed moves m ≡ bytes → Remakes fixed moves (machine.Merge b (head_of t.branches b) k) r bytes
+  forwarded : (b k end : ℕ) → r ≡ Forward b k end → (m : Move O R) → record_of fixed moves m ≡ r → IsFullMove fixed moves m → region fixed moves m ≡ bytes → Remakes fixed moves (machine.Merge b (head_of t.branches b) (k ∷ [])) r bytes
   forwarded b k end is_r (move.Forward b' k') same full is =
       let e : record_of fixed moves (move.Forward b' k') ≡ Forward b k end = same ∙ is_r in
       let branch : b' ≡ b = cc e in
       let commit : k' ≡ k = cc e in
       record {
         made = move.Forward b' k';
-        makes = ap (λ (x : ℕ). (full_turn fixed moves (machine.Merge x (head_of t.branches x) k)).made) (sym branch) ∙ ap (λ (x : ℕ). (full_turn fixed moves (machine.Merge b' (head_of t.branches b') x)).made) (sym commit)
+        makes = ap (λ (x : ℕ). (full_turn fixed moves (machine.Merge x (head_of t.branches x) (k ∷ []))).made) (sym branch) ∙ ap (λ (x : ℕ). (full_turn fixed moves (machine.Merge b' (head_of t.branches b') (x ∷ []))).made) (sym commit)
             ∙ again-forward fixed moves b' k' full;
         recorded = same;
         stored = is;
@@ -288,30 +299,38 @@ module _ {S O R Q A : Type 0} (fixed : Fixed S O R Q A) (moves : List (Move O R)
   forwarded b k end is_r (move.Fork name count from) same full is = absurd (let e : record_of fixed moves (move.Fork name count from) ≡ Forward b k end = same ∙ is_r in cc e)
   forwarded b k end is_r (move.Operation b' op reply) same full is = absurd (let e : record_of fixed moves (move.Operation b' op reply) ≡ Forward b k end = same ∙ is_r in cc e)
   forwarded b k end is_r (move.Merge b' k') same full is = absurd (let e : record_of fixed moves (move.Merge b' k') ≡ Forward b k end = same ∙ is_r in cc e)
+  forwarded b k end is_r (move.Join b' ks) same full is = absurd (let e : record_of fixed moves (move.Join b' ks) ≡ Forward b k end = same ∙ is_r in cc e)
+  forwarded b k end is_r (move.Received parents origin clock act) same full is = absurd (let e : record_of fixed moves (move.Received parents origin clock act) ≡ Forward b k end = same ∙ is_r in cc e)
+  forwarded b k end is_r (move.Place name count k') same full is = absurd (let e : record_of fixed moves (move.Place name count k') ≡ Forward b k end = same ∙ is_r in cc e)
+  forwarded b k end is_r (move.Drop b') same full is = absurd (let e : record_of fixed moves (move.Drop b') ≡ Forward b k end = same ∙ is_r in cc e)
 
   pub fork-remade : (name from_name : List ℕ) (number from end : ℕ) → r ≡ Fork number from name end → branch_named t.branches from_name ≡ Some from → Remakes fixed moves (machine.Fork name from_name) r bytes
   fork-remade name from_name number from end is_r named =
-      let made = plain fixed moves whole r valid starts fits may laws size whole-short (subst (λ (q : Record). MakesCommit q → ⊥) (sym is_r) (λ none. none)) in
+      let made = plain fixed moves whole r valid starts known fits may laws size whole-short (subst (λ (q : Record). MakesCommit q → ⊥) (sym is_r) (λ none. none)) in
       forked name from_name number from end is_r named made.0 made.1 made.2 (made.3 ∙ behind-is)
 
-  pub forward-remade : (b k end : ℕ) → r ≡ Forward b k end → Remakes fixed moves (machine.Merge b (head_of t.branches b) k) r bytes
+  pub forward-remade : (b k end : ℕ) → r ≡ Forward b k end → Remakes fixed moves (machine.Merge b (head_of t.branches b) (k ∷ [])) r bytes
   forward-remade b k end is_r =
-      let made = plain fixed moves whole r valid starts fits may laws size whole-short (subst (λ (q : Record). MakesCommit q → ⊥) (sym is_r) (λ none. none)) in
+      let made = plain fixed moves whole r valid starts known fits may laws size whole-short (subst (λ (q : Record). MakesCommit q → ⊥) (sym is_r) (λ none. none)) in
       forwarded b k end is_r made.0 made.1 made.2 (made.3 ∙ behind-is)
 
   -- what the step of a plan does not remake, the machine does not make
-  planned-not : (q : Record) → r ≡ q → (action : Action) (p : Plan O) → IsPlanOf fixed.meaning q action p → (value : Option (List ℕ)) (c : CommitFields) → AreParts bytes value c → IsOfType fixed.meaning value → c.action ≡ action → (Remakes fixed moves (step_for moves p) r bytes → ⊥) → IsMade fixed moves r bytes → ⊥
+  planned-not : (q : Record) → r ≡ q → (action : Action) (p : Plan O) → IsPlanOf fixed.meaning q action p → (value : Option (List ℕ)) (c : CommitFields) → AreParts bytes value c → IsOfType fixed.meaning value → c.action ≡ action → (Remakes fixed moves (step_for fixed.terms moves p) r bytes → ⊥) → IsMade fixed moves r bytes → ⊥
   planned-not (Operation b address end) is_r (wire.Operation spelling told) (plan.Operation branch op) (same, known, one) value c are inside does none made =
       not-operated op spelling told one value c are inside does b address end is_r
       (λ again. none (subst (λ (x : ℕ). Remakes fixed moves (machine.Land x (head_of t.branches x) op) r bytes) (sym same) again)) made
   planned-not (Merge b k address end) is_r wire.Merge (plan.Merge branch commit) (same, other) value c are inside does none made =
       not-merged fixed moves b k address end bytes
-      (λ again. none (subst (λ (q : Record). Remakes fixed moves (machine.Merge branch (head_of t.branches branch) commit) q bytes) (sym is_r)
-      (subst (λ (x : ℕ). Remakes fixed moves (machine.Merge x (head_of t.branches x) commit) (Merge b k address end) bytes) (sym same)
-      (subst (λ (x : ℕ). Remakes fixed moves (machine.Merge b (head_of t.branches b) x) (Merge b k address end) bytes) (sym other) again))))
+      (λ again. none (subst (λ (q : Record). Remakes fixed moves (machine.Merge branch (head_of t.branches branch) (commit ∷ [])) q bytes) (sym is_r)
+      (subst (λ (x : ℕ). Remakes fixed moves (machine.Merge x (head_of t.branches x) (commit ∷ [])) (Merge b k address end) bytes) (sym same)
+      (subst (λ (x : ℕ). Remakes fixed moves (machine.Merge b (head_of t.branches b) (x ∷ [])) (Merge b k address end) bytes) (sym other) again))))
       (subst (λ (q : Record). IsMade fixed moves q bytes) is_r made)
   planned-not (Fork number from name end) is_r action p none-planned value c are inside does none made = absurd none-planned
   planned-not (Forward b k end) is_r action p none-planned value c are inside does none made = absurd none-planned
+  planned-not (Join b ks end) is_r action p none-planned value c are inside does none made = absurd none-planned
+  planned-not (Received address end) is_r action p none-planned value c are inside does none made = absurd none-planned
+  planned-not (Place number k name end) is_r action p none-planned value c are inside does none made = absurd none-planned
+  planned-not (Drop b end) is_r action p none-planned value c are inside does none made = absurd none-planned
   planned-not (Operation b address end) is_r wire.Root p none-planned value c are inside does none made = absurd none-planned
   planned-not (Operation b address end) is_r wire.Merge p none-planned value c are inside does none made = absurd none-planned
   planned-not (Operation b address end) is_r (wire.Operation spelling told) (plan.Merge branch commit) none-planned value c are inside does none made = absurd none-planned
@@ -320,7 +339,7 @@ module _ {S O R Q A : Type 0} (fixed : Fixed S O R Q A) (moves : List (Move O R)
   planned-not (Merge b k address end) is_r wire.Merge (plan.Operation branch op) none-planned value c are inside does none made = absurd none-planned
 
   -- why bytes were refused, of which these parts were read
-  pub why-refused : (p : Plan O) (value : Option (List ℕ)) (c : CommitFields) (action : Action) → IsPlanOf fixed.meaning r action p → AreParts bytes value c → c.action ≡ action → Does fixed r action → (Remakes fixed moves (step_for moves p) r bytes → ⊥) → (why : NotRemade) → IsWhyNot fixed.meaning value why → NotRemadeAs fixed moves r bytes why
+  pub why-refused : (p : Plan O) (value : Option (List ℕ)) (c : CommitFields) (action : Action) → IsPlanOf fixed.meaning r action p → AreParts bytes value c → c.action ≡ action → Does fixed r action → (Remakes fixed moves (step_for fixed.terms moves p) r bytes → ⊥) → (why : NotRemade) → IsWhyNot fixed.meaning value why → NotRemadeAs fixed moves r bytes why
   why-refused p value c action planned are does done none unmade.Object inside = not-valued fixed r bytes value c are inside
   why-refused p value c action planned are does done none unmade.Commit inside = (parts-shape fixed r bytes value c are inside (subst (Does fixed r) (sym does) done), planned-not r refl action p planned value c are inside does none)
   why-refused p value c action planned are does done none unmade.Memory inside = tt
@@ -336,10 +355,14 @@ no-bytes fixed moves (Fork number from name end) makes suits = suits.2
 no-bytes fixed moves (Operation b address end) makes suits = absurd (makes tt)
 no-bytes fixed moves (Merge b k address end) makes suits = absurd (makes tt)
 no-bytes fixed moves (Forward b k end) makes suits = suits.4
+no-bytes fixed moves (Join b ks end) makes suits = absurd (makes tt)
+no-bytes fixed moves (Received address end) makes suits = absurd (makes tt)
+no-bytes fixed moves (Place number k name end) makes suits = suits.2
+no-bytes fixed moves (Drop b end) makes suits = suits.2
 
 -- there is a number for one more move
 pub few-moves : {S O R Q A : Type 0} (fixed : Fixed S O R Q A) → KeepsLaws fixed.meaning → (moves : List (Move O R)) → IsFullyValid fixed moves → length moves + 1 < 2 ^ 64
 few-moves fixed laws moves valid =
-    let few = valid-few fixed.meaning fixed.limits laws moves (valid-before fixed moves valid) in
-    let most = fixed.limits.in_range.moves_high in
+    let few = valid-few fixed.meaning fixed.terms laws moves (valid-before fixed moves valid) in
+    let most = fixed.terms.limits.in_range.moves_high in
     omega (arith, few, most)

@@ -4,7 +4,7 @@ use Rattle.std.specs.Prelude.{slice_get}
 use Rattle.std.proofs.lemmas.List.{take_all}
 use Rattle.mrdt_model.specs.Laws.{Meaning}
 use Rattle.branch_disk.specs.declared.part.Part.TheVariants.{Objects, Heads}
-use Rattle.branch_names.specs.declared.limits.Limits.{Limits}
+use Rattle.branch_names.specs.declared.terms.Terms.{Terms}
 use Rattle.branch_wire.specs.StoredObjects.{Begins}
 use Rattle.branch_history.specs.declared.moves.Move.{Move}
 use Rattle.heads_journal.specs.declared.record.Record.{Record}
@@ -12,7 +12,8 @@ use Rattle.branch_machine.specs.Fixed.{Fixed, fix}
 use Rattle.branch_machine.specs.Objects.{objects_text}
 use Rattle.branch_machine.proofs.Valid.{valid-none}
 use Rattle.branch_files.specs.Next.{bytes_behind}
-use Rattle.branch_files.specs.Records.{records_of}
+use Rattle.branch_files.specs.Records.{records_of, IsKnown, AreKnown}
+use Rattle.branch_files.proofs.Longer.{none-known}
 use Rattle.recorded_history.specs.Views.{RecordedView}
 use Rattle.commit_replay.specs.declared.refused.ReplayRefused.{ReplayRefused}
 use Rattle.commit_replay.specs.declared.refused.ReplayRefused.TheVariants.{NotAStore, BadRecord, Truncated, BadObject, BadCommit, Memory}
@@ -20,33 +21,37 @@ use Rattle.commit_replay.specs.Refusals.{StopsAs, ReplayRefusedAs}
 use Rattle.commit_replay.specs.Walk.{GoesOn, IsWalked}
 use Rattle.commit_replay.proofs.Steps.{follows-more}
 
-module _ {S O R Q A : Type 0} (m : Meaning S O R Q A) (address : List ℕ → List ℕ) (limits : Limits) (records : List Record) (objects : List ℕ) where
+module _ {S O R Q A : Type 0} (m : Meaning S O R Q A) (address : List ℕ → List ℕ) (terms : Terms) (records : List Record) (objects : List ℕ) where
   abbrev fixed : Fixed S O R Q A
-  fixed = fix m limits address
+  fixed = fix m terms address
 
   -- the empty history
-  pub walked-none : (r : RecordedView (Move O R)) → r ≡ record { written = []; pending = []; limits = limits } → Begins (objects_text fixed []) objects → IsWalked fixed r 0 records objects
+  pub walked-none : (r : RecordedView (Move O R)) → r ≡ record { written = []; pending = []; terms = terms } → Begins (objects_text fixed []) objects → IsWalked fixed r 0 records objects
   unfolding records_of
   walked-none r is begins =
       subst (λ (x : RecordedView (Move O R)). IsWalked fixed x 0 records objects) (sym is)
-      (record { settled = refl; limits = refl; counted = refl; follows = record { valid = valid-none fixed; within = omega arith; recorded = refl; stored = begins } })
+      (record { settled = refl; terms = refl; counted = refl; follows = record { valid = valid-none fixed; within = omega arith; recorded = refl; known = none-known fixed; stored = begins } })
 
   module _ (r : RecordedView (Move O R)) (count : ℕ) (walked : IsWalked fixed r count records objects) (next : Record) (comes : slice_get records count ≡ Some next) where
     at : slice_get records (length r.written) ≡ Some next
     at = ap (slice_get records) walked.counted ∙ comes
 
     -- one more move
-    pub walked-more : (new : RecordedView (Move O R)) → GoesOn (fix m r.limits address) r new next (bytes_behind (fix m r.limits address) r.written objects next) → IsWalked fixed new (count + 1) records objects
-    walked-more new goes =
-        let own = subst (λ (l : Limits). GoesOn (fix m l address) r new next (bytes_behind (fix m l address) r.written objects next)) walked.limits goes in
+    pub walked-more : (new : RecordedView (Move O R)) → IsKnown next → GoesOn (fix m r.terms address) r new next (bytes_behind (fix m r.terms address) r.written objects next) → IsWalked fixed new (count + 1) records objects
+    walked-more new known goes =
+        let own = subst (λ (l : Terms). GoesOn (fix m l address) r new next (bytes_behind (fix m l address) r.written objects next)) walked.terms goes in
         let total : length (r.written ++ own.made ∷ []) ≡ count + 1 = omega (arith, walked.counted, length-append r.written (own.made ∷ [])) in
         subst (λ (x : RecordedView (Move O R)). IsWalked fixed x (count + 1) records objects) (sym own.grown)
         (record {
           settled = refl;
-          limits = walked.limits;
+          terms = walked.terms;
           counted = total;
-          follows = follows-more fixed r.written objects records next own.made walked.follows at own.full own.recorded own.stored;
+          follows = follows-more fixed r.written objects records next own.made walked.follows at known own.full own.recorded own.stored;
         })
+
+    -- the records so far are of known kinds
+    pub walked-known : AreKnown (fix m r.terms address) r.written
+    walked-known = subst (λ (l : Terms). AreKnown (fix m l address) r.written) (sym walked.terms) walked.follows.known
 
     refused : (why : ReplayRefused) → StopsAs fixed r.written objects next why → ReplayRefusedAs fixed records objects why
     refused NotAStore stops = absurd stops
@@ -58,13 +63,13 @@ module _ {S O R Q A : Type 0} (m : Meaning S O R Q A) (address : List ℕ → Li
     refused Memory stops = tt
 
     -- the next record goes no further
-    pub walk-stops : (why : ReplayRefused) → StopsAs (fix m r.limits address) r.written objects next why → ReplayRefusedAs fixed records objects why
-    walk-stops why stops = refused why (subst (λ (l : Limits). StopsAs (fix m l address) r.written objects next why) walked.limits stops)
+    pub walk-stops : (why : ReplayRefused) → StopsAs (fix m r.terms address) r.written objects next why → ReplayRefusedAs fixed records objects why
+    walk-stops why stops = refused why (subst (λ (l : Terms). StopsAs (fix m l address) r.written objects next why) walked.terms stops)
 
   -- all the records
   module _ (r : RecordedView (Move O R)) (walked : IsWalked fixed r (length records) records objects) where
     pub walked-all : records_of fixed r.written ≡ records
     walked-all = walked.follows.recorded ∙ take_all (length r.written) records (omega (arith, walked.counted))
 
-    pub walked-settled : r ≡ record { written = r.written; pending = []; limits = limits }
-    walked-settled = ap (λ (p : List (Move O R)). record { written = r.written; pending = p; limits = r.limits }) walked.settled ∙ ap (λ (l : Limits). record { written = r.written; pending = []; limits = l }) walked.limits
+    pub walked-settled : r ≡ record { written = r.written; pending = []; terms = terms }
+    walked-settled = ap (λ (p : List (Move O R)). record { written = r.written; pending = p; terms = r.terms }) walked.settled ∙ ap (λ (l : Terms). record { written = r.written; pending = []; terms = l }) walked.terms

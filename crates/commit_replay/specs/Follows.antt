@@ -8,19 +8,21 @@ use Rattle.branch_machine.specs.Fixed.{Fixed}
 use Rattle.branch_machine.specs.Objects.{objects_text, region}
 use Rattle.branch_machine.specs.Machine.{full_turn}
 use Rattle.branch_machine.specs.Validity.{IsFullyValid}
-use Rattle.branch_files.specs.Records.{record_of, records_of}
+use Rattle.branch_files.specs.Records.{record_of, records_of, IsKnown, AreKnown}
 use Rattle.branch_files.specs.Next.{Suits}
 
--- the first records are those of a valid history, and the objects begin with its objects
+-- the first records are those of a valid history, all of known kinds, and the objects begin with its objects
 pub record Follows {S O R Q A : Type 0} (fixed : Fixed S O R Q A) (moves : List (Move O R)) (records : List Record) (objects : List ℕ) : Type 0 where
   pub valid : IsFullyValid fixed moves
   pub within : length moves ≤ length records
   pub recorded : records_of fixed moves ≡ take (length moves) records
+  pub known : AreKnown fixed moves
   pub stored : Begins (objects_text fixed moves) objects
 
--- the history allows this record behind it
+-- the history allows this record behind it, which is of a known kind
 pub record MayCome {S O R Q A : Type 0} (fixed : Fixed S O R Q A) (moves : List (Move O R)) (r : Record) : Type 0 where
-  pub room : length moves < fixed.limits.moves
+  pub room : length moves < fixed.terms.limits.moves
+  pub known : IsKnown r
   pub suits : Suits fixed moves r
 
 -- a step of the machine makes a move that has this record, and this region

@@ -1,6 +1,7 @@
 -- What a record and its commit say is to be done.
-use Rattle.std.specs.Prelude.{◌≡◌, List}
+use Rattle.std.specs.Prelude.{◌≡◌, List, [], ◌∷◌}
 use Rattle.mrdt_model.specs.Laws.{Meaning}
+use Rattle.branch_names.specs.declared.terms.Terms.{Terms}
 use Rattle.branch_names.specs.Heads.{head_of}
 use Rattle.branch_wire.specs.declared.action.Action.{Action}
 use Rattle.branch_wire.specs.declared.action.Action.TheVariants as wire
@@ -20,6 +21,6 @@ IsPlanOf meaning (entry.Merge r m address end) wire.Merge (Merge branch commit) 
 IsPlanOf meaning r action plan = ⊥
 
 -- the step that does it, by one that sees the head of the branch
-abbrev pub step_for : {O R Q : Type 0} → List (Move O R) → Plan O → machine.Step O Q
-step_for moves (Operation branch op) = machine.Land branch (head_of (store_of moves).branches branch) op
-step_for moves (Merge branch commit) = machine.Merge branch (head_of (store_of moves).branches branch) commit
+abbrev pub step_for : {O R Q : Type 0} → Terms → List (Move O R) → Plan O → machine.Step O Q
+step_for terms moves (Operation branch op) = machine.Land branch (head_of (store_of terms.origin moves).branches branch) op
+step_for terms moves (Merge branch commit) = machine.Merge branch (head_of (store_of terms.origin moves).branches branch) (commit ∷ [])

@@ -4,10 +4,9 @@ use Rattle.std.specs.declared.option.Option.TheVariants.{Some}
 use Rattle.branch_wire.specs.StoredObjects.{Begins}
 use Rattle.branch_disk.specs.declared.part.Part.TheVariants.{Objects, Heads}
 use Rattle.branch_history.specs.declared.moves.Move.{Move}
-use Rattle.branch_history.specs.History.{store_of}
 use Rattle.heads_journal.specs.declared.record.Record.{Record}
 use Rattle.branch_machine.specs.Fixed.{Fixed}
-use Rattle.branch_machine.specs.Objects.{objects_text, end_of}
+use Rattle.branch_machine.specs.Objects.{store_after, objects_text, end_of}
 use Rattle.branch_files.specs.Next.{end_at, MakesCommit, bytes_behind, HasShape, IsMade}
 use Rattle.commit_replay.specs.Follows.{Follows, MayCome}
 use Rattle.commit_replay.specs.declared.refused.ReplayRefused.{ReplayRefused}
@@ -29,7 +28,7 @@ StopsAs fixed moves objects r (Truncated Heads place) = ⊥
 StopsAs fixed moves objects r (BadObject place) =
     (place ≡ end_of fixed moves) × ComesWhole fixed moves objects r × ¬ HasShape fixed r (bytes_behind fixed moves objects r)
 StopsAs fixed moves objects r (BadCommit number) =
-    (number ≡ length (store_of moves).commits) × ComesWhole fixed moves objects r
+    (number ≡ length (store_after fixed moves).commits) × ComesWhole fixed moves objects r
     × HasShape fixed r (bytes_behind fixed moves objects r) × ¬ IsMade fixed moves r (bytes_behind fixed moves objects r)
 StopsAs fixed moves objects r Memory = Unit {0}
 

@@ -1,11 +1,11 @@
 -- How the walk over the records goes on.
 use Rattle.std.specs.Prelude.{◌≡◌, ℕ, Bool, true, false, List, [], ◌∷◌, ◌++◌, length}
 use Rattle.branch_history.specs.declared.moves.Move.{Move}
-use Rattle.branch_history.specs.History.{Store, store_of}
+use Rattle.branch_history.specs.History.{Store}
 use Rattle.branch_history.specs.Steps.{Step}
 use Rattle.heads_journal.specs.declared.record.Record.{Record}
 use Rattle.branch_machine.specs.Fixed.{Fixed}
-use Rattle.branch_machine.specs.Objects.{end_of, region}
+use Rattle.branch_machine.specs.Objects.{store_after, end_of, region}
 use Rattle.branch_machine.specs.Validity.{IsFullMove, IsFullyValid}
 use Rattle.branch_files.specs.Records.{record_of}
 use Rattle.branch_files.specs.Next.{HasBranch, HasCommit, HasShape, IsMade}
@@ -17,13 +17,13 @@ use Rattle.commit_replay.specs.declared.plan.Plan.{Plan}
 use Rattle.commit_replay.specs.declared.plan.Plan.TheVariants as plan
 use Rattle.commit_replay.specs.Follows.{Follows, Remakes}
 
--- a valid history, its numbers, its limits, and where its objects end
+-- a valid history, its numbers, its terms, and where its objects end
 pub record IsStanding {S O R Q A : Type 0} (fixed : Fixed S O R Q A) (history : List (Move O R)) (s : Standing) : Type 0 where
   pub valid : IsFullyValid fixed history
   pub moves : s.moves ≡ length history
-  pub commits : s.commits ≡ length (store_of history).commits
-  pub branches : s.branches ≡ length (store_of history).branches
-  pub limits : s.limits ≡ fixed.limits
+  pub commits : s.commits ≡ length (store_after fixed history).commits
+  pub branches : s.branches ≡ length (store_after fixed history).branches
+  pub terms : s.terms ≡ fixed.terms
   pub end : s.end ≡ end_of fixed history
 
 -- the branch and the commit of a plan are there
@@ -37,7 +37,7 @@ pub record GoesOn {S O R Q A : Type 0} (fixed : Fixed S O R Q A) (old new : Reco
   pub full : IsFullMove fixed old.written made
   pub recorded : record_of fixed old.written made ≡ r
   pub stored : region fixed old.written made ≡ bytes
-  pub grown : new ≡ record { written = old.written ++ made ∷ []; pending = []; limits = old.limits }
+  pub grown : new ≡ record { written = old.written ++ made ∷ []; pending = []; terms = old.terms }
 
 -- a step remakes the move of the record and the region, and the history goes on by it; or it does not, and nothing has changed
 abbrev pub Remade : {S O R Q A : Type 0} → Fixed S O R Q A → RecordedView (Move O R) → RecordedView (Move O R) → Step O Q → Record → List ℕ → Bool → Type 0
@@ -47,7 +47,7 @@ Remade fixed old new step r bytes false = (new ≡ old) × ¬ Remakes fixed old.
 -- the pending move has this record and this region, and is settled; or it has not, and is undone
 abbrev pub IsKeptIfSame : {S O R Q A : Type 0} → Fixed S O R Q A → RecordedView (Move O R) → RecordedView (Move O R) → Move O R → Record → List ℕ → Bool → Type 0
 IsKeptIfSame fixed old new made r bytes true =
-    (record_of fixed old.written made ≡ r) × (region fixed old.written made ≡ bytes) × (new ≡ record { written = old.written ++ made ∷ []; pending = []; limits = old.limits })
+    (record_of fixed old.written made ≡ r) × (region fixed old.written made ≡ bytes) × (new ≡ record { written = old.written ++ made ∷ []; pending = []; terms = old.terms })
 IsKeptIfSame fixed old new made r bytes false = (new ≡ record old { pending = [] }) × (record_of fixed old.written made ≡ r → region fixed old.written made ≡ bytes → ⊥)
 
 -- why the bytes are not those of a move of the machine with this record
@@ -59,6 +59,6 @@ NotRemadeAs fixed history r bytes unmade.Memory = Unit {0}
 -- so many of the records are those of the history, which has nothing pending
 pub record IsWalked {S O R Q A : Type 0} (fixed : Fixed S O R Q A) (r : RecordedView (Move O R)) (count : ℕ) (records : List Record) (objects : List ℕ) : Type 0 where
   pub settled : r.pending ≡ []
-  pub limits : r.limits ≡ fixed.limits
+  pub terms : r.terms ≡ fixed.terms
   pub counted : length r.written ≡ count
   pub follows : Follows fixed r.written records objects

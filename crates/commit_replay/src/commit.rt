@@ -3,6 +3,7 @@ ghost use Rattle.std.specs.Prelude.{◌≡◌, ◌+◌, [], length, IfErr, OnOk}
 ghost use Rattle.branch_machine.specs.Fixed.{fix};
 ghost use Rattle.branch_machine.specs.Objects.{end_of};
 ghost use Rattle.branch_files.specs.Next.{end_at};
+ghost use Rattle.branch_files.specs.Records.{AreKnown};
 ghost use Rattle.heads_journal.specs.Format.{Fits};
 ghost use Rattle.commit_replay.specs.Follows.{MayCome};
 ghost use Rattle.commit_replay.specs.Parts.{IsWhyNot, unread_as};
@@ -46,11 +47,12 @@ pub fn remake_commit<T: Mrdt, A: Address>(
     bytes: &[u8],
 ) -> Result<(), NotRemade>
     requires settled { recorded.old.pending ≡ [] }
+    requires known { AreKnown (fix T.meaning recorded.old.terms A.address) recorded.old.written }
     requires fits { Fits next.now }
-    requires may { MayCome (fix T.meaning recorded.old.limits A.address) recorded.old.written next.now }
-    requires long { end_of (fix T.meaning recorded.old.limits A.address) recorded.old.written + length bytes.now ≡ end_at next.now }
-    ensures went { OnOk result (GoesOn (fix T.meaning recorded.old.limits A.address) recorded.old recorded.new next.now bytes.now) }
-    ensures not { IfErr result (NotRemadeAs (fix T.meaning recorded.old.limits A.address) recorded.old.written next.now bytes.now) }
+    requires may { MayCome (fix T.meaning recorded.old.terms A.address) recorded.old.written next.now }
+    requires long { end_of (fix T.meaning recorded.old.terms A.address) recorded.old.written + length bytes.now ≡ end_at next.now }
+    ensures went { OnOk result (GoesOn (fix T.meaning recorded.old.terms A.address) recorded.old recorded.new next.now bytes.now) }
+    ensures not { IfErr result (NotRemadeAs (fix T.meaning recorded.old.terms A.address) recorded.old.written next.now bytes.now) }
 {
     let _moves = recorded.moves();
     let parts = match parted(alloc, bytes) {

@@ -1,6 +1,6 @@
 // The objects of a new store.
 ghost use Rattle.std.specs.Prelude.{◌≡◌, [], IfOk};
-ghost use Rattle.branch_names.specs.declared.limits.Limits.{Limits as SpecLimits};
+ghost use Rattle.branch_names.specs.declared.terms.Terms.{Terms as SpecTerms};
 ghost use Rattle.branch_machine.specs.Fixed.{fix};
 ghost use Rattle.branch_machine.specs.Objects.{objects_text};
 ghost use Rattle.branch_wire.specs.StoredObjects.{header};
@@ -16,7 +16,7 @@ const LETTERS: &[u8] = b"MRDTOBJS";
 // The bytes of the objects file of a new store: its header, the object of the first value, and that of the root
 // commit.
 pub fn first_text<T: Mrdt, A: Address>(alloc: Global) -> Result<Vec<u8>, Memory>
-    ensures { IfOk result (λ text. (limits : SpecLimits) → text.items ≡ objects_text (fix T.meaning limits A.address) []) }
+    ensures { IfOk result (λ text. (terms : SpecTerms) → text.items ≡ objects_text (fix T.meaning terms A.address) []) }
 {
     let mut spelling = Vec::new(alloc);
     T::initial(alloc).put(&mut spelling)?;

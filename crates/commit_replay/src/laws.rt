@@ -8,7 +8,7 @@ pub fn reads_as_replayed<T: Mrdt>()
     ensures { ReadsAsReplayed T.meaning }
 {}
 
-/// Files whose heads have no header read as no store.
+/// Files whose heads have no header of the version that is written today, and of the kind 0, read as no store.
 pub fn reads_as_no_store<T: Mrdt>()
     ensures { ReadsAsNoStore T.meaning }
 {}

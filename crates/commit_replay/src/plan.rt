@@ -1,8 +1,9 @@
 // What is to be done for a record.
 ghost use Rattle.std.specs.Prelude.{ℕ, List, IfOk, OnOk, IsErrOf};
-ghost use Rattle.branch_names.specs.declared.limits.Limits.{Limits as SpecLimits};
+ghost use Rattle.branch_names.specs.declared.terms.Terms.{Terms as SpecTerms};
 ghost use Rattle.branch_machine.specs.Fixed.{fix};
 ghost use Rattle.branch_files.specs.Next.{Does};
+ghost use Rattle.branch_files.specs.Records.{IsKnown};
 ghost use Rattle.commit_replay.specs.Plans.{IsPlanOf};
 
 use branch_objects_codec::Action;
@@ -18,15 +19,16 @@ pub enum Plan<O> {
 }
 
 // What a record and its commit say is to be done. `NotCanonical` comes exactly where the commit does not do what the
-// record says, by spellings of the type.
+// record says, by spellings of the type. The record is of a kind that is read.
 pub fn planned<T: Mrdt>(
     alloc: Global,
     next: &Record,
     action: &Action,
 ) -> Result<Plan<T::Op>, Unread>
+    requires { IsKnown next.now }
     ensures plan { IfOk result (IsPlanOf T.meaning next.now action.now) }
-    ensures does { OnOk result ((limits : SpecLimits) (address : List ℕ → List ℕ) → Does (fix T.meaning limits address) next.now action.now) }
-    ensures other { IsErrOf result Unread.NotCanonical → (limits : SpecLimits) (address : List ℕ → List ℕ) → Does (fix T.meaning limits address) next.now action.now → ⊥ }
+    ensures does { OnOk result ((terms : SpecTerms) (address : List ℕ → List ℕ) → Does (fix T.meaning terms address) next.now action.now) }
+    ensures other { IsErrOf result Unread.NotCanonical → (terms : SpecTerms) (address : List ℕ → List ℕ) → Does (fix T.meaning terms address) next.now action.now → ⊥ }
 {
     match next {
         Record::Operation { branch, .. } => match action {
@@ -56,5 +58,9 @@ pub fn planned<T: Mrdt>(
         },
         Record::Fork { .. } => Err(Unread::NotCanonical),
         Record::Forward { .. } => Err(Unread::NotCanonical),
+        Record::Join { .. } => unreachable!(),
+        Record::Received { .. } => unreachable!(),
+        Record::Place { .. } => unreachable!(),
+        Record::Drop { .. } => unreachable!(),
     }
 }

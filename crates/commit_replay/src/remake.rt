@@ -31,8 +31,8 @@ pub fn remake<T: Mrdt, A: Address>(
     bytes: &[u8],
 ) -> Result<bool, Memory>
     requires settled { recorded.old.pending ≡ [] }
-    requires there { HasPlan (store_of recorded.old.written) plan }
-    ensures remade { IfOk result (Remade (fix T.meaning recorded.old.limits A.address) recorded.old recorded.new (step_for recorded.old.written plan) next.now bytes.now) }
+    requires there { HasPlan (store_of recorded.old.terms.origin recorded.old.written) plan }
+    ensures remade { IfOk result (Remade (fix T.meaning recorded.old.terms A.address) recorded.old recorded.new (step_for recorded.old.terms recorded.old.written plan) next.now bytes.now) }
 {
     match prepared(recorded, plan)? {
         Some(prepared) => land(recorded, prepared, next, bytes),
@@ -46,9 +46,9 @@ fn prepared<T: Mrdt, A: Address>(
     plan: Plan<T::Op>,
 ) -> Result<Option<Prepared<T>>, Memory>
     requires settled { recorded.old.pending ≡ [] }
-    requires there { HasPlan (store_of recorded.old.written) plan }
-    ensures some { IfOk result (λ found. IfSome found (λ p. (p.seen.history ≡ recorded.old.written) × (p.seen.limits ≡ recorded.old.limits) × (step_of {Q = T.Query} p.seen p.work ≡ step_for recorded.old.written plan))) }
-    ensures none { IfOk result (λ found. IsNone found → (full_turn (fix T.meaning recorded.old.limits A.address) recorded.old.written (step_for recorded.old.written plan)).made ≡ []) }
+    requires there { HasPlan (store_of recorded.old.terms.origin recorded.old.written) plan }
+    ensures some { IfOk result (λ found. IfSome found (λ p. (p.seen.history ≡ recorded.old.written) × (p.seen.terms ≡ recorded.old.terms) × (step_of {Q = T.Query} p.seen p.work ≡ step_for recorded.old.terms recorded.old.written plan))) }
+    ensures none { IfOk result (λ found. IsNone found → (full_turn (fix T.meaning recorded.old.terms A.address) recorded.old.written (step_for recorded.old.terms recorded.old.written plan)).made ≡ []) }
     ensures same { recorded.new ≡ recorded.old }
 {
     match plan {
@@ -64,9 +64,9 @@ fn prepared_operation<T: Mrdt, A: Address>(
     op: T::Op,
 ) -> Result<Option<Prepared<T>>, Memory>
     requires settled { recorded.now.pending ≡ [] }
-    requires there { HasBranch (store_of recorded.now.written) branch }
-    ensures some { IfOk result (λ found. IfSome found (λ p. (p.seen.history ≡ recorded.now.written) × (p.seen.limits ≡ recorded.now.limits) × (step_of {Q = T.Query} p.seen p.work ≡ machine.Land branch (head_of (store_of recorded.now.written).branches branch) op))) }
-    ensures none { IfOk result (λ found. IsNone found → (full_turn (fix T.meaning recorded.now.limits A.address) recorded.now.written (machine.Land branch (head_of (store_of recorded.now.written).branches branch) op)).made ≡ []) }
+    requires there { HasBranch (store_of recorded.now.terms.origin recorded.now.written) branch }
+    ensures some { IfOk result (λ found. IfSome found (λ p. (p.seen.history ≡ recorded.now.written) × (p.seen.terms ≡ recorded.now.terms) × (step_of {Q = T.Query} p.seen p.work ≡ machine.Land branch (head_of (store_of recorded.now.terms.origin recorded.now.written).branches branch) op))) }
+    ensures none { IfOk result (λ found. IsNone found → (full_turn (fix T.meaning recorded.now.terms A.address) recorded.now.written (machine.Land branch (head_of (store_of recorded.now.terms.origin recorded.now.written).branches branch) op)).made ≡ []) }
 {
     let seen = look_at(recorded, branch)?;
     match seen.prepare(op) {
@@ -84,10 +84,10 @@ fn prepared_merge<T: Mrdt, A: Address>(
     commit: u32,
 ) -> Result<Option<Prepared<T>>, Memory>
     requires settled { recorded.old.pending ≡ [] }
-    requires branch { HasBranch (store_of recorded.old.written) branch }
-    requires commit { HasCommit (store_of recorded.old.written) commit }
-    ensures some { IfOk result (λ found. IfSome found (λ p. (p.seen.history ≡ recorded.old.written) × (p.seen.limits ≡ recorded.old.limits) × (step_of {Q = T.Query} p.seen p.work ≡ machine.Merge branch (head_of (store_of recorded.old.written).branches branch) commit))) }
-    ensures none { IfOk result (λ found. IsNone found → (full_turn (fix T.meaning recorded.old.limits A.address) recorded.old.written (machine.Merge branch (head_of (store_of recorded.old.written).branches branch) commit)).made ≡ []) }
+    requires branch { HasBranch (store_of recorded.old.terms.origin recorded.old.written) branch }
+    requires commit { HasCommit (store_of recorded.old.terms.origin recorded.old.written) commit }
+    ensures some { IfOk result (λ found. IfSome found (λ p. (p.seen.history ≡ recorded.old.written) × (p.seen.terms ≡ recorded.old.terms) × (step_of {Q = T.Query} p.seen p.work ≡ machine.Merge branch (head_of (store_of recorded.old.terms.origin recorded.old.written).branches branch) (commit ∷ [])))) }
+    ensures none { IfOk result (λ found. IsNone found → (full_turn (fix T.meaning recorded.old.terms A.address) recorded.old.written (machine.Merge branch (head_of (store_of recorded.old.terms.origin recorded.old.written).branches branch) (commit ∷ []))).made ≡ []) }
     ensures same { recorded.new ≡ recorded.old }
 {
     let seen = look_at(recorded, branch)?;
@@ -108,8 +108,8 @@ fn land<T: Mrdt, A: Address>(
 ) -> Result<bool, Memory>
     requires settled { recorded.old.pending ≡ [] }
     requires history { prepared.seen.history ≡ recorded.old.written }
-    requires limits { prepared.seen.limits ≡ recorded.old.limits }
-    ensures { IfOk result (Remade (fix T.meaning recorded.old.limits A.address) recorded.old recorded.new (step_of prepared.seen prepared.work) next.now bytes.now) }
+    requires terms { prepared.seen.terms ≡ recorded.old.terms }
+    ensures { IfOk result (Remade (fix T.meaning recorded.old.terms A.address) recorded.old recorded.new (step_of prepared.seen prepared.work) next.now bytes.now) }
 {
     match recorded.land(Addressed::later(prepared)) {
         Ok(made) => {
@@ -117,6 +117,7 @@ fn land<T: Mrdt, A: Address>(
             Ok(keep_if_same(recorded, &made.record, next, bytes))
         }
         Err(LandRefused::Memory) => Err(Memory),
+        Err(LandRefused::Dropped { .. }) => Ok(false),
         Err(LandRefused::Stale { .. }) => Ok(false),
         Err(LandRefused::FullCommits { .. }) => Ok(false),
         Err(LandRefused::FullMoves { .. }) => Ok(false),
@@ -132,8 +133,8 @@ pub fn fork<T: Mrdt, A: Address>(
     next: &Record,
 ) -> Result<bool, Memory>
     requires settled { recorded.old.pending ≡ [] }
-    requires there { HasBranch (store_of recorded.old.written) from }
-    ensures { IfOk result (λ same. (source : List ℕ) × (branch_named (store_of recorded.old.written).branches source ≡ Some from) × Remade (fix T.meaning recorded.old.limits A.address) recorded.old recorded.new (machine.Fork name source) next.now [] same) }
+    requires there { HasBranch (store_of recorded.old.terms.origin recorded.old.written) from }
+    ensures { IfOk result (λ same. (source : List ℕ) × (branch_named (store_of recorded.old.terms.origin recorded.old.written).branches source ≡ Some from) × Remade (fix T.meaning recorded.old.terms A.address) recorded.old recorded.new (machine.Fork name source) next.now [] same) }
 {
     let (source, _head) = branch_at(recorded, from);
     match recorded.fork(name, &source) {
@@ -156,8 +157,8 @@ fn keep_if_same<T: Mrdt, A: Address>(
     next: &Record,
     bytes: &[u8],
 ) -> bool
-    ensures { (made : SpecMove T.Op T.Reply) → recorded.old.pending ≡ made ∷ [] → own.now ≡ record_of (fix T.meaning recorded.old.limits A.address) recorded.old.written made
-        → IsKeptIfSame (fix T.meaning recorded.old.limits A.address) recorded.old recorded.new made next.now bytes.now result }
+    ensures { (made : SpecMove T.Op T.Reply) → recorded.old.pending ≡ made ∷ [] → own.now ≡ record_of (fix T.meaning recorded.old.terms A.address) recorded.old.written made
+        → IsKeptIfSame (fix T.meaning recorded.old.terms A.address) recorded.old recorded.new made next.now bytes.now result }
 {
     let same = *own == *next && recorded.region() == bytes;
     if same {

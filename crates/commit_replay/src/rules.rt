@@ -5,7 +5,7 @@ ghost use Rattle.branch_files.specs.Next.{Suits};
 ghost use Rattle.heads_journal.specs.declared.record.Record.TheVariants as entry;
 ghost use Rattle.commit_replay.specs.Follows.{MayCome};
 
-use crate::lookups::{branch_at, is_free, look_at, standing_of};
+use crate::lookups::{branch_at, has_branch, is_free, look_at, standing_of};
 use branch_address::Address;
 use branch_names::Name;
 use heads_journal::Record;
@@ -18,10 +18,10 @@ pub fn may_come<T: Mrdt, A: Address>(
     next: &Record,
 ) -> Result<bool, Memory>
     requires { recorded.now.pending ≡ [] }
-    ensures { IfOk result (λ may. IsTrue may ↔ MayCome (fix T.meaning recorded.now.limits A.address) recorded.now.written next.now) }
+    ensures { IfOk result (λ may. IsTrue may ↔ MayCome (fix T.meaning recorded.now.terms A.address) recorded.now.written next.now) }
 {
     let now = standing_of(recorded);
-    if now.moves >= now.limits.moves {
+    if now.moves >= now.terms.limits.moves {
         return Ok(false);
     }
     match next {
@@ -39,6 +39,11 @@ pub fn may_come<T: Mrdt, A: Address>(
             ..
         } => may_merge(recorded, *branch, *from, *end),
         Record::Forward { branch, to, end } => may_go_forward(recorded, *branch, *to, *end),
+        // Records of the later kinds are not read.
+        Record::Join { .. } => Ok(false),
+        Record::Received { .. } => Ok(false),
+        Record::Place { .. } => Ok(false),
+        Record::Drop { .. } => Ok(false),
     }
 }
 
@@ -51,13 +56,13 @@ fn may_fork<T: Mrdt, A: Address>(
     end: u64,
 ) -> Result<bool, Memory>
     requires { recorded.now.pending ≡ [] }
-    ensures { IfOk result (λ may. IsTrue may ↔ Suits (fix T.meaning recorded.now.limits A.address) recorded.now.written (entry.Fork number from name.now end)) }
+    ensures { IfOk result (λ may. IsTrue may ↔ Suits (fix T.meaning recorded.now.terms A.address) recorded.now.written (entry.Fork number from name.now end)) }
 {
     let now = standing_of(recorded);
-    if number != now.branches || number >= now.limits.branches {
+    if number != now.branches || number >= now.terms.limits.branches {
         return Ok(false);
     }
-    if from >= now.branches || end != now.end {
+    if !has_branch(recorded, from) || end != now.end {
         return Ok(false);
     }
     is_free(recorded, name)
@@ -70,14 +75,14 @@ fn may_operate<T: Mrdt, A: Address>(
     end: u64,
 ) -> Result<bool, Memory>
     requires { recorded.now.pending ≡ [] }
-    ensures { IfOk result (λ may. (address : List ℕ) → IsTrue may ↔ Suits (fix T.meaning recorded.now.limits A.address) recorded.now.written (entry.Operation branch address end)) }
+    ensures { IfOk result (λ may. (address : List ℕ) → IsTrue may ↔ Suits (fix T.meaning recorded.now.terms A.address) recorded.now.written (entry.Operation branch address end)) }
 {
     let now = standing_of(recorded);
-    if branch >= now.branches || end <= now.end || now.commits >= now.limits.commits {
+    if !has_branch(recorded, branch) || end <= now.end || now.commits >= now.terms.limits.commits {
         return Ok(false);
     }
     let seen = look_at(recorded, branch)?;
-    Ok(seen.clock() < now.limits.clock)
+    Ok(seen.clock() < now.terms.limits.clock)
 }
 
 // Whether a commit may be merged into a branch, so that the objects end there.
@@ -88,13 +93,13 @@ fn may_merge<T: Mrdt, A: Address>(
     end: u64,
 ) -> Result<bool, Memory>
     requires { recorded.now.pending ≡ [] }
-    ensures { IfOk result (λ may. (address : List ℕ) → IsTrue may ↔ Suits (fix T.meaning recorded.now.limits A.address) recorded.now.written (entry.Merge branch from address end)) }
+    ensures { IfOk result (λ may. (address : List ℕ) → IsTrue may ↔ Suits (fix T.meaning recorded.now.terms A.address) recorded.now.written (entry.Merge branch from address end)) }
 {
     let now = standing_of(recorded);
-    if branch >= now.branches || from >= now.commits {
+    if !has_branch(recorded, branch) || from >= now.commits {
         return Ok(false);
     }
-    if end <= now.end || now.commits >= now.limits.commits {
+    if end <= now.end || now.commits >= now.terms.limits.commits {
         return Ok(false);
     }
     let (_name, head) = branch_at(recorded, branch);
@@ -112,10 +117,10 @@ fn may_go_forward<T: Mrdt, A: Address>(
     end: u64,
 ) -> Result<bool, Memory>
     requires { recorded.now.pending ≡ [] }
-    ensures { IfOk result (λ may. IsTrue may ↔ Suits (fix T.meaning recorded.now.limits A.address) recorded.now.written (entry.Forward branch to end)) }
+    ensures { IfOk result (λ may. IsTrue may ↔ Suits (fix T.meaning recorded.now.terms A.address) recorded.now.written (entry.Forward branch to end)) }
 {
     let now = standing_of(recorded);
-    if branch >= now.branches || to >= now.commits || end != now.end {
+    if !has_branch(recorded, branch) || to >= now.commits || end != now.end {
         return Ok(false);
     }
     let (_name, head) = branch_at(recorded, branch);

@@ -3,7 +3,7 @@ ghost use Rattle.std.specs.Prelude.{◌≡◌, ℕ, [], All, length, IfOk, IfErr
 ghost use Rattle.branch_machine.specs.Fixed.{fix};
 ghost use Rattle.branch_files.specs.Next.{bytes_behind, end_at, MakesCommit};
 ghost use Rattle.heads_journal.specs.declared.record.Record.TheVariants as entry;
-ghost use Rattle.branch_files.specs.Records.{records_of};
+ghost use Rattle.branch_files.specs.Records.{records_of, IsKnown, AreKnown};
 ghost use Rattle.heads_journal.specs.Format.{Fits};
 ghost use Rattle.commit_replay.specs.Follows.{Follows, MayCome};
 ghost use Rattle.commit_replay.specs.Refusals.{ReplayRefusedAs, StopsAs};
@@ -18,7 +18,7 @@ use crate::remake::{fork, remake};
 use crate::rules::may_come;
 use branch_address::Address;
 use branch_disk::Part;
-use branch_names::{Limits, Name};
+use branch_names::{Name, Terms};
 use heads_journal::Record;
 use mrdt_model::{Memory, Mrdt};
 use recorded_history::Recorded;
@@ -27,7 +27,7 @@ use std::alloc::Global;
 // How many folds of bases are kept while a history is read back.
 const FOLDS: u32 = 4096;
 
-/// The history that the records and the bytes of objects stand for, under these limits. It is refused exactly where
+/// The history that the records and the bytes of objects stand for, under these terms. It is refused exactly where
 /// there is none: `NotAStore` where the objects do not begin with those of a new store, and else for the first record
 /// that goes no further.
 ///
@@ -37,15 +37,15 @@ const FOLDS: u32 = 4096;
 /// The numbers of the records must have room in their bytes, as those of records that `heads_journal::read_all` has read.
 pub fn replay<T: Mrdt, A: Address>(
     alloc: Global,
-    limits: Limits,
+    terms: Terms,
     records: &[Record],
     objects: &[u8],
 ) -> Result<Recorded<T, A>, ReplayRefused>
     requires { All Fits records.now }
-    ensures settled { IfOk result (λ recorded. recorded ≡ record { written = recorded.written; pending = []; limits = limits }) }
-    ensures replayed { IfOk result (λ recorded. Follows (fix T.meaning limits A.address) recorded.written records.now objects.now) }
-    ensures all { IfOk result (λ recorded. records_of (fix T.meaning limits A.address) recorded.written ≡ records.now) }
-    ensures refused { IfErr result (ReplayRefusedAs (fix T.meaning limits A.address) records.now objects.now) }
+    ensures settled { IfOk result (λ recorded. recorded ≡ record { written = recorded.written; pending = []; terms = terms }) }
+    ensures replayed { IfOk result (λ recorded. Follows (fix T.meaning terms A.address) recorded.written records.now objects.now) }
+    ensures all { IfOk result (λ recorded. records_of (fix T.meaning terms A.address) recorded.written ≡ records.now) }
+    ensures refused { IfErr result (ReplayRefusedAs (fix T.meaning terms A.address) records.now objects.now) }
 {
     let Ok(first) = first_text::<T, A>(alloc) else {
         return Err(ReplayRefused::Memory);
@@ -53,7 +53,7 @@ pub fn replay<T: Mrdt, A: Address>(
     if !objects.starts_with(&first) {
         return Err(ReplayRefused::NotAStore);
     }
-    let Ok(mut recorded) = Recorded::fresh(alloc, limits) else {
+    let Ok(mut recorded) = Recorded::fresh(alloc, terms) else {
         return Err(ReplayRefused::Memory);
     };
     let Ok(()) = recorded.keep_folds(FOLDS) else {
@@ -76,9 +76,11 @@ fn replay_record<T: Mrdt, A: Address>(
     objects: &[u8],
 ) -> Result<(), ReplayRefused>
     requires settled { recorded.old.pending ≡ [] }
+    requires known { AreKnown (fix T.meaning recorded.old.terms A.address) recorded.old.written }
     requires fits { Fits next.now }
-    ensures went { OnOk result (GoesOn (fix T.meaning recorded.old.limits A.address) recorded.old recorded.new next.now (bytes_behind (fix T.meaning recorded.old.limits A.address) recorded.old.written objects.now next.now)) }
-    ensures stops { IfErr result (StopsAs (fix T.meaning recorded.old.limits A.address) recorded.old.written objects.now next.now) }
+    ensures went { OnOk result (GoesOn (fix T.meaning recorded.old.terms A.address) recorded.old recorded.new next.now (bytes_behind (fix T.meaning recorded.old.terms A.address) recorded.old.written objects.now next.now)) }
+    ensures read { OnOk result (IsKnown next.now) }
+    ensures stops { IfErr result (StopsAs (fix T.meaning recorded.old.terms A.address) recorded.old.written objects.now next.now) }
 {
     let Ok(may) = may_come(recorded, next) else {
         return Err(ReplayRefused::Memory);
@@ -101,6 +103,10 @@ fn replay_record<T: Mrdt, A: Address>(
                 Err(Memory) => Err(ReplayRefused::Memory),
             }
         }
+        Record::Join { .. } => unreachable!(),
+        Record::Received { .. } => unreachable!(),
+        Record::Place { .. } => unreachable!(),
+        Record::Drop { .. } => unreachable!(),
     }
 }
 
@@ -113,9 +119,10 @@ fn replay_fork<T: Mrdt, A: Address>(
 ) -> Result<(), Memory>
     requires settled { recorded.old.pending ≡ [] }
     requires is { (number end : ℕ) × (next.now ≡ entry.Fork number from name end) }
+    requires known { AreKnown (fix T.meaning recorded.old.terms A.address) recorded.old.written }
     requires fits { Fits next.now }
-    requires may { MayCome (fix T.meaning recorded.old.limits A.address) recorded.old.written next.now }
-    ensures { OnOk result (GoesOn (fix T.meaning recorded.old.limits A.address) recorded.old recorded.new next.now []) }
+    requires may { MayCome (fix T.meaning recorded.old.terms A.address) recorded.old.written next.now }
+    ensures { OnOk result (GoesOn (fix T.meaning recorded.old.terms A.address) recorded.old recorded.new next.now []) }
 {
     let _moves = recorded.moves();
     if fork(recorded, name, from, next)? {
@@ -134,9 +141,10 @@ fn replay_forward<T: Mrdt, A: Address>(
 ) -> Result<(), Memory>
     requires settled { recorded.old.pending ≡ [] }
     requires is { (end : ℕ) × (next.now ≡ entry.Forward branch to end) }
+    requires known { AreKnown (fix T.meaning recorded.old.terms A.address) recorded.old.written }
     requires fits { Fits next.now }
-    requires may { MayCome (fix T.meaning recorded.old.limits A.address) recorded.old.written next.now }
-    ensures { OnOk result (GoesOn (fix T.meaning recorded.old.limits A.address) recorded.old recorded.new next.now []) }
+    requires may { MayCome (fix T.meaning recorded.old.terms A.address) recorded.old.written next.now }
+    ensures { OnOk result (GoesOn (fix T.meaning recorded.old.terms A.address) recorded.old recorded.new next.now []) }
 {
     let _moves = recorded.moves();
     let plan = Plan::Merge { branch, commit: to };
@@ -158,10 +166,11 @@ fn replay_commit<T: Mrdt, A: Address>(
     requires settled { recorded.old.pending ≡ [] }
     requires end { end ≡ end_at next.now }
     requires makes { MakesCommit next.now }
+    requires known { AreKnown (fix T.meaning recorded.old.terms A.address) recorded.old.written }
     requires fits { Fits next.now }
-    requires may { MayCome (fix T.meaning recorded.old.limits A.address) recorded.old.written next.now }
-    ensures went { OnOk result (GoesOn (fix T.meaning recorded.old.limits A.address) recorded.old recorded.new next.now (bytes_behind (fix T.meaning recorded.old.limits A.address) recorded.old.written objects.now next.now)) }
-    ensures stops { IfErr result (StopsAs (fix T.meaning recorded.old.limits A.address) recorded.old.written objects.now next.now) }
+    requires may { MayCome (fix T.meaning recorded.old.terms A.address) recorded.old.written next.now }
+    ensures went { OnOk result (GoesOn (fix T.meaning recorded.old.terms A.address) recorded.old recorded.new next.now (bytes_behind (fix T.meaning recorded.old.terms A.address) recorded.old.written objects.now next.now)) }
+    ensures stops { IfErr result (StopsAs (fix T.meaning recorded.old.terms A.address) recorded.old.written objects.now next.now) }
 {
     let now = standing_of(recorded);
     let place = now.end;

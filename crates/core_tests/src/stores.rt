@@ -1,7 +1,7 @@
 // Stores of sums on a disk in memory.
 use branch_address::Address;
 use branch_disk::MemoryDisk;
-use branch_names::{Limits, Name};
+use branch_names::{Limits, Name, Terms};
 use mrdt_counter::{Sum, SumOp};
 use std::alloc::Global;
 use std::process::Abort;
@@ -13,7 +13,11 @@ pub fn fresh<A: Address>(
     alloc: Global,
     failing: Vec<u64>,
 ) -> Core<Sum, MemoryDisk, A> {
-    match Core::init(alloc, MemoryDisk::new(failing), Limits::default()) {
+    match Core::init(
+        alloc,
+        MemoryDisk::new(failing),
+        Terms::under(Limits::default()),
+    ) {
         Ok(core) => core,
         Err(_) => panic!(rt; "no store"),
     }

@@ -5,15 +5,20 @@
 //! that at every moment a crash leaves those before, or those and the new one; `read_all` reads them.
 #![tactic(auto)]
 
+mod batch;
 mod block;
 mod fields;
 mod header;
+mod joined;
 mod journal;
+mod kinds;
 pub mod laws;
 mod names;
 mod reading;
 mod record;
 
+pub use joined::Joined;
 pub use journal::{AppendRefused, Journal};
+pub use kinds::{KindRefused, kind};
 pub use reading::{ReadAllRefused, Stop, read_all};
 pub use record::Record;

@@ -11,32 +11,32 @@ use Rattle.branch_doc.specs.declared.plain.PlainOp.{PlainOp}
 use Rattle.branch_script.specs.declared.step.Step.{Step}
 use Rattle.branch_script.specs.declared.step.Step.TheVariants.{Look, Fork, Merge, Do, Ask}
 use Rattle.parallel_clients.specs.declared.outcome.ClientRefusal.{ClientRefusal}
-use Rattle.parallel_clients.specs.declared.outcome.ClientRefusal.TheVariants.{UnknownBranch, Exhausted, FullCommits, FullBranches, FullMoves, ValueTooLarge, Collision, DiskFault, Failed, Memory}
+use Rattle.parallel_clients.specs.declared.outcome.ClientRefusal.TheVariants.{UnknownBranch, Dropped, Exhausted, FullCommits, FullBranches, FullMoves, ValueTooLarge, Collision, DiskFault, Failed, Memory}
 use Rattle.parallel_clients.specs.declared.outcome.Outcome.{Outcome}
 use Rattle.parallel_clients.specs.declared.outcome.Outcome.TheVariants.{Done, Refused, Unseen}
 use Rattle.parallel_clients.specs.Played.{Sights, no_sights, with_sight, sights_after, IsMoveAt, HasBranch, IsDone, IsForked, IsMerged, IsTaken, IsReached, TakesOne, TakesNone, PlayedFrom, Played}
 use Rattle.parallel_clients.specs.Outcomes.{Setting, HasFailed, StepRefused, ComesTo, StaysOutcome}
 use Rattle.parallel_clients.proofs.Went.{named-later, head-later, sees-more}
 
-module _ {O R : Type 0} (op_of : PlainOp → O) (moves later : List (Move O R)) (grows : IsPrefix moves later) where
+module _ {O R : Type 0} (op_of : PlainOp → O) (origin : ℕ) (moves later : List (Move O R)) (grows : IsPrefix moves later) where
   move-later : (place : ℕ) (made : Move O R) → IsMoveAt moves place made → IsMoveAt later place made
   move-later place made at =
       let there : place - 1 < length moves = slice_get_within moves (place - 1) made at in
       subst (λ ms. IsMoveAt ms place made) grows.1 (slice_get-append moves grows.0 (place - 1) there ∙ at)
 
-  done-later : (branch : List ℕ) (op : O) (place : ℕ) → IsDone moves branch op place → IsDone later branch op place
-  done-later branch op place is = record { number = is.number; named = named-later moves later grows branch is.number is.named; reply = is.reply; made = move-later place (move.Operation is.number op is.reply) is.made }
+  done-later : (branch : List ℕ) (op : O) (place : ℕ) → IsDone origin moves branch op place → IsDone origin later branch op place
+  done-later branch op place is = record { number = is.number; named = named-later origin moves later grows branch is.number is.named; reply = is.reply; made = move-later place (move.Operation is.number op is.reply) is.made }
 
-  forked-later : (new from : List ℕ) (place : ℕ) → IsForked moves new from place → IsForked later new from place
-  forked-later new from place is = record { number = is.number; source = is.source; named = named-later moves later grows from is.source is.named; made = move-later place (move.Fork new is.number is.source) is.made }
+  forked-later : (new from : List ℕ) (place : ℕ) → IsForked origin moves new from place → IsForked origin later new from place
+  forked-later new from place is = record { number = is.number; source = is.source; named = named-later origin moves later grows from is.source is.named; made = move-later place (move.Fork new is.number is.source) is.made }
 
-  merged-later : (branch from : List ℕ) (place : ℕ) → IsMerged moves branch from place → IsMerged later branch from place
+  merged-later : (branch from : List ℕ) (place : ℕ) → IsMerged origin moves branch from place → IsMerged origin later branch from place
   merged-later branch from place is = record {
     number = is.number;
     source = is.source;
     commit = is.commit;
-    named = named-later moves later grows branch is.number is.named;
-    head = head-later moves later grows from is.source is.commit is.head;
+    named = named-later origin moves later grows branch is.number is.named;
+    head = head-later origin moves later grows from is.source is.commit is.head;
     made = ⊎_elim (λ m. inl (move-later place (move.Merge is.number is.commit) m)) (λ m. inr (move-later place (move.Forward is.number is.commit) m)) is.made;
   }
 
@@ -55,39 +55,39 @@ module _ {O R : Type 0} (op_of : PlainOp → O) (moves later : List (Move O R)) 
   takes-later Is Is' Rest Rest' one rest last [] is = is
   takes-later Is Is' Rest Rest' one rest last (place ∷ places) is = (is.0, one place is.1, rest place places is.2)
 
-  pub played_from-later : (steps : List Step) (sights : Sights) (last : ℕ) (places : List ℕ) → PlayedFrom op_of moves steps sights last places → PlayedFrom op_of later steps sights last places
+  pub played_from-later : (steps : List Step) (sights : Sights) (last : ℕ) (places : List ℕ) → PlayedFrom op_of origin moves steps sights last places → PlayedFrom op_of origin later steps sights last places
   played_from-later [] sights last places is = is
   played_from-later (Look session branch ∷ steps) sights last places is =
       let seen = with_sight sights session branch in
-      none-later (HasBranch branch) (PlayedFrom op_of moves steps seen) (PlayedFrom op_of later steps seen) (played_from-later steps seen) last places is
+      none-later (HasBranch origin branch) (PlayedFrom op_of origin moves steps seen) (PlayedFrom op_of origin later steps seen) (played_from-later steps seen) last places is
   played_from-later (Ask branch query ∷ steps) sights last places is =
-      none-later (HasBranch branch) (PlayedFrom op_of moves steps sights) (PlayedFrom op_of later steps sights) (played_from-later steps sights) last places is
+      none-later (HasBranch origin branch) (PlayedFrom op_of origin moves steps sights) (PlayedFrom op_of origin later steps sights) (played_from-later steps sights) last places is
   played_from-later (Do session op ∷ steps) sights last places is =
-      let Rest = PlayedFrom op_of moves steps sights in
-      let Rest' = PlayedFrom op_of later steps sights in
-      sees-more (λ branch. TakesOne (IsDone moves branch (op_of op)) Rest last places) (λ branch. TakesOne (IsDone later branch (op_of op)) Rest' last places)
-      (λ branch. takes-later (IsDone moves branch (op_of op)) (IsDone later branch (op_of op)) Rest Rest' (done-later branch (op_of op)) (played_from-later steps sights) last places)
+      let Rest = PlayedFrom op_of origin moves steps sights in
+      let Rest' = PlayedFrom op_of origin later steps sights in
+      sees-more (λ branch. TakesOne (IsDone origin moves branch (op_of op)) Rest last places) (λ branch. TakesOne (IsDone origin later branch (op_of op)) Rest' last places)
+      (λ branch. takes-later (IsDone origin moves branch (op_of op)) (IsDone origin later branch (op_of op)) Rest Rest' (done-later branch (op_of op)) (played_from-later steps sights) last places)
       (sights session) is
   played_from-later (Fork new from ∷ steps) sights last places is =
-      let Rest = PlayedFrom op_of moves steps sights in
-      let Rest' = PlayedFrom op_of later steps sights in
+      let Rest = PlayedFrom op_of origin moves steps sights in
+      let Rest' = PlayedFrom op_of origin later steps sights in
       ⊎_elim
-      (λ one. inl (takes-later (IsForked moves new from) (IsForked later new from) Rest Rest' (forked-later new from) (played_from-later steps sights) last places one))
-      (λ none. inr (none-later (IsTaken new from) Rest Rest' (played_from-later steps sights) last places none))
+      (λ one. inl (takes-later (IsForked origin moves new from) (IsForked origin later new from) Rest Rest' (forked-later new from) (played_from-later steps sights) last places one))
+      (λ none. inr (none-later (IsTaken origin new from) Rest Rest' (played_from-later steps sights) last places none))
       is
   played_from-later (Merge session from ∷ steps) sights last places is =
-      let Rest = PlayedFrom op_of moves steps sights in
-      let Rest' = PlayedFrom op_of later steps sights in
+      let Rest = PlayedFrom op_of origin moves steps sights in
+      let Rest' = PlayedFrom op_of origin later steps sights in
       sees-more
-      (λ branch. TakesOne (IsMerged moves branch from) Rest last places ⊎ TakesNone moves (IsReached branch from) Rest last places)
-      (λ branch. TakesOne (IsMerged later branch from) Rest' last places ⊎ TakesNone later (IsReached branch from) Rest' last places)
+      (λ branch. TakesOne (IsMerged origin moves branch from) Rest last places ⊎ TakesNone moves (IsReached origin branch from) Rest last places)
+      (λ branch. TakesOne (IsMerged origin later branch from) Rest' last places ⊎ TakesNone later (IsReached origin branch from) Rest' last places)
       (λ branch both. ⊎_elim
-      (λ one. inl (takes-later (IsMerged moves branch from) (IsMerged later branch from) Rest Rest' (merged-later branch from) (played_from-later steps sights) last places one))
-      (λ none. inr (none-later (IsReached branch from) Rest Rest' (played_from-later steps sights) last places none))
+      (λ one. inl (takes-later (IsMerged origin moves branch from) (IsMerged origin later branch from) Rest Rest' (merged-later branch from) (played_from-later steps sights) last places one))
+      (λ none. inr (none-later (IsReached origin branch from) Rest Rest' (played_from-later steps sights) last places none))
       both)
       (sights session) is
 
-  pub played-later : (begun : ℕ) (steps : List Step) (places : List ℕ) → Played op_of begun steps places moves → Played op_of begun steps places later
+  pub played-later : (begun : ℕ) (steps : List Step) (places : List ℕ) → Played op_of origin begun steps places moves → Played op_of origin begun steps places later
   unfolding Played
   played-later begun steps places is = played_from-later steps no_sights begun places is
 
@@ -98,6 +98,7 @@ failed-later on few many le is = omega (arith, is)
 module _ {S O R Q A : Type 0} (on : Setting S O R Q A) (moves : List (Move O R)) (few many : ℕ) (le : few ≤ many) (sights : Sights) (step : Step) where
   pub refused-later : (refusal : ClientRefusal) → StepRefused on moves few sights step refusal → StepRefused on moves many sights step refusal
   refused-later (UnknownBranch name) h = h
+  refused-later (Dropped branch) h = h
   refused-later (Exhausted clock) h = h
   refused-later (FullCommits count) h = h
   refused-later (FullBranches count) h = h
@@ -111,7 +112,7 @@ module _ {S O R Q A : Type 0} (on : Setting S O R Q A) (moves : List (Move O R))
 -- what became of a client
 pub comes-later : {S O R Q A : Type 0} (on : Setting S O R Q A) (old new later : List (Move O R)) (few many : ℕ) (steps : List Step) (outcome : Outcome) → IsPrefix new later → few ≤ many
     → ComesTo on old new few steps outcome → ComesTo on old later many steps outcome
-comes-later on old new later few many steps (Done places) grows le is = played-later on.op_of new later grows (length old) steps places is
+comes-later on old new later few many steps (Done places) grows le is = played-later on.op_of on.fixed.terms.origin new later grows (length old) steps places is
 comes-later on old new later few many steps (Refused number refusal places) grows le is = record {
   step = is.step;
   is_step = is.is_step;
@@ -124,7 +125,7 @@ comes-later on old new later few many steps (Refused number refusal places) grow
 comes-later on old new later few many steps (Unseen number places) grows le is = record {
   step = is.step;
   is_step = is.is_step;
-  played = played-later on.op_of new later grows (length old) (take number steps) places is.played;
+  played = played-later on.op_of on.fixed.terms.origin new later grows (length old) (take number steps) places is.played;
   unseen = is.unseen;
 }
 

@@ -2,7 +2,7 @@
 use Rattle.std.proofs.Common.{◌≡◌, ℕ, ◌+◌, ◌≤◌, ◌⊎◌, inl, inr, ⊎_elim, arith, length, length-append, List, [], ◌∷◌, refl, ap, sym, subst, ◌∙◌, Option, Some, IsTrue}
 use mathlib.Core.List.{IsPrefix}
 use Rattle.branch_front.proofs.Prefixes.{prefix_self, prefix_trans}
-use Rattle.branch_names.specs.declared.limits.Limits.{Limits}
+use Rattle.branch_names.specs.declared.terms.Terms.{Terms}
 use Rattle.branch_names.specs.Heads.{head_of, branch_named}
 use Rattle.branch_graph.specs.Graph.{reaches}
 use Rattle.branch_history.specs.declared.moves.Move.{Move}
@@ -24,7 +24,7 @@ use Rattle.parallel_clients.specs.declared.sessions.Session.{Session}
 use Rattle.parallel_clients.specs.declared.landing.Landing.{Landing}
 use Rattle.parallel_clients.specs.declared.landing.Landing.TheVariants.{Moved, Stale, Same}
 use Rattle.parallel_clients.specs.declared.outcome.ClientRefusal.{ClientRefusal}
-use Rattle.parallel_clients.specs.declared.outcome.ClientRefusal.TheVariants.{UnknownBranch, Exhausted, FullCommits, FullBranches, FullMoves, ValueTooLarge, Collision, DiskFault, Failed, Memory}
+use Rattle.parallel_clients.specs.declared.outcome.ClientRefusal.TheVariants.{UnknownBranch, Dropped, Exhausted, FullCommits, FullBranches, FullMoves, ValueTooLarge, Collision, DiskFault, Failed, Memory}
 use Rattle.parallel_clients.specs.Played.{Sights, WasHead, IfSees}
 use Rattle.parallel_clients.specs.Outcomes.{Setting, RefusesStep, StepRefused}
 use Rattle.parallel_clients.specs.Sessions.{Sessions, IsSession, IsWaiting, Advances, HasMoved, HasStayed, HasMerged, HasSame, IsLanding, RefusesMade, IsLandRefused, IsTriedMerge}
@@ -54,72 +54,72 @@ stayed-earlier {M} old mid new places after seen stayed = record {
 -- a merge is refused of a session that sees a branch
 sees-refused : {S O R Q A : Type 0} (on : Setting S O R Q A) (moves : List (Move O R)) (sights : Sights) (session from branch : List ℕ) → sights session ≡ Some branch → (why : machine.Refusal)
     → FullyRefuses on.fixed moves (machine.Look from) why
-    ⊎ ((number head source commit : ℕ) × WasHead moves branch number head × WasHead moves from source commit × FullyRefuses on.fixed moves (machine.Merge number head commit) why)
+    ⊎ ((number head source commit : ℕ) × WasHead on.fixed.terms.origin moves branch number head × WasHead on.fixed.terms.origin moves from source commit × FullyRefuses on.fixed moves (machine.Merge number head (commit ∷ [])) why)
     → RefusesStep on moves sights (Merge session from) why
 sees-refused on moves sights session from branch sees why =
     subst (λ o. IfSees o (λ b. FullyRefuses on.fixed moves (machine.Look from) why
-    ⊎ ((number head source commit : ℕ) × WasHead moves b number head × WasHead moves from source commit × FullyRefuses on.fixed moves (machine.Merge number head commit) why))) (sym sees)
+    ⊎ ((number head source commit : ℕ) × WasHead on.fixed.terms.origin moves b number head × WasHead on.fixed.terms.origin moves from source commit × FullyRefuses on.fixed moves (machine.Merge number head (commit ∷ [])) why))) (sym sees)
 
 -- a merge of a head of no branch
 pub merge-unknown : {S O R Q A : Type 0} (on : Setting S O R Q A) (moves : List (Move O R)) (sights : Sights) (session from branch : List ℕ) → sights session ≡ Some branch
-    → turn on.fixed.meaning on.fixed.limits moves (machine.Look from) ≡ answers (machine.Refused (machine.UnknownBranch from)) → RefusesStep on moves sights (Merge session from) (machine.UnknownBranch from)
+    → turn on.fixed.meaning on.fixed.terms moves (machine.Look from) ≡ answers (machine.Refused (machine.UnknownBranch from)) → RefusesStep on moves sights (Merge session from) (machine.UnknownBranch from)
 merge-unknown on moves sights session from branch sees none =
     let why : machine.Refusal = machine.UnknownBranch from in
-    sees-refused on moves sights session from branch sees why (inl (full-answers on.fixed moves (machine.Look from) (machine.Refused why) none))
+    sees-refused on moves sights session from branch sees why (inl (full-answers on.fixed moves (machine.Look from) (machine.Refused why) refl none))
 
 module _ {S O R Q A : Type 0} (on : Setting S O R Q A) (old mid : PassView (Move O R)) (grows : IsPrefix old.moves mid.moves) (seen : IsSeenOn old mid)
-    (s : Session (SeenView (Move O R))) (is : IsSession on.fixed.limits old.moves s) (sights : Sights) (session from : List ℕ) (sees : sights session ≡ Some s.branch)
-    (pair : PairView (Move O R)) (paired : IsPaired on.fixed.meaning (record { history = mid.moves; limits = on.fixed.limits }) s.seen from pair) where
-  here : IsSession on.fixed.limits mid.moves s
-  here = session-later on.fixed.limits old.moves mid.moves s grows is
+    (s : Session (SeenView (Move O R))) (is : IsSession on.fixed.terms old.moves s) (sights : Sights) (session from : List ℕ) (sees : sights session ≡ Some s.branch)
+    (pair : PairView (Move O R)) (paired : IsPaired on.fixed.meaning (record { history = mid.moves; terms = on.fixed.terms }) s.seen from pair) where
+  here : IsSession on.fixed.terms mid.moves s
+  here = session-later on.fixed.terms old.moves mid.moves s grows is
 
-  looked : (branch_named (store_of mid.moves).branches from ≡ Some paired.source) × (head_of (store_of mid.moves).branches paired.source ≡ pair.other)
-  looked = look-named on.fixed.meaning on.fixed.limits mid.moves from paired.source pair.other paired.other
+  looked : (branch_named (store_of on.fixed.terms.origin mid.moves).branches from ≡ Some paired.source) × (head_of (store_of on.fixed.terms.origin mid.moves).branches paired.source ≡ pair.other)
+  looked = look-named on.fixed.meaning on.fixed.terms mid.moves from paired.source pair.other paired.other
 
-  other-head : WasHead mid.moves from paired.source pair.other
+  other-head : WasHead on.fixed.terms.origin mid.moves from paired.source pair.other
   other-head = record { before = mid.moves; begins = prefix_self mid.moves; named = looked.0; head = looked.1 }
 
-  turned : (outcome : machine.Outcome A R) → MergesAs on.fixed.meaning pair outcome → turn on.fixed.meaning on.fixed.limits mid.moves (machine.Merge s.seen.branch s.seen.head pair.other) ≡ answers outcome
+  turned : (outcome : machine.Outcome A R) → MergesAs on.fixed.meaning pair outcome → turn on.fixed.meaning on.fixed.terms mid.moves (machine.Merge s.seen.branch s.seen.head (pair.other ∷ [])) ≡ answers outcome
   turned outcome merges =
-      subst (λ (v : SeenView (Move O R)). turn on.fixed.meaning v.limits v.history (machine.Merge v.branch v.head pair.other) ≡ answers outcome) paired.look (merges pair.history (prefix_self pair.history))
+      subst (λ (v : SeenView (Move O R)). turn on.fixed.meaning v.terms v.history (machine.Merge v.branch v.head (pair.other ∷ [])) ≡ answers outcome) paired.look (merges pair.history (prefix_self pair.history))
 
   -- nothing to merge
-  pub merge-same : KeepsOrder on.fixed.meaning → RaisesHeads on.fixed.meaning → IsValid on.fixed.meaning on.fixed.limits mid.moves → (places : List ℕ) → MergesAs on.fixed.meaning pair machine.Same → HasSame (sights session) from old mid places places
+  pub merge-same : KeepsOrder on.fixed.meaning → RaisesHeads on.fixed.meaning → IsValid on.fixed.meaning on.fixed.terms mid.moves → (places : List ℕ) → MergesAs on.fixed.meaning pair machine.Same → HasSame on.fixed.terms.origin (sights session) from old mid places places
   merge-same order raises valid places merges =
-      let below = merge-reaches on.fixed.meaning on.fixed.limits mid.moves s.seen.branch s.seen.head pair.other (turned machine.Same merges) in
+      let below = merge-reaches on.fixed.meaning on.fixed.terms mid.moves s.seen.branch s.seen.head pair.other (turned machine.Same merges) in
       record {
         branch = s.branch;
         sees = sees;
-        reached = session-reaches on.fixed.limits mid.moves s here on.fixed.meaning order raises valid from paired.source looked.0
-            (subst (λ h. IsTrue (reaches (graph_of (store_of mid.moves).commits) s.seen.head h)) (sym looked.1) below);
+        reached = session-reaches on.fixed.terms mid.moves s here on.fixed.meaning order raises valid from paired.source looked.0
+            (subst (λ h. IsTrue (reaches (graph_of (store_of on.fixed.terms.origin mid.moves).commits) s.seen.head h)) (sym looked.1) below);
         stayed = record { rest = seen; noted = refl };
       }
 
   -- a merge that the machine refuses, after the pairing and later
-  pub merge-refused : (moves : List (Move O R)) → IsPrefix mid.moves moves → (why : machine.Refusal) → FullyRefuses on.fixed moves (machine.Merge s.seen.branch s.seen.head pair.other) why
+  pub merge-refused : (moves : List (Move O R)) → IsPrefix mid.moves moves → (why : machine.Refusal) → FullyRefuses on.fixed moves (machine.Merge s.seen.branch s.seen.head (pair.other ∷ [])) why
       → RefusesStep on moves sights (Merge session from) why
   merge-refused moves later why no_turn =
       sees-refused on moves sights session from s.branch sees why
-      (inr (s.seen.branch, s.seen.head, paired.source, pair.other, session-head on.fixed.limits moves s (session-later on.fixed.limits mid.moves moves s later here), head-later mid.moves moves later from paired.source pair.other other-head, no_turn))
+      (inr (s.seen.branch, s.seen.head, paired.source, pair.other, session-head on.fixed.terms moves s (session-later on.fixed.terms mid.moves moves s later here), head-later on.fixed.terms.origin mid.moves moves later from paired.source pair.other other-head, no_turn))
 
   pub merge-unprepared : (why : machine.Refusal) → MergesAs on.fixed.meaning pair (machine.Refused why) → RefusesStep on mid.moves sights (Merge session from) why
   merge-unprepared why merges =
-      merge-refused mid.moves (prefix_self mid.moves) why (full-answers on.fixed mid.moves (machine.Merge s.seen.branch s.seen.head pair.other) (machine.Refused why) (turned (machine.Refused why) merges))
+      merge-refused mid.moves (prefix_self mid.moves) why (full-answers on.fixed mid.moves (machine.Merge s.seen.branch s.seen.head (pair.other ∷ [])) (machine.Refused why) refl (turned (machine.Refused why) merges))
 
   module _ (made : PreparedView O R) (made_seen : made.seen ≡ seen_of pair) (made_work : IsWorkOf on.fixed.meaning pair made.work) where
-    seen-is : made.seen ≡ record { history = mid.moves; limits = on.fixed.limits; branch = s.seen.branch; head = s.seen.head }
+    seen-is : made.seen ≡ record { history = mid.moves; terms = on.fixed.terms; branch = s.seen.branch; head = s.seen.head }
     seen-is = made_seen ∙ paired.look
 
-    pub merge-begins : IsPrefix made.seen.history mid.moves × (made.seen.limits ≡ on.fixed.limits)
-    merge-begins = (subst (λ (v : SeenView (Move O R)). IsPrefix v.history mid.moves) (sym seen-is) (prefix_self mid.moves), ap (λ v. v.limits) seen-is)
+    pub merge-begins : IsPrefix made.seen.history mid.moves × (made.seen.terms ≡ on.fixed.terms)
+    merge-begins = (subst (λ (v : SeenView (Move O R)). IsPrefix v.history mid.moves) (sym seen-is) (prefix_self mid.moves), ap (λ v. v.terms) seen-is)
 
-    step-is : step_of {Q = Q} made.seen made.work ≡ machine.Merge s.seen.branch s.seen.head pair.other
+    step-is : step_of {Q = Q} made.seen made.work ≡ machine.Merge s.seen.branch s.seen.head (pair.other ∷ [])
     step-is = by made.work made_work
       where
-        by : (w : Work O R) → IsWorkOf on.fixed.meaning pair w → step_of {Q = Q} made.seen w ≡ machine.Merge s.seen.branch s.seen.head pair.other
+        by : (w : Work O R) → IsWorkOf on.fixed.meaning pair w → step_of {Q = Q} made.seen w ≡ machine.Merge s.seen.branch s.seen.head (pair.other ∷ [])
         by (work.Operation op reply) h = absurd h
-        by (work.Merge commit) h = ap (λ (v : SeenView (Move O R)). machine.Merge v.branch v.head commit) seen-is ∙ ap (machine.Merge s.seen.branch s.seen.head) h.0
-        by (work.Forward commit) h = ap (λ (v : SeenView (Move O R)). machine.Merge v.branch v.head commit) seen-is ∙ ap (machine.Merge s.seen.branch s.seen.head) h.0
+        by (work.Merge commit) h = ap (λ (v : SeenView (Move O R)). machine.Merge v.branch v.head (commit ∷ [])) seen-is ∙ ap (λ m. machine.Merge s.seen.branch s.seen.head (m ∷ [])) h.0
+        by (work.Forward commit) h = ap (λ (v : SeenView (Move O R)). machine.Merge v.branch v.head (commit ∷ [])) seen-is ∙ ap (λ m. machine.Merge s.seen.branch s.seen.head (m ∷ [])) h.0
 
     pub merge-unlanded : (new : PassView (Move O R)) → IsPrefix mid.moves new.moves → (refusal : ClientRefusal) → IsLandRefused on made new refusal
         → StepRefused on new.moves new.faults sights (Merge session from) refusal
@@ -130,6 +130,7 @@ module _ {S O R Q A : Type 0} (on : Setting S O R Q A) (old mid : PassView (Move
 
         by : (r : ClientRefusal) → IsLandRefused on made new r → StepRefused on new.moves new.faults sights (Merge session from) r
         by (UnknownBranch name) h = absurd h
+        by (Dropped branch) h = no_turn (machine.Dropped branch) h
         by (Exhausted clock) h = absurd h
         by (FullCommits count) h = no_turn (machine.FullCommits count) h
         by (FullBranches count) h = absurd h
@@ -141,7 +142,7 @@ module _ {S O R Q A : Type 0} (on : Setting S O R Q A) (old mid : PassView (Move
         by Memory h = h
 
     pub merge-tried : (new : PassView (Move O R)) → IsPrefix mid.moves new.moves → (places after : List ℕ) (landing : Landing) → IsLanding (move_of made.seen.branch made.work) mid new places after landing
-        → IsTriedMerge (sights session) from old new places after landing
+        → IsTriedMerge on.fixed.terms.origin (sights session) from old new places after landing
     merge-tried new later places after = by
       where
         numbered : (m : ℕ → Move O R) → m made.seen.branch ≡ m s.seen.branch
@@ -157,28 +158,28 @@ module _ {S O R Q A : Type 0} (on : Setting S O R Q A) (old mid : PassView (Move
             inr (moved-earlier (move.Forward s.seen.branch pair.other) old mid new places after grows seen
             (subst (λ m. HasMoved m mid new places after) (numbered (λ b. move.Forward b commit) ∙ ap (move.Forward s.seen.branch) h.0) moved))
 
-        by : (landing : Landing) → IsLanding (move_of made.seen.branch made.work) mid new places after landing → IsTriedMerge (sights session) from old new places after landing
+        by : (landing : Landing) → IsLanding (move_of made.seen.branch made.work) mid new places after landing → IsTriedMerge on.fixed.terms.origin (sights session) from old new places after landing
         by Moved moved = record {
           branch = s.branch;
           sees = sees;
           number = s.seen.branch;
           source = paired.source;
           commit = pair.other;
-          named = session-named on.fixed.limits old.moves s is;
-          head = head-later mid.moves new.moves later from paired.source pair.other other-head;
+          named = session-named on.fixed.terms old.moves s is;
+          head = head-later on.fixed.terms.origin mid.moves new.moves later from paired.source pair.other other-head;
           moved = kind made.work made_work moved;
         }
         by Stale stayed = stayed-earlier old mid new places after seen stayed
         by Same none = absurd none
 
 -- how a client's pass came on by a move, after it had waited, and before it looked again
-module _ {O R : Type 0} (limits : Limits) (old mid after : PassView (Move O R)) (sessions now : Sessions (Move O R)) (places waited noted : List ℕ) (wait : IsWaiting limits old mid sessions now places waited) where
+module _ {O R : Type 0} (terms : Terms) (old mid after : PassView (Move O R)) (sessions now : Sessions (Move O R)) (places waited noted : List ℕ) (wait : IsWaiting terms old mid sessions now places waited) where
   moved-few : (made : Move O R) → HasMoved made mid after waited noted → length noted ≤ length places + 1
   moved-few made moved =
       let a : length noted ≡ length waited + 1 = ap length moved.noted ∙ length-append waited (length after.moves ∷ []) in
       let b : length waited ≡ length places = ap length wait.noted in omega arith
 
-  pub merged-few : (sight : Option (List ℕ)) (from : List ℕ) → HasMerged sight from mid after waited noted → length noted ≤ length places + 1
+  pub merged-few : (sight : Option (List ℕ)) (from : List ℕ) → HasMerged terms.origin sight from mid after waited noted → length noted ≤ length places + 1
   merged-few sight from merged = ⊎_elim (λ moved. moved-few (move.Merge merged.number merged.commit) moved) (λ moved. moved-few (move.Forward merged.number merged.commit) moved) merged.moved
 
   module _ (new : PassView (Move O R)) (landed : IsPrefix mid.moves after.moves) (faults : mid.faults ≤ after.faults) (looked : IsPrefix after.moves new.moves) (later : after.faults ≤ new.faults) (rest : IsSeenOn after new) where
@@ -195,5 +196,5 @@ module _ {O R : Type 0} (limits : Limits) (old mid after : PassView (Move O R)) 
           counted = let m = moved.receipts in omega arith;
         }
 
-    pub merged-advances : (sight : Option (List ℕ)) (from : List ℕ) → HasMerged sight from mid after waited noted → Advances old new places noted
+    pub merged-advances : (sight : Option (List ℕ)) (from : List ℕ) → HasMerged terms.origin sight from mid after waited noted → Advances old new places noted
     merged-advances sight from merged = ⊎_elim (λ moved. moved-advances (move.Merge merged.number merged.commit) moved) (λ moved. moved-advances (move.Forward merged.number merged.commit) moved) merged.moved

@@ -10,7 +10,7 @@ use Rattle.std.proofs.lemmas.Slice.Eq.{bytes_eq-Decides}
 use mathlib.Core.List.{IsPrefix}
 use Rattle.branch_front.proofs.Prefixes.{prefix_self, prefix_trans}
 use Rattle.mrdt_model.specs.Laws.{Meaning}
-use Rattle.branch_names.specs.declared.limits.Limits.{Limits}
+use Rattle.branch_names.specs.declared.terms.Terms.{Terms}
 use Rattle.branch_names.specs.Heads.{head_of, branch_named}
 use Rattle.branch_graph.specs.Graph.{reaches}
 use Rattle.branch_history.specs.declared.moves.Move.{Move}
@@ -19,7 +19,7 @@ use Rattle.branch_history.specs.History.{store_of}
 use Rattle.branch_history.specs.Laws.{KeepsOrder, RaisesHeads}
 use Rattle.branch_history.specs.Validity.{IsValid}
 use Rattle.branch_history.proofs.Reach.{reaches-trans}
-use Rattle.branch_history.proofs.Valid.{branch_named-there}
+use Rattle.branch_history.proofs.Stores.{branch_named-there}
 use Rattle.store_seen.specs.Views.{SeenView}
 use Rattle.parallel_clients.specs.declared.sessions.Session.{Session}
 use Rattle.parallel_clients.specs.Played.{Sights, with_sight, WasNamed, WasHead, IsReached}
@@ -55,61 +55,61 @@ sight-found sessions session s found = ap (option_map (λ s. s.branch)) found
 pub sight-none : {M : Type 0} (sessions : Sessions M) (session : List ℕ) → session_named sessions session ≡ None → sights_of sessions session ≡ None
 sight-none sessions session none = ap (option_map (λ s. s.branch)) none
 
-module _ {O R : Type 0} (limits : Limits) where
-  pub session-later : (moves later : List (Move O R)) (s : Session (SeenView (Move O R))) → IsPrefix moves later → IsSession limits moves s → IsSession limits later s
-  session-later moves later s grows is = record { begins = prefix_trans s.seen.history moves later is.begins grows; limits_are = is.limits_are; named = is.named; head = is.head }
+module _ {O R : Type 0} (terms : Terms) where
+  pub session-later : (moves later : List (Move O R)) (s : Session (SeenView (Move O R))) → IsPrefix moves later → IsSession terms moves s → IsSession terms later s
+  session-later moves later s grows is = record { begins = prefix_trans s.seen.history moves later is.begins grows; terms_are = is.terms_are; named = is.named; head = is.head }
 
   -- a look at the head of a branch
-  pub session-looked : {S Q A : Type 0} (meaning : Meaning S O R Q A) (moves : List (Move O R)) (s : Session (SeenView (Move O R))) → s.seen.history ≡ moves → s.seen.limits ≡ limits
-      → turn meaning limits moves (machine.Look s.branch) ≡ answers (machine.Sees s.seen.branch s.seen.head) → IsSession limits moves s
+  pub session-looked : {S Q A : Type 0} (meaning : Meaning S O R Q A) (moves : List (Move O R)) (s : Session (SeenView (Move O R))) → s.seen.history ≡ moves → s.seen.terms ≡ terms
+      → turn meaning terms moves (machine.Look s.branch) ≡ answers (machine.Sees s.seen.branch s.seen.head) → IsSession terms moves s
   session-looked meaning moves s history limited is =
-      let found = look-named meaning limits moves s.branch s.seen.branch s.seen.head is in
+      let found = look-named meaning terms moves s.branch s.seen.branch s.seen.head is in
       record {
         begins = subst (λ h. IsPrefix h moves) (sym history) (prefix_self moves);
-        limits_are = limited;
-        named = subst (λ h. branch_named (store_of h).branches s.branch ≡ Some s.seen.branch) (sym history) found.0;
-        head = subst (λ h. head_of (store_of h).branches s.seen.branch ≡ s.seen.head) (sym history) found.1;
+        terms_are = limited;
+        named = subst (λ h. branch_named (store_of terms.origin h).branches s.branch ≡ Some s.seen.branch) (sym history) found.0;
+        head = subst (λ h. head_of (store_of terms.origin h).branches s.seen.branch ≡ s.seen.head) (sym history) found.1;
       }
 
-  pub sessions_later : (moves later : List (Move O R)) (sessions : Sessions (Move O R)) → IsPrefix moves later → AreSessions limits moves sessions → AreSessions limits later sessions
+  pub sessions_later : (moves later : List (Move O R)) (sessions : Sessions (Move O R)) → IsPrefix moves later → AreSessions terms moves sessions → AreSessions terms later sessions
   sessions_later moves later sessions grows are = record { each = λ name s found. session-later moves later s grows (are.each name s found) }
 
-  put_one : (moves : List (Move O R)) (s other : Session (SeenView (Move O R))) (o : Option (Session (SeenView (Move O R)))) (t : Bool) → IsSession limits moves s → (o ≡ Some other → IsSession limits moves other)
-      → cond t (Some s) o ≡ Some other → IsSession limits moves other
-  put_one moves s other o true is rest e = let same : s ≡ other = cc in subst (IsSession limits moves) same is
+  put_one : (moves : List (Move O R)) (s other : Session (SeenView (Move O R))) (o : Option (Session (SeenView (Move O R)))) (t : Bool) → IsSession terms moves s → (o ≡ Some other → IsSession terms moves other)
+      → cond t (Some s) o ≡ Some other → IsSession terms moves other
+  put_one moves s other o true is rest e = let same : s ≡ other = cc in subst (IsSession terms moves) same is
   put_one moves s other o false is rest e = rest e
 
-  pub sessions-put : (moves : List (Move O R)) (old new : Sessions (Move O R)) (session : List ℕ) (s : Session (SeenView (Move O R))) → Puts old new session s → IsSession limits moves s → AreSessions limits moves old → AreSessions limits moves new
+  pub sessions-put : (moves : List (Move O R)) (old new : Sessions (Move O R)) (session : List ℕ) (s : Session (SeenView (Move O R))) → Puts old new session s → IsSession terms moves s → AreSessions terms moves old → AreSessions terms moves new
   sessions-put moves old new session s puts is are = record {
     each = λ name other found. put_one moves s other (session_named old name) (is_eq (slice_cmp nat_cmp session name)) is (are.each name other) (sym (puts name) ∙ found);
   }
 
-  pub sessions-kept : (moves : List (Move O R)) (old new : Sessions (Move O R)) → ((name : List ℕ) → session_named new name ≡ session_named old name) → AreSessions limits moves old → AreSessions limits moves new
+  pub sessions-kept : (moves : List (Move O R)) (old new : Sessions (Move O R)) → ((name : List ℕ) → session_named new name ≡ session_named old name) → AreSessions terms moves old → AreSessions terms moves new
   sessions-kept moves old new kept are = record { each = λ name s found. are.each name s (sym (kept name) ∙ found) }
 
-  module _ (moves : List (Move O R)) (s : Session (SeenView (Move O R))) (is : IsSession limits moves s) where
-    pub session-named : WasNamed moves s.branch s.seen.branch
+  module _ (moves : List (Move O R)) (s : Session (SeenView (Move O R))) (is : IsSession terms moves s) where
+    pub session-named : WasNamed terms.origin moves s.branch s.seen.branch
     session-named = record { before = s.seen.history; begins = is.begins; named = is.named }
 
-    pub session-head : WasHead moves s.branch s.seen.branch s.seen.head
+    pub session-head : WasHead terms.origin moves s.branch s.seen.branch s.seen.head
     session-head = record { before = s.seen.history; begins = is.begins; named = is.named; head = is.head }
 
     -- what a session's head reaches, the head of its branch reaches
-    pub session-reaches : {S Q A : Type 0} (meaning : Meaning S O R Q A) → KeepsOrder meaning → RaisesHeads meaning → IsValid meaning limits moves
-        → (from : List ℕ) (source : ℕ) → branch_named (store_of moves).branches from ≡ Some source
-        → IsTrue (reaches (graph_of (store_of moves).commits) s.seen.head (head_of (store_of moves).branches source)) → IsReached s.branch from moves
+    pub session-reaches : {S Q A : Type 0} (meaning : Meaning S O R Q A) → KeepsOrder meaning → RaisesHeads meaning → IsValid meaning terms moves
+        → (from : List ℕ) (source : ℕ) → branch_named (store_of terms.origin moves).branches from ≡ Some source
+        → IsTrue (reaches (graph_of (store_of terms.origin moves).commits) s.seen.head (head_of (store_of terms.origin moves).branches source)) → IsReached terms.origin s.branch from moves
     session-reaches meaning order raises valid from source found below =
         let r : ℕ = s.seen.branch in
-        let there : r < length (store_of s.seen.history).branches = branch_named-there (store_of s.seen.history).branches s.branch r is.named in
+        let there : r < length (store_of terms.origin s.seen.history).branches = branch_named-there (store_of terms.origin s.seen.history).branches s.branch r is.named in
         let grown : s.seen.history ++ is.begins.0 ≡ moves = is.begins.1 in
-        let risen = raises limits s.seen.history is.begins.0 (subst (IsValid meaning limits) (sym grown) valid) r there in
-        let here : IsTrue (reaches (graph_of (store_of moves).commits) (head_of (store_of moves).branches r) s.seen.head) =
-        subst (λ h. IsTrue (reaches (graph_of (store_of moves).commits) (head_of (store_of moves).branches r) h)) is.head
-        (subst (λ ms. IsTrue (reaches (graph_of (store_of ms).commits) (head_of (store_of ms).branches r) (head_of (store_of s.seen.history).branches r))) grown risen) in
+        let risen = raises terms s.seen.history is.begins.0 (subst (IsValid meaning terms) (sym grown) valid) r there in
+        let here : IsTrue (reaches (graph_of (store_of terms.origin moves).commits) (head_of (store_of terms.origin moves).branches r) s.seen.head) =
+        subst (λ h. IsTrue (reaches (graph_of (store_of terms.origin moves).commits) (head_of (store_of terms.origin moves).branches r) h)) is.head
+        (subst (λ ms. IsTrue (reaches (graph_of (store_of terms.origin ms).commits) (head_of (store_of terms.origin ms).branches r) (head_of (store_of terms.origin s.seen.history).branches r))) grown risen) in
         record {
           number = r;
           source = source;
           named = session-named;
           other = found;
-          reached = reaches-trans (graph_of (store_of moves).commits) (order limits moves valid).ranked (head_of (store_of moves).branches r) s.seen.head (head_of (store_of moves).branches source) here below;
+          reached = reaches-trans (graph_of (store_of terms.origin moves).commits) (order terms moves valid).ranked (head_of (store_of terms.origin moves).branches r) s.seen.head (head_of (store_of terms.origin moves).branches source) here below;
         }

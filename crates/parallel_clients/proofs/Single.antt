@@ -13,7 +13,7 @@ use Rattle.parallel_clients.specs.Played.{with_sight, sights_after, IsMoveAt, Wa
 use Rattle.parallel_clients.specs.Sessions.{Stage, PlaysOn, HasMoved, HasDone, HasMerged}
 use Rattle.parallel_clients.proofs.Went.{named-later, head-later, move-last, played-earlier, plays-still, plays-move}
 
-module _ {O R : Type 0} (op_of : PlainOp → O) (old new : Stage (Move O R)) (mid after : PassView (Move O R)) (from_old : IsPrefix old.moves mid.moves) (to_new : IsPrefix after.moves new.moves) (places noted : List ℕ) (had : old.places ≡ places) (has : new.places ≡ noted) where
+module _ {O R : Type 0} (op_of : PlainOp → O) (origin : ℕ) (old new : Stage (Move O R)) (mid after : PassView (Move O R)) (from_old : IsPrefix old.moves mid.moves) (to_new : IsPrefix after.moves new.moves) (places noted : List ℕ) (had : old.places ≡ places) (has : new.places ≡ noted) where
   -- a move that landed has its place behind what had been seen, and stands there in any longer history
   module _ (made : Move O R) (moved : HasMoved made mid after places noted) where
     abbrev place : ℕ
@@ -43,56 +43,56 @@ module _ {O R : Type 0} (op_of : PlainOp → O) (old new : Stage (Move O R)) (mi
 
     pub plays-made : (step : Step) → new.sights ≡ sights_after (step ∷ []) old.sights
         → ((later : List (Move O R)) (rest : List Step) (more : List ℕ) → IsPrefix new.moves later → IsMoveAt later place made
-        → PlayedFrom op_of later rest new.sights place more → PlayedFrom op_of later (step ∷ rest) old.sights (length old.moves) (place ∷ more))
-        → PlaysOn op_of (step ∷ []) old new
+        → PlayedFrom op_of origin later rest new.sights place more → PlayedFrom op_of origin later (step ∷ rest) old.sights (length old.moves) (place ∷ more))
+        → PlaysOn op_of origin (step ∷ []) old new
     plays-made step sights goes =
-        plays-move op_of old new grown step place past (prefix_length after.moves new.moves to_new) noted-is sights
+        plays-move op_of origin old new grown step place past (prefix_length after.moves new.moves to_new) noted-is sights
         (λ later rest more grows played. goes later rest more grows (stands later grows) played)
 
   module _ (same : new.sights ≡ old.sights) where
-    kept : (later : List (Move O R)) (rest : List Step) (last : ℕ) (more : List ℕ) → PlayedFrom op_of later rest new.sights last more → PlayedFrom op_of later rest old.sights last more
-    kept later rest last more played = subst (λ sights. PlayedFrom op_of later rest sights last more) same played
+    kept : (later : List (Move O R)) (rest : List Step) (last : ℕ) (more : List ℕ) → PlayedFrom op_of origin later rest new.sights last more → PlayedFrom op_of origin later rest old.sights last more
+    kept later rest last more played = subst (λ sights. PlayedFrom op_of origin later rest sights last more) same played
 
-    pub plays-done : (session : List ℕ) (op : PlainOp) → HasDone (old.sights session) (op_of op) mid after places noted → PlaysOn op_of (Do session op ∷ []) old new
+    pub plays-done : (session : List ℕ) (op : PlainOp) → HasDone origin (old.sights session) (op_of op) mid after places noted → PlaysOn op_of origin (Do session op ∷ []) old new
     plays-done session op done =
         let made : Move O R = move.Operation done.number (op_of op) done.reply in
         plays-made made done.moved (Do session op) same
         (λ later rest more grows at played.
         let all : IsPrefix mid.moves later = prefix_trans mid.moves after.moves later (mid-after made done.moved) (prefix_trans after.moves new.moves later to_new grows) in
-        let is : IsDone later done.branch (op_of op) (length after.moves) = record { number = done.number; named = named-later mid.moves later all done.branch done.number done.named; reply = done.reply; made = at } in
-        subst (λ o. IfSees o (λ branch. TakesOne (IsDone later branch (op_of op)) (PlayedFrom op_of later rest old.sights) (length old.moves) (length after.moves ∷ more))) (sym done.sees)
+        let is : IsDone origin later done.branch (op_of op) (length after.moves) = record { number = done.number; named = named-later origin mid.moves later all done.branch done.number done.named; reply = done.reply; made = at } in
+        subst (λ o. IfSees o (λ branch. TakesOne (IsDone origin later branch (op_of op)) (PlayedFrom op_of origin later rest old.sights) (length old.moves) (length after.moves ∷ more))) (sym done.sees)
         (past made done.moved, is, kept later rest (length after.moves) more played))
 
-    pub plays-merged : (session from : List ℕ) → HasMerged (old.sights session) from mid after places noted → PlaysOn op_of (Merge session from ∷ []) old new
+    pub plays-merged : (session from : List ℕ) → HasMerged origin (old.sights session) from mid after places noted → PlaysOn op_of origin (Merge session from ∷ []) old new
     plays-merged session from done = ⊎_elim (λ moved. by (move.Merge done.number done.commit) moved (λ later at. inl at)) (λ moved. by (move.Forward done.number done.commit) moved (λ later at. inr at)) done.moved
       where
         by : (made : Move O R) → HasMoved made mid after places noted
             → ((later : List (Move O R)) → IsMoveAt later (length after.moves) made → IsMoveAt later (length after.moves) (move.Merge done.number done.commit) ⊎ IsMoveAt later (length after.moves) (move.Forward done.number done.commit))
-            → PlaysOn op_of (Merge session from ∷ []) old new
+            → PlaysOn op_of origin (Merge session from ∷ []) old new
         by made moved either =
             plays-made made moved (Merge session from) same
             (λ later rest more grows at played.
             let to_later = prefix_trans after.moves new.moves later to_new grows in
             let all : IsPrefix mid.moves later = prefix_trans mid.moves after.moves later (mid-after made moved) to_later in
-            let is : IsMerged later done.branch from (length after.moves) = record {
+            let is : IsMerged origin later done.branch from (length after.moves) = record {
               number = done.number;
               source = done.source;
               commit = done.commit;
-              named = named-later mid.moves later all done.branch done.number done.named;
-              head = head-later after.moves later to_later from done.source done.commit done.head;
+              named = named-later origin mid.moves later all done.branch done.number done.named;
+              head = head-later origin after.moves later to_later from done.source done.commit done.head;
               made = either later at;
             } in
-            let Rest = PlayedFrom op_of later rest old.sights in
-            subst (λ o. IfSees o (λ branch. TakesOne (IsMerged later branch from) Rest (length old.moves) (length after.moves ∷ more) ⊎ TakesNone later (IsReached branch from) Rest (length old.moves) (length after.moves ∷ more))) (sym done.sees)
+            let Rest = PlayedFrom op_of origin later rest old.sights in
+            subst (λ o. IfSees o (λ branch. TakesOne (IsMerged origin later branch from) Rest (length old.moves) (length after.moves ∷ more) ⊎ TakesNone later (IsReached origin branch from) Rest (length old.moves) (length after.moves ∷ more))) (sym done.sees)
             (inl (past made moved, is, kept later rest (length after.moves) more played)))
 
-    pub plays-forked : (name from : List ℕ) (number source : ℕ) → WasNamed after.moves from source → HasMoved (move.Fork name number source) mid after places noted → PlaysOn op_of (Fork name from ∷ []) old new
+    pub plays-forked : (name from : List ℕ) (number source : ℕ) → WasNamed origin after.moves from source → HasMoved (move.Fork name number source) mid after places noted → PlaysOn op_of origin (Fork name from ∷ []) old new
     plays-forked name from number source named moved =
         let made : Move O R = move.Fork name number source in
         plays-made made moved (Fork name from) same
         (λ later rest more grows at played.
         let to_later = prefix_trans after.moves new.moves later to_new grows in
-        let is : IsForked later name from (length after.moves) = record { number = number; source = source; named = named-later after.moves later to_later from source named; made = at } in
+        let is : IsForked origin later name from (length after.moves) = record { number = number; source = source; named = named-later origin after.moves later to_later from source named; made = at } in
         inl (past made moved, is, kept later rest (length after.moves) more played))
 
   -- a step that makes no move was done where its last look was
@@ -101,39 +101,39 @@ module _ {O R : Type 0} (op_of : PlainOp → O) (old new : Stage (Move O R)) (mi
     on = prefix_trans old.moves mid.moves new.moves from_old (prefix_trans mid.moves after.moves new.moves seen to_new)
 
     takes-none : (Holds : List (Move O R) → Type 0) (later : List (Move O R)) (rest : List Step) (more : List ℕ) → Holds after.moves → IsPrefix new.moves later
-        → PlayedFrom op_of later rest new.sights (length new.moves) more → TakesNone later Holds (PlayedFrom op_of later rest new.sights) (length old.moves) more
+        → PlayedFrom op_of origin later rest new.sights (length new.moves) more → TakesNone later Holds (PlayedFrom op_of origin later rest new.sights) (length old.moves) more
     takes-none Holds later rest more here grows played = record {
       before = after.moves;
       begins = prefix_trans after.moves new.moves later to_new grows;
       behind = prefix_length old.moves after.moves (prefix_trans old.moves mid.moves after.moves from_old seen);
       here = here;
-      rest = played-earlier op_of later (length after.moves) (length new.moves) (prefix_length after.moves new.moves to_new) rest new.sights more played;
+      rest = played-earlier op_of origin later (length after.moves) (length new.moves) (prefix_length after.moves new.moves to_new) rest new.sights more played;
     }
 
-    pub plays-looked : (session branch : List ℕ) → new.sights ≡ with_sight old.sights session branch → HasBranch branch after.moves → PlaysOn op_of (Look session branch ∷ []) old new
+    pub plays-looked : (session branch : List ℕ) → new.sights ≡ with_sight old.sights session branch → HasBranch origin branch after.moves → PlaysOn op_of origin (Look session branch ∷ []) old new
     plays-looked session branch sights there =
-        plays-still op_of old new on (Look session branch) (has ∙ none ∙ sym had) sights
+        plays-still op_of origin old new on (Look session branch) (has ∙ none ∙ sym had) sights
         (λ later rest more grows played.
-        subst (λ s. TakesNone later (HasBranch branch) (PlayedFrom op_of later rest s) (length old.moves) more) sights (takes-none (HasBranch branch) later rest more there grows played))
+        subst (λ s. TakesNone later (HasBranch origin branch) (PlayedFrom op_of origin later rest s) (length old.moves) more) sights (takes-none (HasBranch origin branch) later rest more there grows played))
 
     module _ (same : new.sights ≡ old.sights) where
       kept-none : (Holds : List (Move O R) → Type 0) (later : List (Move O R)) (rest : List Step) (more : List ℕ) → Holds after.moves → IsPrefix new.moves later
-          → PlayedFrom op_of later rest new.sights (length new.moves) more → TakesNone later Holds (PlayedFrom op_of later rest old.sights) (length old.moves) more
+          → PlayedFrom op_of origin later rest new.sights (length new.moves) more → TakesNone later Holds (PlayedFrom op_of origin later rest old.sights) (length old.moves) more
       kept-none Holds later rest more here grows played =
-          subst (λ s. TakesNone later Holds (PlayedFrom op_of later rest s) (length old.moves) more) same (takes-none Holds later rest more here grows played)
+          subst (λ s. TakesNone later Holds (PlayedFrom op_of origin later rest s) (length old.moves) more) same (takes-none Holds later rest more here grows played)
 
-      pub plays-same : (session from branch : List ℕ) → old.sights session ≡ Some branch → IsReached branch from after.moves → PlaysOn op_of (Merge session from ∷ []) old new
+      pub plays-same : (session from branch : List ℕ) → old.sights session ≡ Some branch → IsReached origin branch from after.moves → PlaysOn op_of origin (Merge session from ∷ []) old new
       plays-same session from branch sees reached =
-          plays-still op_of old new on (Merge session from) (has ∙ none ∙ sym had) same
+          plays-still op_of origin old new on (Merge session from) (has ∙ none ∙ sym had) same
           (λ later rest more grows played.
-          let Rest = PlayedFrom op_of later rest old.sights in
-          subst (λ o. IfSees o (λ b. TakesOne (IsMerged later b from) Rest (length old.moves) more ⊎ TakesNone later (IsReached b from) Rest (length old.moves) more)) (sym sees)
-          (inr (kept-none (IsReached branch from) later rest more reached grows played)))
+          let Rest = PlayedFrom op_of origin later rest old.sights in
+          subst (λ o. IfSees o (λ b. TakesOne (IsMerged origin later b from) Rest (length old.moves) more ⊎ TakesNone later (IsReached origin b from) Rest (length old.moves) more)) (sym sees)
+          (inr (kept-none (IsReached origin branch from) later rest more reached grows played)))
 
-      pub plays-taken : (name from : List ℕ) → IsTaken name from after.moves → PlaysOn op_of (Fork name from ∷ []) old new
+      pub plays-taken : (name from : List ℕ) → IsTaken origin name from after.moves → PlaysOn op_of origin (Fork name from ∷ []) old new
       plays-taken name from taken =
-          plays-still op_of old new on (Fork name from) (has ∙ none ∙ sym had) same (λ later rest more grows played. inr (kept-none (IsTaken name from) later rest more taken grows played))
+          plays-still op_of origin old new on (Fork name from) (has ∙ none ∙ sym had) same (λ later rest more grows played. inr (kept-none (IsTaken origin name from) later rest more taken grows played))
 
-      pub plays-asked : (branch : List ℕ) (query : PlainQuery) → HasBranch branch after.moves → PlaysOn op_of (Ask branch query ∷ []) old new
+      pub plays-asked : (branch : List ℕ) (query : PlainQuery) → HasBranch origin branch after.moves → PlaysOn op_of origin (Ask branch query ∷ []) old new
       plays-asked branch query there =
-          plays-still op_of old new on (Ask branch query) (has ∙ none ∙ sym had) same (λ later rest more grows played. kept-none (HasBranch branch) later rest more there grows played)
+          plays-still op_of origin old new on (Ask branch query) (has ∙ none ∙ sym had) same (λ later rest more grows played. kept-none (HasBranch origin branch) later rest more there grows played)

@@ -14,11 +14,11 @@ use Rattle.parallel_clients.specs.Sessions.{Stage, GoesOn, PlaysOn}
 
 -- what stays when a history grows
 
-module _ {O R : Type 0} (moves later : List (Move O R)) (grows : IsPrefix moves later) where
-  pub named-later : (name : List ℕ) (branch : ℕ) → WasNamed moves name branch → WasNamed later name branch
+module _ {O R : Type 0} (origin : ℕ) (moves later : List (Move O R)) (grows : IsPrefix moves later) where
+  pub named-later : (name : List ℕ) (branch : ℕ) → WasNamed origin moves name branch → WasNamed origin later name branch
   named-later name branch was = record { before = was.before; begins = prefix_trans was.before moves later was.begins grows; named = was.named }
 
-  pub head-later : (name : List ℕ) (branch commit : ℕ) → WasHead moves name branch commit → WasHead later name branch commit
+  pub head-later : (name : List ℕ) (branch commit : ℕ) → WasHead origin moves name branch commit → WasHead origin later name branch commit
   head-later name branch commit was = record { before = was.before; begins = prefix_trans was.before moves later was.begins grows; named = was.named; head = was.head }
 
 -- the last move of a history stands at its length
@@ -56,7 +56,7 @@ sees-more Does More more None is = is
 sees-more Does More more (Some branch) is = more branch is
 
 -- what was played from behind a place was played from behind an earlier one
-module _ {O R : Type 0} (op_of : PlainOp → O) (moves : List (Move O R)) (m n : ℕ) (le : m ≤ n) where
+module _ {O R : Type 0} (op_of : PlainOp → O) (origin : ℕ) (moves : List (Move O R)) (m n : ℕ) (le : m ≤ n) where
   one-earlier : (Is : ℕ → Type 0) (Rest : ℕ → List ℕ → Type 0) (places : List ℕ) → TakesOne Is Rest n places → TakesOne Is Rest m places
   one-earlier Is Rest [] is = is
   one-earlier Is Rest (place ∷ places) is = let behind = is.0 in (omega (arith, behind), is.1, is.2)
@@ -64,28 +64,28 @@ module _ {O R : Type 0} (op_of : PlainOp → O) (moves : List (Move O R)) (m n :
   none-earlier : (Holds : List (Move O R) → Type 0) (Rest : ℕ → List ℕ → Type 0) (places : List ℕ) → TakesNone moves Holds Rest n places → TakesNone moves Holds Rest m places
   none-earlier Holds Rest places is = let behind = is.behind in record { before = is.before; begins = is.begins; behind = omega (arith, behind); here = is.here; rest = is.rest }
 
-  pub played-earlier : (steps : List Step) (sights : Sights) (places : List ℕ) → PlayedFrom op_of moves steps sights n places → PlayedFrom op_of moves steps sights m places
+  pub played-earlier : (steps : List Step) (sights : Sights) (places : List ℕ) → PlayedFrom op_of origin moves steps sights n places → PlayedFrom op_of origin moves steps sights m places
   played-earlier [] sights places is = is
-  played-earlier (Look session branch ∷ steps) sights places is = none-earlier (HasBranch branch) (PlayedFrom op_of moves steps (with_sight sights session branch)) places is
-  played-earlier (Ask branch query ∷ steps) sights places is = none-earlier (HasBranch branch) (PlayedFrom op_of moves steps sights) places is
+  played-earlier (Look session branch ∷ steps) sights places is = none-earlier (HasBranch origin branch) (PlayedFrom op_of origin moves steps (with_sight sights session branch)) places is
+  played-earlier (Ask branch query ∷ steps) sights places is = none-earlier (HasBranch origin branch) (PlayedFrom op_of origin moves steps sights) places is
   played-earlier (Do session op ∷ steps) sights places is =
-      let Rest = PlayedFrom op_of moves steps sights in
-      sees-more (λ branch. TakesOne (IsDone moves branch (op_of op)) Rest n places) (λ branch. TakesOne (IsDone moves branch (op_of op)) Rest m places)
-      (λ branch. one-earlier (IsDone moves branch (op_of op)) Rest places) (sights session) is
+      let Rest = PlayedFrom op_of origin moves steps sights in
+      sees-more (λ branch. TakesOne (IsDone origin moves branch (op_of op)) Rest n places) (λ branch. TakesOne (IsDone origin moves branch (op_of op)) Rest m places)
+      (λ branch. one-earlier (IsDone origin moves branch (op_of op)) Rest places) (sights session) is
   played-earlier (Fork new from ∷ steps) sights places is =
-      let Rest = PlayedFrom op_of moves steps sights in
-      ⊎_elim (λ one. inl (one-earlier (IsForked moves new from) Rest places one)) (λ none. inr (none-earlier (IsTaken new from) Rest places none)) is
+      let Rest = PlayedFrom op_of origin moves steps sights in
+      ⊎_elim (λ one. inl (one-earlier (IsForked origin moves new from) Rest places one)) (λ none. inr (none-earlier (IsTaken origin new from) Rest places none)) is
   played-earlier (Merge session from ∷ steps) sights places is =
-      let Rest = PlayedFrom op_of moves steps sights in
-      sees-more (λ branch. TakesOne (IsMerged moves branch from) Rest n places ⊎ TakesNone moves (IsReached branch from) Rest n places)
-      (λ branch. TakesOne (IsMerged moves branch from) Rest m places ⊎ TakesNone moves (IsReached branch from) Rest m places)
-      (λ branch both. ⊎_elim (λ one. inl (one-earlier (IsMerged moves branch from) Rest places one)) (λ none. inr (none-earlier (IsReached branch from) Rest places none)) both)
+      let Rest = PlayedFrom op_of origin moves steps sights in
+      sees-more (λ branch. TakesOne (IsMerged origin moves branch from) Rest n places ⊎ TakesNone moves (IsReached origin branch from) Rest n places)
+      (λ branch. TakesOne (IsMerged origin moves branch from) Rest m places ⊎ TakesNone moves (IsReached origin branch from) Rest m places)
+      (λ branch both. ⊎_elim (λ one. inl (one-earlier (IsMerged origin moves branch from) Rest places one)) (λ none. inr (none-earlier (IsReached origin branch from) Rest places none)) both)
       (sights session) is
 
 -- steps one after another
 
-module _ {O R : Type 0} (op_of : PlainOp → O) where
-  pub plays-none : (s : Stage (Move O R)) → PlaysOn op_of [] s s
+module _ {O R : Type 0} (op_of : PlainOp → O) (origin : ℕ) where
+  pub plays-none : (s : Stage (Move O R)) → PlaysOn op_of origin [] s s
   plays-none s = record {
     own = [];
     grown = prefix_self s.moves;
@@ -95,7 +95,7 @@ module _ {O R : Type 0} (op_of : PlainOp → O) where
     goes_on = λ later rest more grows played. played;
   }
 
-  pub plays-both : (first second : List Step) (a b c : Stage (Move O R)) → PlaysOn op_of first a b → PlaysOn op_of second b c → PlaysOn op_of (first ++ second) a c
+  pub plays-both : (first second : List Step) (a b c : Stage (Move O R)) → PlaysOn op_of origin first a b → PlaysOn op_of origin second b c → PlaysOn op_of origin (first ++ second) a c
   plays-both first second a b c p q = record {
     own = p.own ++ q.own;
     grown = prefix_trans a.moves b.moves c.moves p.grown q.grown;
@@ -105,26 +105,26 @@ module _ {O R : Type 0} (op_of : PlainOp → O) where
     goes_on = λ later rest more grows played.
         let tail = q.goes_on later rest more grows played in
         let all = p.goes_on later (second ++ rest) (q.own ++ more) (prefix_trans b.moves c.moves later q.grown grows) tail in
-        subst (λ ss. PlayedFrom op_of later ss a.sights (length a.moves) ((p.own ++ q.own) ++ more)) (sym (append_assoc first second rest))
-        (subst (PlayedFrom op_of later (first ++ (second ++ rest)) a.sights (length a.moves)) (sym (append_assoc p.own q.own more)) all);
+        subst (λ ss. PlayedFrom op_of origin later ss a.sights (length a.moves) ((p.own ++ q.own) ++ more)) (sym (append_assoc first second rest))
+        (subst (PlayedFrom op_of origin later (first ++ (second ++ rest)) a.sights (length a.moves)) (sym (append_assoc p.own q.own more)) all);
   }
 
   -- what a client has played in all
-  pub plays-played : (steps : List Step) (a b : Stage (Move O R)) (later : List (Move O R)) → PlaysOn op_of steps a b → a.sights ≡ no_sights → a.places ≡ [] → IsPrefix b.moves later
-      → Played op_of (length a.moves) steps b.places later
+  pub plays-played : (steps : List Step) (a b : Stage (Move O R)) (later : List (Move O R)) → PlaysOn op_of origin steps a b → a.sights ≡ no_sights → a.places ≡ [] → IsPrefix b.moves later
+      → Played op_of origin (length a.moves) steps b.places later
   unfolding Played
   plays-played steps a b later p none empty grows =
       let all = p.goes_on later [] [] grows refl in
       let own_is : p.own ++ [] ≡ b.places = append-nil p.own ∙ sym (p.added ∙ ap (λ ps. ps ++ p.own) empty) in
-      subst (λ sights. PlayedFrom op_of later steps sights (length a.moves) b.places) none
-      (subst (λ ps. PlayedFrom op_of later steps a.sights (length a.moves) ps) own_is
-      (subst (λ ss. PlayedFrom op_of later ss a.sights (length a.moves) (p.own ++ [])) (append-nil steps) all))
+      subst (λ sights. PlayedFrom op_of origin later steps sights (length a.moves) b.places) none
+      (subst (λ ps. PlayedFrom op_of origin later steps a.sights (length a.moves) ps) own_is
+      (subst (λ ss. PlayedFrom op_of origin later ss a.sights (length a.moves) (p.own ++ [])) (append-nil steps) all))
 
   -- one step
 
   module _ (old new : Stage (Move O R)) (grown : IsPrefix old.moves new.moves) where
     -- one that makes no move
-    pub plays-still : (step : Step) → new.places ≡ old.places → new.sights ≡ sights_after (step ∷ []) old.sights → GoesOn op_of (step ∷ []) [] old new → PlaysOn op_of (step ∷ []) old new
+    pub plays-still : (step : Step) → new.places ≡ old.places → new.sights ≡ sights_after (step ∷ []) old.sights → GoesOn op_of origin (step ∷ []) [] old new → PlaysOn op_of origin (step ∷ []) old new
     plays-still step same sights goes = record {
       own = [];
       grown = grown;
@@ -137,13 +137,13 @@ module _ {O R : Type 0} (op_of : PlainOp → O) where
     -- one that makes a move
     pub plays-move : (step : Step) (place : ℕ) → length old.moves < place → place ≤ length new.moves → new.places ≡ old.places ++ place ∷ [] → new.sights ≡ sights_after (step ∷ []) old.sights
         → ((later : List (Move O R)) (rest : List Step) (more : List ℕ) → IsPrefix new.moves later
-        → PlayedFrom op_of later rest new.sights place more → PlayedFrom op_of later (step ∷ rest) old.sights (length old.moves) (place ∷ more))
-        → PlaysOn op_of (step ∷ []) old new
+        → PlayedFrom op_of origin later rest new.sights place more → PlayedFrom op_of origin later (step ∷ rest) old.sights (length old.moves) (place ∷ more))
+        → PlaysOn op_of origin (step ∷ []) old new
     plays-move step place past within noted sights goes = record {
       own = place ∷ [];
       grown = grown;
       added = noted;
       past = (past, tt);
       sights = sights;
-      goes_on = λ later rest more grows played. goes later rest more grows (played-earlier op_of later place (length new.moves) within rest new.sights more played);
+      goes_on = λ later rest more grows played. goes later rest more grows (played-earlier op_of origin later place (length new.moves) within rest new.sights more played);
     }

@@ -1,5 +1,5 @@
 -- What becomes of a client.
-use Rattle.std.specs.Prelude.{◌≡◌, ℕ, ◌+◌, ◌<◌, ◌≤◌, ◌⊎◌, List, length, take, slice_get, Some, None}
+use Rattle.std.specs.Prelude.{◌≡◌, ℕ, ◌+◌, ◌<◌, ◌≤◌, ◌⊎◌, List, [], ◌∷◌, length, take, slice_get, Some, None}
 use Rattle.std.specs.List.{AllByRecursion}
 use mathlib.Core.List.{IsPrefix}
 use Rattle.branch_io.specs.Causes.{Rose}
@@ -16,7 +16,7 @@ use Rattle.parallel_clients.specs.declared.outcome.Outcome.{Outcome}
 use Rattle.parallel_clients.specs.declared.outcome.Outcome.TheVariants.{Done, Refused, Unseen}
 use Rattle.parallel_clients.specs.Played.{Sights, no_sights, sights_after, WasHead, IfSees, Played}
 
--- what is fixed for the clients of a store: the store's meaning, limits and addresses, the operation that a plain form stands for, and the count of the disk's
+-- what is fixed for the clients of a store: the store's meaning, terms and addresses, the operation that a plain form stands for, and the count of the disk's
 -- faults when the store was opened
 pub record Setting (S O R Q A : Type 0) : Type 1 where
   pub fixed : Fixed S O R Q A
@@ -33,11 +33,11 @@ RefusesStep on moves sights (Look session branch) refusal = FullyRefuses on.fixe
 RefusesStep on moves sights (Ask branch query) refusal = FullyRefuses on.fixed moves (machine.Look branch) refusal
 RefusesStep on moves sights (Fork new from) refusal = FullyRefuses on.fixed moves (machine.Fork new from) refusal
 RefusesStep on moves sights (Do session op) refusal =
-    IfSees (sights session) (λ branch. (number head : ℕ) × WasHead moves branch number head × FullyRefuses on.fixed moves (machine.Land number head (on.op_of op)) refusal)
+    IfSees (sights session) (λ branch. (number head : ℕ) × WasHead on.fixed.terms.origin moves branch number head × FullyRefuses on.fixed moves (machine.Land number head (on.op_of op)) refusal)
 RefusesStep on moves sights (Merge session from) refusal =
     IfSees (sights session) (λ branch. FullyRefuses on.fixed moves (machine.Look from) refusal
-    ⊎ ((number head source commit : ℕ) × WasHead moves branch number head × WasHead moves from source commit
-    × FullyRefuses on.fixed moves (machine.Merge number head commit) refusal))
+    ⊎ ((number head source commit : ℕ) × WasHead on.fixed.terms.origin moves branch number head × WasHead on.fixed.terms.origin moves from source commit
+    × FullyRefuses on.fixed moves (machine.Merge number head (commit ∷ [])) refusal))
 
 -- the disk has failed since the store was opened
 abbrev pub HasFailed : {S O R Q A : Type 0} → Setting S O R Q A → ℕ → Type 0
@@ -46,6 +46,7 @@ HasFailed on faults = Rose on.opened (on.opened + faults)
 -- why a step was refused, after a history: by the machine, or by a disk that has failed, or for want of memory
 abbrev pub StepRefused : {S O R Q A : Type 0} → Setting S O R Q A → List (Move O R) → ℕ → Sights → Step → ClientRefusal → Type 0
 StepRefused on moves faults sights step (client_refusal.UnknownBranch name) = RefusesStep on moves sights step (machine.UnknownBranch name)
+StepRefused on moves faults sights step (client_refusal.Dropped branch) = RefusesStep on moves sights step (machine.Dropped branch)
 StepRefused on moves faults sights step (client_refusal.Exhausted clock) = RefusesStep on moves sights step (machine.Exhausted clock)
 StepRefused on moves faults sights step (client_refusal.FullCommits count) = RefusesStep on moves sights step (machine.FullCommits count)
 StepRefused on moves faults sights step (client_refusal.FullBranches count) = RefusesStep on moves sights step (machine.FullBranches count)
@@ -64,7 +65,7 @@ pub record IsRefused {S O R Q A : Type 0} (on : Setting S O R Q A) (old new : Li
   pub before : List (Move O R)
   pub begun : IsPrefix old before
   pub begins : IsPrefix before new
-  pub played : Played on.op_of (length old) (take number steps) places before
+  pub played : Played on.op_of on.fixed.terms.origin (length old) (take number steps) places before
   pub refused : StepRefused on before faults (sights_after (take number steps) no_sights) step refusal
 
 -- a step names a session that has to have looked, and sees no branch
@@ -77,12 +78,12 @@ SeesNone sights step = ⊥
 pub record IsUnseen {S O R Q A : Type 0} (on : Setting S O R Q A) (old new : List (Move O R)) (steps : List Step) (number : ℕ) (places : List ℕ) : Type 0 where
   pub step : Step
   pub is_step : slice_get steps number ≡ Some step
-  pub played : Played on.op_of (length old) (take number steps) places new
+  pub played : Played on.op_of on.fixed.terms.origin (length old) (take number steps) places new
   pub unseen : SeesNone (sights_after (take number steps) no_sights) step
 
 -- what became of the steps of a client, where a history grew from an old one to a new one, and the disk has had so many faults since it was opened
 abbrev pub ComesTo : {S O R Q A : Type 0} → Setting S O R Q A → List (Move O R) → List (Move O R) → ℕ → List Step → Outcome → Type 0
-ComesTo on old new faults steps (Done places) = Played on.op_of (length old) steps places new
+ComesTo on old new faults steps (Done places) = Played on.op_of on.fixed.terms.origin (length old) steps places new
 ComesTo on old new faults steps (Refused number refusal places) = IsRefused on old new faults steps number places refusal
 ComesTo on old new faults steps (Unseen number places) = IsUnseen on old new steps number places
 

@@ -35,57 +35,57 @@ sights_after (Ask branch query ∷ steps) sights = sights_after steps sights
 abbrev pub IsMoveAt : {M : Type 0} → List M → ℕ → M → Type 0
 IsMoveAt moves place made = slice_get moves (place - 1) ≡ Some made
 
--- the branch of this number has the name, after some first part of a history
-pub record WasNamed {O R : Type 0} (moves : List (Move O R)) (name : List ℕ) (branch : ℕ) : Type 0 where
+-- the branch of this number had the name, after some first part of a history of a store with this first origin
+pub record WasNamed {O R : Type 0} (origin : ℕ) (moves : List (Move O R)) (name : List ℕ) (branch : ℕ) : Type 0 where
   pub before : List (Move O R)
   pub begins : IsPrefix before moves
-  pub named : branch_named (store_of before).branches name ≡ Some branch
+  pub named : branch_named (store_of origin before).branches name ≡ Some branch
 
 -- its head was this commit then
-pub record WasHead {O R : Type 0} (moves : List (Move O R)) (name : List ℕ) (branch commit : ℕ) : Type 0 where
+pub record WasHead {O R : Type 0} (origin : ℕ) (moves : List (Move O R)) (name : List ℕ) (branch commit : ℕ) : Type 0 where
   pub before : List (Move O R)
   pub begins : IsPrefix before moves
-  pub named : branch_named (store_of before).branches name ≡ Some branch
-  pub head : head_of (store_of before).branches branch ≡ commit
+  pub named : branch_named (store_of origin before).branches name ≡ Some branch
+  pub head : head_of (store_of origin before).branches branch ≡ commit
 
 -- the operation on a session's branch
-pub record IsDone {O R : Type 0} (moves : List (Move O R)) (branch : List ℕ) (op : O) (place : ℕ) : Type 0 where
+pub record IsDone {O R : Type 0} (origin : ℕ) (moves : List (Move O R)) (branch : List ℕ) (op : O) (place : ℕ) : Type 0 where
   pub number : ℕ
-  pub named : WasNamed moves branch number
+  pub named : WasNamed origin moves branch number
   pub reply : R
   pub made : IsMoveAt moves place (move.Operation number op reply)
 
 -- the fork of a new branch from another
-pub record IsForked {O R : Type 0} (moves : List (Move O R)) (new from : List ℕ) (place : ℕ) : Type 0 where
+pub record IsForked {O R : Type 0} (origin : ℕ) (moves : List (Move O R)) (new from : List ℕ) (place : ℕ) : Type 0 where
   pub number : ℕ
   pub source : ℕ
-  pub named : WasNamed moves from source
+  pub named : WasNamed origin moves from source
   pub made : IsMoveAt moves place (move.Fork new number source)
 
 -- the merge into a session's branch, or its move up to, of a commit that was the head of another
-pub record IsMerged {O R : Type 0} (moves : List (Move O R)) (branch from : List ℕ) (place : ℕ) : Type 0 where
+pub record IsMerged {O R : Type 0} (origin : ℕ) (moves : List (Move O R)) (branch from : List ℕ) (place : ℕ) : Type 0 where
   pub number : ℕ
   pub source : ℕ
   pub commit : ℕ
-  pub named : WasNamed moves branch number
-  pub head : WasHead moves from source commit
+  pub named : WasNamed origin moves branch number
+  pub head : WasHead origin moves from source commit
   pub made : IsMoveAt moves place (move.Merge number commit) ⊎ IsMoveAt moves place (move.Forward number commit)
 
 -- some branch has the name
-abbrev pub HasBranch : {O R : Type 0} → List ℕ → List (Move O R) → Type 0
-HasBranch name moves = (number : ℕ) × (branch_named (store_of moves).branches name ≡ Some number)
+abbrev pub HasBranch : {O R : Type 0} → ℕ → List ℕ → List (Move O R) → Type 0
+HasBranch origin name moves = (number : ℕ) × (branch_named (store_of origin moves).branches name ≡ Some number)
 
 -- a branch cannot be forked from another, which is there, since some branch has its name
-abbrev pub IsTaken : {O R : Type 0} → List ℕ → List ℕ → List (Move O R) → Type 0
-IsTaken new from moves = HasBranch new moves × HasBranch from moves
+abbrev pub IsTaken : {O R : Type 0} → ℕ → List ℕ → List ℕ → List (Move O R) → Type 0
+IsTaken origin new from moves = HasBranch origin new moves × HasBranch origin from moves
 
 -- the head of a session's branch reaches the head of another
-pub record IsReached {O R : Type 0} (branch from : List ℕ) (moves : List (Move O R)) : Type 0 where
+pub record IsReached {O R : Type 0} (origin : ℕ) (branch from : List ℕ) (moves : List (Move O R)) : Type 0 where
   pub number : ℕ
   pub source : ℕ
-  pub named : WasNamed moves branch number
-  pub other : branch_named (store_of moves).branches from ≡ Some source
-  pub reached : IsTrue (reaches (graph_of (store_of moves).commits) (head_of (store_of moves).branches number) (head_of (store_of moves).branches source))
+  pub named : WasNamed origin moves branch number
+  pub other : branch_named (store_of origin moves).branches from ≡ Some source
+  pub reached : IsTrue (reaches (graph_of (store_of origin moves).commits) (head_of (store_of origin moves).branches number) (head_of (store_of origin moves).branches source))
 
 -- the first of the places is such a one, behind the last, and the others go on from it
 abbrev pub TakesOne : (ℕ → Type 0) → (ℕ → List ℕ → Type 0) → ℕ → List ℕ → Type 0
@@ -105,27 +105,27 @@ abbrev pub IfSees : Option (List ℕ) → (List ℕ → Type 0) → Type 0
 IfSees None Does = ⊥
 IfSees (Some branch) Does = Does branch
 
--- the moves of a history at these places, behind the last one, are those of the steps, in order, where sessions see this at first
-abbrev pub PlayedFrom : {O R : Type 0} → (PlainOp → O) → List (Move O R) → List Step → Sights → ℕ → List ℕ → Type 0
-PlayedFrom op_of moves [] sights last places = places ≡ []
-PlayedFrom op_of moves (Look session branch ∷ steps) sights last places = TakesNone moves (HasBranch branch) (PlayedFrom op_of moves steps (with_sight sights session branch)) last places
-PlayedFrom op_of moves (Ask branch query ∷ steps) sights last places = TakesNone moves (HasBranch branch) (PlayedFrom op_of moves steps sights) last places
-PlayedFrom op_of moves (Do session op ∷ steps) sights last places =
-    IfSees (sights session) (λ branch. TakesOne (IsDone moves branch (op_of op)) (PlayedFrom op_of moves steps sights) last places)
-PlayedFrom op_of moves (Fork new from ∷ steps) sights last places =
-    TakesOne (IsForked moves new from) (PlayedFrom op_of moves steps sights) last places
-    ⊎ TakesNone moves (IsTaken new from) (PlayedFrom op_of moves steps sights) last places
-PlayedFrom op_of moves (Merge session from ∷ steps) sights last places =
+-- the moves of a history at these places, behind the last one, are those of the steps, in order, where sessions see this at first, in a store with this first origin
+abbrev pub PlayedFrom : {O R : Type 0} → (PlainOp → O) → ℕ → List (Move O R) → List Step → Sights → ℕ → List ℕ → Type 0
+PlayedFrom op_of origin moves [] sights last places = places ≡ []
+PlayedFrom op_of origin moves (Look session branch ∷ steps) sights last places = TakesNone moves (HasBranch origin branch) (PlayedFrom op_of origin moves steps (with_sight sights session branch)) last places
+PlayedFrom op_of origin moves (Ask branch query ∷ steps) sights last places = TakesNone moves (HasBranch origin branch) (PlayedFrom op_of origin moves steps sights) last places
+PlayedFrom op_of origin moves (Do session op ∷ steps) sights last places =
+    IfSees (sights session) (λ branch. TakesOne (IsDone origin moves branch (op_of op)) (PlayedFrom op_of origin moves steps sights) last places)
+PlayedFrom op_of origin moves (Fork new from ∷ steps) sights last places =
+    TakesOne (IsForked origin moves new from) (PlayedFrom op_of origin moves steps sights) last places
+    ⊎ TakesNone moves (IsTaken origin new from) (PlayedFrom op_of origin moves steps sights) last places
+PlayedFrom op_of origin moves (Merge session from ∷ steps) sights last places =
     IfSees (sights session) (λ branch.
-    TakesOne (IsMerged moves branch from) (PlayedFrom op_of moves steps sights) last places
-    ⊎ TakesNone moves (IsReached branch from) (PlayedFrom op_of moves steps sights) last places)
+    TakesOne (IsMerged origin moves branch from) (PlayedFrom op_of origin moves steps sights) last places
+    ⊎ TakesNone moves (IsReached origin branch from) (PlayedFrom op_of origin moves steps sights) last places)
 
--- The moves of a history at these places, behind its first so many, are those of a client's steps, in order: one for each operation; one for each fork, or none where
+-- The moves of a history of a store with this first origin at these places, behind its first so many, are those of a client's steps, in order: one for each operation; one for each fork, or none where
 -- the name is taken; one for each merge, or none where there is nothing to merge. A look and a query make none. Each step that makes none was done after some first
 -- part of the history, no shorter than that of the step before it: of a look and a query, one that has the branch.
-unfoldable pub Played : {O R : Type 0} → (PlainOp → O) → ℕ → List Step → List ℕ → List (Move O R) → Type 0
-Played op_of begun steps places moves = PlayedFrom op_of moves steps no_sights begun places
+unfoldable pub Played : {O R : Type 0} → (PlainOp → O) → ℕ → ℕ → List Step → List ℕ → List (Move O R) → Type 0
+Played op_of origin begun steps places moves = PlayedFrom op_of origin moves steps no_sights begun places
 
 -- what a history has of a client's steps, each longer one has
 abbrev pub StaysPlayed : {O : Type 0} (R : Type 0) → (PlainOp → O) → Type 0
-StaysPlayed {O} R op_of = (moves later : List (Move O R)) (begun : ℕ) (steps : List Step) (places : List ℕ) → IsPrefix moves later → Played op_of begun steps places moves → Played op_of begun steps places later
+StaysPlayed {O} R op_of = (origin : ℕ) (moves later : List (Move O R)) (begun : ℕ) (steps : List Step) (places : List ℕ) → IsPrefix moves later → Played op_of origin begun steps places moves → Played op_of origin begun steps places later

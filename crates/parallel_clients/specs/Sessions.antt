@@ -6,7 +6,7 @@ use Rattle.std.specs.Map.{lookup}
 use Rattle.std.specs.Ordering.{nat_cmp, is_eq}
 use Rattle.std.specs.Cmp.Lexicographic.{slice_cmp}
 use mathlib.Core.List.{IsPrefix}
-use Rattle.branch_names.specs.declared.limits.Limits.{Limits}
+use Rattle.branch_names.specs.declared.terms.Terms.{Terms}
 use Rattle.branch_names.specs.Heads.{head_of, branch_named}
 use Rattle.branch_history.specs.declared.moves.Move.{Move}
 use Rattle.branch_history.specs.declared.moves.Move.TheVariants as move
@@ -47,15 +47,15 @@ abbrev pub sights_of : {M : Type 0} → Sessions M → Sights
 sights_of sessions name = option_map (λ s. s.branch) (session_named sessions name)
 
 -- a look at the branch's head, after some first part of a history
-pub record IsSession {O R : Type 0} (limits : Limits) (moves : List (Move O R)) (s : Session (SeenView (Move O R))) : Type 0 where
+pub record IsSession {O R : Type 0} (terms : Terms) (moves : List (Move O R)) (s : Session (SeenView (Move O R))) : Type 0 where
   pub begins : IsPrefix s.seen.history moves
-  pub limits_are : s.seen.limits ≡ limits
-  pub named : branch_named (store_of s.seen.history).branches s.branch ≡ Some s.seen.branch
-  pub head : head_of (store_of s.seen.history).branches s.seen.branch ≡ s.seen.head
+  pub terms_are : s.seen.terms ≡ terms
+  pub named : branch_named (store_of terms.origin s.seen.history).branches s.branch ≡ Some s.seen.branch
+  pub head : head_of (store_of terms.origin s.seen.history).branches s.seen.branch ≡ s.seen.head
 
 -- each session's is one
-pub record AreSessions {O R : Type 0} (limits : Limits) (moves : List (Move O R)) (sessions : Sessions (Move O R)) : Type 0 where
-  pub each : (name : List ℕ) (s : Session (SeenView (Move O R))) → session_named sessions name ≡ Some s → IsSession limits moves s
+pub record AreSessions {O R : Type 0} (terms : Terms) (moves : List (Move O R)) (sessions : Sessions (Move O R)) : Type 0 where
+  pub each : (name : List ℕ) (s : Session (SeenView (Move O R))) → session_named sessions name ≡ Some s → IsSession terms moves s
 
 -- a client on its way: the history that it has seen, what its sessions see, and the places of its moves
 pub record Stage (M : Type 0) : Type 0 where
@@ -64,19 +64,19 @@ pub record Stage (M : Type 0) : Type 0 where
   pub places : List ℕ
 
 -- where a client goes on from a stage, it has gone on so from an earlier one, by some steps and places in front
-abbrev pub GoesOn : {O R : Type 0} → (PlainOp → O) → List Step → List ℕ → Stage (Move O R) → Stage (Move O R) → Type 0
-GoesOn {O} {R} op_of steps own old new =
-    (later : List (Move O R)) (rest : List Step) (more : List ℕ) → IsPrefix new.moves later → PlayedFrom op_of later rest new.sights (length new.moves) more
-    → PlayedFrom op_of later (steps ++ rest) old.sights (length old.moves) (own ++ more)
+abbrev pub GoesOn : {O R : Type 0} → (PlainOp → O) → ℕ → List Step → List ℕ → Stage (Move O R) → Stage (Move O R) → Type 0
+GoesOn {O} {R} op_of origin steps own old new =
+    (later : List (Move O R)) (rest : List Step) (more : List ℕ) → IsPrefix new.moves later → PlayedFrom op_of origin later rest new.sights (length new.moves) more
+    → PlayedFrom op_of origin later (steps ++ rest) old.sights (length old.moves) (own ++ more)
 
 -- a client came by these steps from one stage to another
-pub record PlaysOn {O R : Type 0} (op_of : PlainOp → O) (steps : List Step) (old new : Stage (Move O R)) : Type 0 where
+pub record PlaysOn {O R : Type 0} (op_of : PlainOp → O) (origin : ℕ) (steps : List Step) (old new : Stage (Move O R)) : Type 0 where
   pub own : List ℕ
   pub grown : IsPrefix old.moves new.moves
   pub added : new.places ≡ old.places ++ own
   pub past : ArePast (length old.moves) own
   pub sights : new.sights ≡ sights_after steps old.sights
-  pub goes_on : GoesOn op_of steps own old new
+  pub goes_on : GoesOn op_of origin steps own old new
 
 abbrev pub stage_of : {M : Type 0} → PassView M → Sessions M → List ℕ → Stage M
 stage_of pass sessions places = record { moves = pass.moves; sights = sights_of sessions; places = places }
@@ -114,6 +114,7 @@ RefusesMade on made moves refusal = FullyRefuses on.fixed moves (step_of made.se
 
 -- why what was prepared did not land
 abbrev pub IsLandRefused : {S O R Q A : Type 0} → Setting S O R Q A → PreparedView O R → PassView (Move O R) → ClientRefusal → Type 0
+IsLandRefused on made new (client_refusal.Dropped branch) = RefusesMade on made new.moves (machine.Dropped branch)
 IsLandRefused on made new (client_refusal.FullCommits count) = RefusesMade on made new.moves (machine.FullCommits count)
 IsLandRefused on made new (client_refusal.FullMoves count) = RefusesMade on made new.moves (machine.FullMoves count)
 IsLandRefused on made new (client_refusal.Collision address stored fresh) = RefusesMade on made new.moves (machine.Collision address stored fresh)
@@ -123,43 +124,43 @@ IsLandRefused on made new client_refusal.Memory = Unit {0}
 IsLandRefused on made new other = ⊥
 
 -- an operation landed on the branch that a session sees
-pub record HasDone {O R : Type 0} (sight : Option (List ℕ)) (op : O) (old new : PassView (Move O R)) (places after : List ℕ) : Type 0 where
+pub record HasDone {O R : Type 0} (origin : ℕ) (sight : Option (List ℕ)) (op : O) (old new : PassView (Move O R)) (places after : List ℕ) : Type 0 where
   pub branch : List ℕ
   pub sees : sight ≡ Some branch
   pub number : ℕ
-  pub named : WasNamed old.moves branch number
+  pub named : WasNamed origin old.moves branch number
   pub reply : R
   pub moved : HasMoved (move.Operation number op reply) old new places after
 
 -- what came of a try to land it
-abbrev pub IsTried : {O R : Type 0} → Option (List ℕ) → O → PassView (Move O R) → PassView (Move O R) → List ℕ → List ℕ → Landing → Type 0
-IsTried sight op old new places after Moved = HasDone sight op old new places after
-IsTried sight op old new places after Stale = HasStayed old new places after
-IsTried sight op old new places after Same = ⊥
+abbrev pub IsTried : {O R : Type 0} → ℕ → Option (List ℕ) → O → PassView (Move O R) → PassView (Move O R) → List ℕ → List ℕ → Landing → Type 0
+IsTried origin sight op old new places after Moved = HasDone origin sight op old new places after
+IsTried origin sight op old new places after Stale = HasStayed old new places after
+IsTried origin sight op old new places after Same = ⊥
 
 -- a head of another branch was merged into the branch that a session sees
-pub record HasMerged {O R : Type 0} (sight : Option (List ℕ)) (from : List ℕ) (old new : PassView (Move O R)) (places after : List ℕ) : Type 0 where
+pub record HasMerged {O R : Type 0} (origin : ℕ) (sight : Option (List ℕ)) (from : List ℕ) (old new : PassView (Move O R)) (places after : List ℕ) : Type 0 where
   pub branch : List ℕ
   pub sees : sight ≡ Some branch
   pub number : ℕ
   pub source : ℕ
   pub commit : ℕ
-  pub named : WasNamed old.moves branch number
-  pub head : WasHead new.moves from source commit
+  pub named : WasNamed origin old.moves branch number
+  pub head : WasHead origin new.moves from source commit
   pub moved : HasMoved (move.Merge number commit) old new places after ⊎ HasMoved (move.Forward number commit) old new places after
 
 -- there was nothing to merge
-pub record HasSame {O R : Type 0} (sight : Option (List ℕ)) (from : List ℕ) (old new : PassView (Move O R)) (places after : List ℕ) : Type 0 where
+pub record HasSame {O R : Type 0} (origin : ℕ) (sight : Option (List ℕ)) (from : List ℕ) (old new : PassView (Move O R)) (places after : List ℕ) : Type 0 where
   pub branch : List ℕ
   pub sees : sight ≡ Some branch
-  pub reached : IsReached branch from new.moves
+  pub reached : IsReached origin branch from new.moves
   pub stayed : HasStayed old new places after
 
 -- what came of a try to merge
-abbrev pub IsTriedMerge : {O R : Type 0} → Option (List ℕ) → List ℕ → PassView (Move O R) → PassView (Move O R) → List ℕ → List ℕ → Landing → Type 0
-IsTriedMerge sight from old new places after Moved = HasMerged sight from old new places after
-IsTriedMerge sight from old new places after Stale = HasStayed old new places after
-IsTriedMerge sight from old new places after Same = HasSame sight from old new places after
+abbrev pub IsTriedMerge : {O R : Type 0} → ℕ → Option (List ℕ) → List ℕ → PassView (Move O R) → PassView (Move O R) → List ℕ → List ℕ → Landing → Type 0
+IsTriedMerge origin sight from old new places after Moved = HasMerged origin sight from old new places after
+IsTriedMerge origin sight from old new places after Stale = HasStayed old new places after
+IsTriedMerge origin sight from old new places after Same = HasSame origin sight from old new places after
 
 -- why a client stops at a step
 abbrev pub IsStopped : {S O R Q A : Type 0} → Setting S O R Q A → Sights → Step → PassView (Move O R) → Stop → Type 0
@@ -172,18 +173,18 @@ pub record Stops {S O R Q A : Type 0} (on : Setting S O R Q A) (sights : Sights)
   pub stayed : HasStayed old new places after
 
 -- a client has only looked again: it knows more of the store, and its sessions see the branches that they saw
-pub record IsWaiting {O R : Type 0} (limits : Limits) (old new : PassView (Move O R)) (sessions now : Sessions (Move O R)) (places after : List ℕ) : Type 0 where
+pub record IsWaiting {O R : Type 0} (terms : Terms) (old new : PassView (Move O R)) (sessions now : Sessions (Move O R)) (places after : List ℕ) : Type 0 where
   pub seen : IsPrefix old.moves new.moves
   pub faults : old.faults ≤ new.faults
   pub rest : IsSeenOn old new
-  pub sessions_are : AreSessions limits new.moves now
+  pub sessions_are : AreSessions terms new.moves now
   pub sights : sights_of now ≡ sights_of sessions
   pub noted : after ≡ places
 
 -- what a client has done so far, from a first pass on, of which the last look may have found no memory
-pub record IsPlaying {O R : Type 0} (op_of : PlainOp → O) (limits : Limits) (steps : List Step) (old new : PassView (Move O R)) (sessions : Sessions (Move O R)) (places : List ℕ) : Type 0 where
-  pub plays : PlaysOn op_of steps (record { moves = old.moves; sights = no_sights; places = [] }) (stage_of new sessions places)
-  pub sessions_are : AreSessions limits new.moves sessions
+pub record IsPlaying {O R : Type 0} (op_of : PlainOp → O) (terms : Terms) (steps : List Step) (old new : PassView (Move O R)) (sessions : Sessions (Move O R)) (places : List ℕ) : Type 0 where
+  pub plays : PlaysOn op_of terms.origin steps (record { moves = old.moves; sights = no_sights; places = [] }) (stage_of new sessions places)
+  pub sessions_are : AreSessions terms new.moves sessions
   pub advances : Advances old new [] places
 
 -- the outcome of a client that stopped at the step that has so many before it

@@ -57,16 +57,16 @@ impl<T: Plain, D: Disk + Drop, A: Address, N: Named<T::Op, T::Reply>, G: Gate, R
         session: &Name,
         branch: &Name,
     ) -> Result<(), LookRefused>
-        requires { AreSessions N.limits pass.old.moves sessions.old.entries }
+        requires { AreSessions N.terms pass.old.moves sessions.old.entries }
         ensures prefix { IsPrefix pass.old.moves pass.new.moves }
-        ensures valid { IsFullyValid (fix T.meaning N.limits A.address) pass.new.moves }
+        ensures valid { IsFullyValid (fix T.meaning N.terms A.address) pass.new.moves }
         ensures faults { pass.old.faults ≤ pass.new.faults }
         ensures rest { IsSeenOn pass.old pass.new }
-        ensures sessions { AreSessions N.limits pass.new.moves sessions.new.entries }
+        ensures sessions { AreSessions N.terms pass.new.moves sessions.new.entries }
         ensures sees { OnOk result (sights_of sessions.new.entries ≡ with_sight (sights_of sessions.old.entries) session.now branch.now) }
-        ensures there { OnOk result (HasBranch branch.now pass.new.moves) }
+        ensures there { OnOk result (HasBranch N.terms.origin branch.now pass.new.moves) }
         ensures kept { OnErr result (sights_of sessions.new.entries ≡ sights_of sessions.old.entries) }
-        ensures refused { IfErr result (LookRefusedAs T.meaning (seen_by pass.new N.limits) branch.now) }
+        ensures refused { IfErr result (LookRefusedAs T.meaning (seen_by pass.new N.terms) branch.now) }
     {
         let seen = self.shared.look(self.rt, pass, branch)?;
         let looked = Session {

@@ -97,7 +97,7 @@ fn work<T: Plain, D: Disk + Drop, A: Address, N: Named<T::Op, T::Reply>, G: Gate
 )
     requires none { entrant.old.seat.places.items ≡ [] }
     requires room { length entrant.old.seat.steps.now ≤ vec_capacity entrant.old.seat.places }
-    ensures { HasWorked (setting (fix T.meaning N.limits A.address) T.op_of N.opened) entrant.old entrant.new }
+    ensures { HasWorked (setting (fix T.meaning N.terms A.address) T.op_of N.opened) entrant.old entrant.new }
 {
     let places = mem::replace(&mut entrant.seat.places, Vec::new(alloc));
     entrant.outcome = client.run(alloc, &mut entrant.pass, entrant.seat.steps, places);
@@ -121,7 +121,7 @@ fn work_all<
     requires none { (i : ℕ) (d : _) → i < length entrants.old → (slice_index_or entrants.old i d).seat.places.items ≡ [] }
     requires room { (i : ℕ) (d : _) → i < length entrants.old → length (slice_index_or entrants.old i d).seat.steps.now ≤ vec_capacity (slice_index_or entrants.old i d).seat.places }
     ensures same { length entrants.new ≡ length entrants.old }
-    ensures worked { (i : ℕ) (d : _) → i < length entrants.old → HasWorked (setting (fix T.meaning N.limits A.address) T.op_of N.opened) (slice_index_or entrants.old i d) (slice_index_or entrants.new i d) }
+    ensures worked { (i : ℕ) (d : _) → i < length entrants.old → HasWorked (setting (fix T.meaning N.terms A.address) T.op_of N.opened) (slice_index_or entrants.old i d) (slice_index_or entrants.new i d) }
 {
     let threads = entrants.len().max(1);
     thread::for_each_mut(
@@ -130,7 +130,7 @@ fn work_all<
         threads,
         &|number: usize, entrant: &mut Entrant<'_, Pass<T, N>>|
             requires { (entrant.old.seat.places.items ≡ []) × (length entrant.old.seat.steps.now ≤ vec_capacity entrant.old.seat.places) }
-            ensures { HasWorked (setting (fix T.meaning N.limits A.address) T.op_of N.opened) entrant.old entrant.new }
+            ensures { HasWorked (setting (fix T.meaning N.terms A.address) T.op_of N.opened) entrant.old entrant.new }
         {
             let client = Client {
                 rt,
@@ -150,10 +150,10 @@ fn leave_all<T: Plain, D: Disk + Drop, A: Address, N: Named<T::Op, T::Reply> + D
     entrants: Vec<Entrant<'_, Pass<T, N>>>,
     mut outcomes: Vec<Outcome>,
 ) -> Vec<Outcome>
-    requires ran { AllByRecursion (HasRunOwn (setting (fix T.meaning N.limits A.address) T.op_of N.opened) pass.old) entrants.items }
+    requires ran { AllByRecursion (HasRunOwn (setting (fix T.meaning N.terms A.address) T.op_of N.opened) pass.old) entrants.items }
     requires none { outcomes.items ≡ [] }
     requires room { length entrants.items ≤ vec_capacity outcomes }
-    ensures { HaveLeft (setting (fix T.meaning N.limits A.address) T.op_of N.opened) pass.old pass.new entrants.entry.items result.items }
+    ensures { HaveLeft (setting (fix T.meaning N.terms A.address) T.op_of N.opened) pass.old pass.new entrants.entry.items result.items }
 {
     for entrant in entrants {
         let Entrant {
@@ -192,7 +192,7 @@ pub fn run_clients<
     gate: &G,
 ) -> Result<Listing<Outcome>, Memory>
     requires parts { 2 * length scripts.now < pass.old.parts }
-    ensures ran { IfOk result (Ran (setting (fix T.meaning N.limits A.address) T.op_of N.opened) pass.old pass.new scripts.now) }
+    ensures ran { IfOk result (Ran (setting (fix T.meaning N.terms A.address) T.op_of N.opened) pass.old pass.new scripts.now) }
     ensures kept { OnErr result (pass.new ≡ pass.old) }
 {
     let seats = take_seats(alloc, scripts)?;

@@ -1,6 +1,6 @@
 // Laws of what clients have played. Each stands on a function with an empty body, whose contract is the law.
 ghost use Rattle.std.specs.Prelude.{ℕ, List};
-ghost use Rattle.branch_names.specs.declared.limits.Limits.{Limits};
+ghost use Rattle.branch_names.specs.declared.terms.Terms.{Terms};
 ghost use Rattle.branch_machine.specs.Fixed.{fix};
 ghost use Rattle.parallel_clients.specs.Outcomes.{StaysOutcome, setting};
 ghost use Rattle.parallel_clients.specs.Played.{StaysPlayed};
@@ -14,5 +14,5 @@ pub fn stays_played<T: Plain>()
 
 /// What became of a client stays that where the history grows, and more faults of the disk are known.
 pub fn stays_outcome<T: Plain>()
-    ensures { (limits : Limits) (address : List ℕ → List ℕ) (opened : ℕ) → StaysOutcome (setting (fix T.meaning limits address) T.op_of opened) }
+    ensures { (terms : Terms) (address : List ℕ → List ℕ) (opened : ℕ) → StaysOutcome (setting (fix T.meaning terms address) T.op_of opened) }
 {}

@@ -32,6 +32,11 @@ pub enum ClientRefusal {
     UnknownBranch {
         name: Name,
     },
+    /// The session's branch was dropped.
+    #[error("branch {branch} was dropped")]
+    Dropped {
+        branch: u32,
+    },
     /// The clock of the commit that was seen is at the limit.
     #[error("the clock is at its limit, {clock}")]
     Exhausted {
@@ -85,6 +90,7 @@ impl fmt::Debug for ClientRefusal {
     fn fmt<W: fmt::Write>(&self, f: &mut fmt::Formatter<W>) -> fmt::Result {
         match self {
             ClientRefusal::UnknownBranch { .. } => write!(f, "UnknownBranch"),
+            ClientRefusal::Dropped { branch } => write!(f, "Dropped({branch})"),
             ClientRefusal::Exhausted { clock } => write!(f, "Exhausted({clock})"),
             ClientRefusal::FullCommits { count } => write!(f, "FullCommits({count})"),
             ClientRefusal::FullBranches { count } => write!(f, "FullBranches({count})"),

@@ -53,9 +53,9 @@ impl<T: Plain, D: Disk + Drop, A: Address, N: Named<T::Op, T::Reply>, G: Gate, R
     ) -> Outcome
         requires none { places.items ≡ [] }
         requires room { length steps.now ≤ vec_capacity places }
-        ensures became { IsOutcome (setting (fix T.meaning N.limits A.address) T.op_of N.opened) pass.old.moves pass.new.moves pass.new.faults steps.now result }
+        ensures became { IsOutcome (setting (fix T.meaning N.terms A.address) T.op_of N.opened) pass.old.moves pass.new.moves pass.new.faults steps.now result }
         ensures advances { Advances pass.old pass.new [] (places_of result) }
-        ensures valid { KeepsValid (fix T.meaning N.limits A.address) pass.old pass.new }
+        ensures valid { KeepsValid (fix T.meaning N.terms A.address) pass.old pass.new }
     {
         let mut sessions = BTreeMap::new(alloc);
         let mut sees = true;

@@ -33,19 +33,20 @@ impl<T: Plain, D: Disk + Drop, A: Address, N: Named<T::Op, T::Reply>, G: Gate, R
     G,
     R,
 > {
-    // A session looks at its branch again.
+    // A session looks at its branch again. Where no branch has the name any more, it sees what it saw: its next landing
+    // tells that the branch was dropped.
     fn look_again(
         &self,
         pass: &mut Pass<T, N>,
         sessions: &mut Sessions<T>,
         session: &Name,
     ) -> Result<(), Memory>
-        requires sessions { AreSessions N.limits pass.old.moves sessions.old.entries }
+        requires sessions { AreSessions N.terms pass.old.moves sessions.old.entries }
         ensures prefix { IsPrefix pass.old.moves pass.new.moves }
-        ensures valid { KeepsValid (fix T.meaning N.limits A.address) pass.old pass.new }
+        ensures valid { KeepsValid (fix T.meaning N.terms A.address) pass.old pass.new }
         ensures faults { pass.old.faults ≤ pass.new.faults }
         ensures rest { IsSeenOn pass.old pass.new }
-        ensures sessions { AreSessions N.limits pass.new.moves sessions.new.entries }
+        ensures sessions { AreSessions N.terms pass.new.moves sessions.new.entries }
         ensures sights { sights_of sessions.new.entries ≡ sights_of sessions.old.entries }
     {
         let branch = match sessions.get(session) {
@@ -54,7 +55,7 @@ impl<T: Plain, D: Disk + Drop, A: Address, N: Named<T::Op, T::Reply>, G: Gate, R
         };
         match self.look_at(pass, sessions, session, &branch) {
             Ok(()) => Ok(()),
-            Err(LookRefused::UnknownBranch { .. }) => unreachable!(),
+            Err(LookRefused::UnknownBranch { .. }) => Ok(()),
             Err(LookRefused::Memory) => Err(Memory),
         }
     }
@@ -68,15 +69,15 @@ impl<T: Plain, D: Disk + Drop, A: Address, N: Named<T::Op, T::Reply>, G: Gate, R
         session: &Name,
         op: &PlainOp,
     ) -> Result<bool, Stop>
-        requires sessions { AreSessions N.limits pass.old.moves sessions.old.entries }
+        requires sessions { AreSessions N.terms pass.old.moves sessions.old.entries }
         requires room { length places.old.items < vec_capacity places.old }
         ensures advances { Advances pass.old pass.new places.old.items places.new.items }
-        ensures valid { KeepsValid (fix T.meaning N.limits A.address) pass.old pass.new }
+        ensures valid { KeepsValid (fix T.meaning N.terms A.address) pass.old pass.new }
         ensures capacity { vec_capacity places.old ≤ vec_capacity places.new }
-        ensures sessions { OnOk result (AreSessions N.limits pass.new.moves sessions.new.entries) }
-        ensures plays { OnOk result (PlaysOn T.op_of (step.Do session.now op.now ∷ []) (stage_of pass.old sessions.old.entries places.old.items) (stage_of pass.new sessions.new.entries places.new.items)) }
+        ensures sessions { OnOk result (AreSessions N.terms pass.new.moves sessions.new.entries) }
+        ensures plays { OnOk result (PlaysOn T.op_of N.terms.origin (step.Do session.now op.now ∷ []) (stage_of pass.old sessions.old.entries places.old.items) (stage_of pass.new sessions.new.entries places.new.items)) }
         ensures few { length places.new.items ≤ length places.old.items + 1 }
-        ensures stopped { IfErr result (Stops (setting (fix T.meaning N.limits A.address) T.op_of N.opened) (sights_of sessions.old.entries) (step.Do session.now op.now) pass.old pass.new places.old.items places.new.items) }
+        ensures stopped { IfErr result (Stops (setting (fix T.meaning N.terms A.address) T.op_of N.opened) (sights_of sessions.old.entries) (step.Do session.now op.now) pass.old pass.new places.old.items places.new.items) }
     {
         for _ in self.rt.forever() {
             match self.try_operation(pass, sessions, places, session, op)? {
@@ -101,15 +102,15 @@ impl<T: Plain, D: Disk + Drop, A: Address, N: Named<T::Op, T::Reply>, G: Gate, R
         session: &Name,
         from: &Name,
     ) -> Result<bool, Stop>
-        requires sessions { AreSessions N.limits pass.old.moves sessions.old.entries }
+        requires sessions { AreSessions N.terms pass.old.moves sessions.old.entries }
         requires room { length places.old.items < vec_capacity places.old }
         ensures advances { Advances pass.old pass.new places.old.items places.new.items }
-        ensures valid { KeepsValid (fix T.meaning N.limits A.address) pass.old pass.new }
+        ensures valid { KeepsValid (fix T.meaning N.terms A.address) pass.old pass.new }
         ensures capacity { vec_capacity places.old ≤ vec_capacity places.new }
-        ensures sessions { OnOk result (AreSessions N.limits pass.new.moves sessions.new.entries) }
-        ensures plays { OnOk result (PlaysOn T.op_of (step.Merge session.now from.now ∷ []) (stage_of pass.old sessions.old.entries places.old.items) (stage_of pass.new sessions.new.entries places.new.items)) }
+        ensures sessions { OnOk result (AreSessions N.terms pass.new.moves sessions.new.entries) }
+        ensures plays { OnOk result (PlaysOn T.op_of N.terms.origin (step.Merge session.now from.now ∷ []) (stage_of pass.old sessions.old.entries places.old.items) (stage_of pass.new sessions.new.entries places.new.items)) }
         ensures few { length places.new.items ≤ length places.old.items + 1 }
-        ensures stopped { IfErr result (Stops (setting (fix T.meaning N.limits A.address) T.op_of N.opened) (sights_of sessions.old.entries) (step.Merge session.now from.now) pass.old pass.new places.old.items places.new.items) }
+        ensures stopped { IfErr result (Stops (setting (fix T.meaning N.terms A.address) T.op_of N.opened) (sights_of sessions.old.entries) (step.Merge session.now from.now) pass.old pass.new places.old.items places.new.items) }
     {
         for _ in self.rt.forever() {
             match self.try_merge(pass, sessions, places, session, from)? {
@@ -136,11 +137,11 @@ impl<T: Plain, D: Disk + Drop, A: Address, N: Named<T::Op, T::Reply>, G: Gate, R
     ) -> Result<(), Stop>
         requires { length places.old.items < vec_capacity places.old }
         ensures advances { Advances pass.old pass.new places.old.items places.new.items }
-        ensures valid { KeepsValid (fix T.meaning N.limits A.address) pass.old pass.new }
+        ensures valid { KeepsValid (fix T.meaning N.terms A.address) pass.old pass.new }
         ensures capacity { vec_capacity places.old ≤ vec_capacity places.new }
-        ensures plays { OnOk result (PlaysOn T.op_of (step.Fork new.now from.now ∷ []) (stage_of pass.old sessions.now.entries places.old.items) (stage_of pass.new sessions.now.entries places.new.items)) }
+        ensures plays { OnOk result (PlaysOn T.op_of N.terms.origin (step.Fork new.now from.now ∷ []) (stage_of pass.old sessions.now.entries places.old.items) (stage_of pass.new sessions.now.entries places.new.items)) }
         ensures few { length places.new.items ≤ length places.old.items + 1 }
-        ensures stopped { IfErr result (Stops (setting (fix T.meaning N.limits A.address) T.op_of N.opened) (sights_of sessions.now.entries) (step.Fork new.now from.now) pass.old pass.new places.old.items places.new.items) }
+        ensures stopped { IfErr result (Stops (setting (fix T.meaning N.terms A.address) T.op_of N.opened) (sights_of sessions.now.entries) (step.Fork new.now from.now) pass.old pass.new places.old.items places.new.items) }
     {
         match self.shared.fork(self.rt, pass, *new, from) {
             Ok(forked) => {
@@ -174,14 +175,14 @@ impl<T: Plain, D: Disk + Drop, A: Address, N: Named<T::Op, T::Reply>, G: Gate, R
         session: &Name,
         branch: &Name,
     ) -> Result<(), Stop>
-        requires sessions { AreSessions N.limits pass.old.moves sessions.old.entries }
+        requires sessions { AreSessions N.terms pass.old.moves sessions.old.entries }
         ensures prefix { IsPrefix pass.old.moves pass.new.moves }
-        ensures valid { KeepsValid (fix T.meaning N.limits A.address) pass.old pass.new }
+        ensures valid { KeepsValid (fix T.meaning N.terms A.address) pass.old pass.new }
         ensures faults { pass.old.faults ≤ pass.new.faults }
         ensures rest { IsSeenOn pass.old pass.new }
-        ensures sessions { AreSessions N.limits pass.new.moves sessions.new.entries }
-        ensures plays { (places : _) → OnOk result (PlaysOn T.op_of (step.Look session.now branch.now ∷ []) (stage_of pass.old sessions.old.entries places) (stage_of pass.new sessions.new.entries places)) }
-        ensures stopped { IfErr result (IsStopped (setting (fix T.meaning N.limits A.address) T.op_of N.opened) (sights_of sessions.old.entries) (step.Look session.now branch.now) pass.new) }
+        ensures sessions { AreSessions N.terms pass.new.moves sessions.new.entries }
+        ensures plays { (places : _) → OnOk result (PlaysOn T.op_of N.terms.origin (step.Look session.now branch.now ∷ []) (stage_of pass.old sessions.old.entries places) (stage_of pass.new sessions.new.entries places)) }
+        ensures stopped { IfErr result (IsStopped (setting (fix T.meaning N.terms A.address) T.op_of N.opened) (sights_of sessions.old.entries) (step.Look session.now branch.now) pass.new) }
     {
         match self.look_at(pass, sessions, session, branch) {
             Ok(()) => Ok(()),
@@ -201,11 +202,11 @@ impl<T: Plain, D: Disk + Drop, A: Address, N: Named<T::Op, T::Reply>, G: Gate, R
         query: &PlainQuery,
     ) -> Result<(), Stop>
         ensures prefix { IsPrefix pass.old.moves pass.new.moves }
-        ensures valid { KeepsValid (fix T.meaning N.limits A.address) pass.old pass.new }
+        ensures valid { KeepsValid (fix T.meaning N.terms A.address) pass.old pass.new }
         ensures faults { pass.old.faults ≤ pass.new.faults }
         ensures rest { IsSeenOn pass.old pass.new }
-        ensures plays { (places : _) → OnOk result (PlaysOn T.op_of (step.Ask branch.now query.now ∷ []) (stage_of pass.old sessions.now.entries places) (stage_of pass.new sessions.now.entries places)) }
-        ensures stopped { IfErr result (IsStopped (setting (fix T.meaning N.limits A.address) T.op_of N.opened) (sights_of sessions.now.entries) (step.Ask branch.now query.now) pass.new) }
+        ensures plays { (places : _) → OnOk result (PlaysOn T.op_of N.terms.origin (step.Ask branch.now query.now ∷ []) (stage_of pass.old sessions.now.entries places) (stage_of pass.new sessions.now.entries places)) }
+        ensures stopped { IfErr result (IsStopped (setting (fix T.meaning N.terms A.address) T.op_of N.opened) (sights_of sessions.now.entries) (step.Ask branch.now query.now) pass.new) }
     {
         let seen = match self.shared.look(self.rt, pass, branch) {
             Ok(seen) => seen,
@@ -231,15 +232,15 @@ impl<T: Plain, D: Disk + Drop, A: Address, N: Named<T::Op, T::Reply>, G: Gate, R
         places: &mut Vec<u64>,
         step: &Step,
     ) -> Result<bool, Stop>
-        requires sessions { AreSessions N.limits pass.old.moves sessions.old.entries }
+        requires sessions { AreSessions N.terms pass.old.moves sessions.old.entries }
         requires room { length places.old.items < vec_capacity places.old }
         ensures advances { Advances pass.old pass.new places.old.items places.new.items }
-        ensures valid { KeepsValid (fix T.meaning N.limits A.address) pass.old pass.new }
+        ensures valid { KeepsValid (fix T.meaning N.terms A.address) pass.old pass.new }
         ensures capacity { vec_capacity places.old ≤ vec_capacity places.new }
-        ensures sessions { OnOk result (AreSessions N.limits pass.new.moves sessions.new.entries) }
-        ensures plays { OnOk result (PlaysOn T.op_of (step.now ∷ []) (stage_of pass.old sessions.old.entries places.old.items) (stage_of pass.new sessions.new.entries places.new.items)) }
+        ensures sessions { OnOk result (AreSessions N.terms pass.new.moves sessions.new.entries) }
+        ensures plays { OnOk result (PlaysOn T.op_of N.terms.origin (step.now ∷ []) (stage_of pass.old sessions.old.entries places.old.items) (stage_of pass.new sessions.new.entries places.new.items)) }
         ensures few { length places.new.items ≤ length places.old.items + 1 }
-        ensures stopped { IfErr result (Stops (setting (fix T.meaning N.limits A.address) T.op_of N.opened) (sights_of sessions.old.entries) step.now pass.old pass.new places.old.items places.new.items) }
+        ensures stopped { IfErr result (Stops (setting (fix T.meaning N.terms A.address) T.op_of N.opened) (sights_of sessions.old.entries) step.now pass.old pass.new places.old.items places.new.items) }
     {
         match step {
             Step::Look { session, branch } => {

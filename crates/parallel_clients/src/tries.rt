@@ -40,14 +40,14 @@ impl<T: Plain, D: Disk + Drop, A: Address, N: Named<T::Op, T::Reply>, G: Gate, R
         session: &Name,
         op: &PlainOp,
     ) -> Result<Landing, Stop>
-        requires sessions { AreSessions N.limits pass.old.moves sessions.now.entries }
+        requires sessions { AreSessions N.terms pass.old.moves sessions.now.entries }
         requires room { length places.old.items < vec_capacity places.old }
         ensures prefix { IsPrefix pass.old.moves pass.new.moves }
-        ensures valid { KeepsValid (fix T.meaning N.limits A.address) pass.old pass.new }
+        ensures valid { KeepsValid (fix T.meaning N.terms A.address) pass.old pass.new }
         ensures faults { pass.old.faults ≤ pass.new.faults }
         ensures capacity { vec_capacity places.old ≤ vec_capacity places.new }
-        ensures tried { IfOk result (IsTried (sights_of sessions.now.entries session.now) (T.op_of op.now) pass.old pass.new places.old.items places.new.items) }
-        ensures stopped { IfErr result (Stops (setting (fix T.meaning N.limits A.address) T.op_of N.opened) (sights_of sessions.now.entries) (step.Do session.now op.now) pass.old pass.new places.old.items places.new.items) }
+        ensures tried { IfOk result (IsTried N.terms.origin (sights_of sessions.now.entries session.now) (T.op_of op.now) pass.old pass.new places.old.items places.new.items) }
+        ensures stopped { IfErr result (Stops (setting (fix T.meaning N.terms A.address) T.op_of N.opened) (sights_of sessions.now.entries) (step.Do session.now op.now) pass.old pass.new places.old.items places.new.items) }
     {
         let Some(at) = sessions.get(session) else {
             return Err(Stop::Unseen);
@@ -81,14 +81,14 @@ impl<T: Plain, D: Disk + Drop, A: Address, N: Named<T::Op, T::Reply>, G: Gate, R
         session: &Name,
         from: &Name,
     ) -> Result<Landing, Stop>
-        requires sessions { AreSessions N.limits pass.old.moves sessions.now.entries }
+        requires sessions { AreSessions N.terms pass.old.moves sessions.now.entries }
         requires room { length places.old.items < vec_capacity places.old }
         ensures prefix { IsPrefix pass.old.moves pass.new.moves }
-        ensures valid { KeepsValid (fix T.meaning N.limits A.address) pass.old pass.new }
+        ensures valid { KeepsValid (fix T.meaning N.terms A.address) pass.old pass.new }
         ensures faults { pass.old.faults ≤ pass.new.faults }
         ensures capacity { vec_capacity places.old ≤ vec_capacity places.new }
-        ensures tried { IfOk result (IsTriedMerge (sights_of sessions.now.entries session.now) from.now pass.old pass.new places.old.items places.new.items) }
-        ensures stopped { IfErr result (Stops (setting (fix T.meaning N.limits A.address) T.op_of N.opened) (sights_of sessions.now.entries) (step.Merge session.now from.now) pass.old pass.new places.old.items places.new.items) }
+        ensures tried { IfOk result (IsTriedMerge N.terms.origin (sights_of sessions.now.entries session.now) from.now pass.old pass.new places.old.items places.new.items) }
+        ensures stopped { IfErr result (Stops (setting (fix T.meaning N.terms A.address) T.op_of N.opened) (sights_of sessions.now.entries) (step.Merge session.now from.now) pass.old pass.new places.old.items places.new.items) }
     {
         let Some(at) = sessions.get(session) else {
             return Err(Stop::Unseen);

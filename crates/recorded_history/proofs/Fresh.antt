@@ -1,7 +1,7 @@
 -- The recorded history of no moves.
 use Rattle.std.proofs.Common.{◌≡◌, ℕ, List, [], ◌∷◌, ◌++◌, refl, ap, sym, ◌∙◌, arith, None, subst, append-nil}
 use Rattle.mrdt_model.specs.Laws.{Meaning, KeepsLaws}
-use Rattle.branch_names.specs.declared.limits.Limits.{Limits}
+use Rattle.branch_names.specs.declared.terms.Terms.{Terms}
 use Rattle.branch_wire.specs.Objects.{value_object, commit_object}
 use Rattle.branch_wire.specs.StoredObjects.{Stored}
 use Rattle.branch_history.specs.declared.moves.Move.{Move}
@@ -22,9 +22,9 @@ use Rattle.recorded_history.specs.Views.{recorded_of}
 pub first-spelled : {S O R Q A : Type 0} (meaning : Meaning S O R Q A) → KeepsLaws meaning → (value : S) → meaning.stands value [] → meaning.state_spelling value ≡ meaning.spelling_of []
 first-spelled meaning laws value stands = laws.one_spelling value [] (record { well_formed = tt; faithful = tt; few = omega arith }) stands
 
-module _ {S O R Q A : Type 0} (meaning : Meaning S O R Q A) (address : List ℕ → List ℕ) (limits : Limits) where
+module _ {S O R Q A : Type 0} (meaning : Meaning S O R Q A) (address : List ℕ → List ℕ) (terms : Terms) where
   abbrev fixed : Fixed S O R Q A
-  fixed = fix meaning limits address
+  fixed = fix meaning terms address
 
   abbrev first : List ℕ
   first = meaning.spelling_of []
@@ -37,7 +37,7 @@ module _ {S O R Q A : Type 0} (meaning : Meaning S O R Q A) (address : List ℕ 
   unfolding pairs_of store_of visible reaches
   none-addressed = refl
 
-  pub recorded-fresh : (versions : VersionsView (Move O R)) (objects : ObjectsView) (spelling root : List ℕ) → spelling ≡ meaning.spelling_of [] → versions ≡ record { core = record { history = []; limits = limits }; addresses = root ∷ [] }
+  pub recorded-fresh : (versions : VersionsView (Move O R)) (objects : ObjectsView) (spelling root : List ℕ) → spelling ≡ meaning.spelling_of [] → versions ≡ record { core = record { history = []; terms = terms }; addresses = root ∷ [] }
       → objects.stored ≡ value_object spelling ∷ commit_object (root_fields address spelling) ∷ [] → objects.staged ≡ [] → root ≡ address (commit_object (root_fields address spelling)) → IsRecorded meaning address (recorded_of versions.core versions.core) None versions objects
   recorded-fresh versions objects spelling root is made stored staged at =
       let stored_is : objects.stored ≡ objects_of fixed [] = stored ∙ ap (λ (s : List ℕ). value_object s ∷ commit_object (root_fields address s) ∷ []) is ∙ sym none-stored in

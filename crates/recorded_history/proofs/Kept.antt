@@ -11,8 +11,9 @@ use Rattle.branch_history.specs.History.{store_of}
 use Rattle.branch_history.specs.Validity.{IsValid}
 use Rattle.branch_history.proofs.Later.{commits-longer}
 use Rattle.branch_machine.specs.Fixed.{Fixed, fix}
-use Rattle.branch_machine.specs.Objects.{Pair, pairs_of, objects_of, new_objects, region}
+use Rattle.branch_machine.specs.Objects.{Pair, store_after, pairs_of, objects_of, new_objects, region}
 use Rattle.branch_machine.specs.Machine.{collision_refusal}
+use Rattle.branch_machine.specs.Laws.{IsNew}
 use Rattle.branch_machine.specs.Validity.{IsFullyValid}
 use Rattle.branch_machine.proofs.Pairs.{length-pairs_of, pairs_of-longer, objects-more}
 use Rattle.branch_machine.proofs.Valid.{valid-first}
@@ -41,10 +42,10 @@ last-same (z ∷ zs) (w ∷ ws) x y e =
 
 module _ {S O R Q A : Type 0} (fixed : Fixed S O R Q A) where
   -- the addresses of the first part of a history
-  pub addresses-first : (history more : List (Move O R)) → take (length (store_of history).commits) (addresses_of fixed (history ++ more)) ≡ addresses_of fixed history
+  pub addresses-first : (history more : List (Move O R)) → take (length (store_after fixed history).commits) (addresses_of fixed (history ++ more)) ≡ addresses_of fixed history
   addresses-first history more =
-      let old : List (Commit O R) = (store_of history).commits in
-      let commits = commits-longer history more in
+      let old : List (Commit O R) = (store_after fixed history).commits in
+      let commits = commits-longer fixed.terms.origin history more in
       let longer = pairs_of-longer fixed old commits.more in
       let f : Pair → List ℕ = λ p. fixed.address p.commit in
       let grown : addresses_of fixed (history ++ more) ≡ addresses_of fixed history ++ map f longer.more =
@@ -66,13 +67,13 @@ module _ {S O R Q A : Type 0} (fixed : Fixed S O R Q A) where
 
 module _ {S O R Q A : Type 0} (meaning : Meaning S O R Q A) (address : List ℕ → List ℕ) (settled : CoreView (Move O R)) where
   abbrev fixed : Fixed S O R Q A
-  fixed = fix meaning settled.limits address
+  fixed = fix meaning settled.terms address
 
   module _ (versions : VersionsView (Move O R)) (objects : ObjectsView) (stood : Option ℕ) (kept : IsRecorded meaning address (recorded_of settled versions.core) stood versions objects) where
     -- where no move is pending, all are written
     pub core-settled : (recorded_of settled versions.core).pending ≡ [] → versions.core ≡ settled
     core-settled none =
-        kept.moves ∙ ap (λ (l : List (Move O R)). let v : CoreView (Move O R) = record { history = settled.history ++ l; limits = settled.limits } in v) none ∙ ap (λ (l : List (Move O R)). let v : CoreView (Move O R) = record { history = l; limits = settled.limits } in v) (append-nil settled.history)
+        kept.moves ∙ ap (λ (l : List (Move O R)). let v : CoreView (Move O R) = record { history = settled.history ++ l; terms = settled.terms } in v) none ∙ ap (λ (l : List (Move O R)). let v : CoreView (Move O R) = record { history = l; terms = settled.terms } in v) (append-nil settled.history)
 
     pub settled-valid : IsFullyValid fixed settled.history
     settled-valid = valid-first fixed settled.history (recorded_of settled versions.core).pending kept.valid
@@ -92,28 +93,28 @@ module _ {S O R Q A : Type 0} (meaning : Meaning S O R Q A) (address : List ℕ 
     settled-kept none =
         let same = sym (core-settled none) in
         record {
-          valid = subst (λ (core : CoreView (Move O R)). IsFullyValid (fix meaning core.limits address) core.history) same settled-valid;
-          addressed = subst (λ (core : CoreView (Move O R)). versions.addresses ≡ addresses_of (fix meaning core.limits address) core.history) same (settled-addressed none);
-          stored = subst (λ (core : CoreView (Move O R)). objects.stored ≡ objects_of (fix meaning core.limits address) core.history) same kept.stored;
+          valid = subst (λ (core : CoreView (Move O R)). IsFullyValid (fix meaning core.terms address) core.history) same settled-valid;
+          addressed = subst (λ (core : CoreView (Move O R)). versions.addresses ≡ addresses_of (fix meaning core.terms address) core.history) same (settled-addressed none);
+          stored = subst (λ (core : CoreView (Move O R)). objects.stored ≡ objects_of (fix meaning core.terms address) core.history) same kept.stored;
           staged = settled-staged none;
         }
 
     -- the longer history, where one more move was made
-    pub core-more : (none : (recorded_of settled versions.core).pending ≡ []) (made : Move O R) (new : CoreView (Move O R)) → new ≡ record versions.core { history = versions.core.history ++ made ∷ [] } → new ≡ record { history = settled.history ++ made ∷ []; limits = settled.limits }
-    core-more none made new is = is ∙ ap (λ (core : CoreView (Move O R)). let k : CoreView (Move O R) = record { history = core.history ++ made ∷ []; limits = core.limits } in k) (core-settled none)
+    pub core-more : (none : (recorded_of settled versions.core).pending ≡ []) (made : Move O R) (new : CoreView (Move O R)) → new ≡ record versions.core { history = versions.core.history ++ made ∷ [] } → new ≡ record { history = settled.history ++ made ∷ []; terms = settled.terms }
+    core-more none made new is = is ∙ ap (λ (core : CoreView (Move O R)). let k : CoreView (Move O R) = record { history = core.history ++ made ∷ []; terms = core.terms } in k) (core-settled none)
 
   -- one move more
-  module _ (made : Move O R) (versions : VersionsView (Move O R)) (core_is : versions.core ≡ record { history = settled.history ++ made ∷ []; limits = settled.limits }) where
-    pub pending-one : recorded_of settled versions.core ≡ record { written = settled.history; pending = made ∷ []; limits = settled.limits }
-    pending-one = ap (recorded_of settled) core_is ∙ ap (λ (l : List (Move O R)). let r : RecordedView (Move O R) = record { written = settled.history; pending = l; limits = settled.limits } in r) (drop-first settled.history (made ∷ []))
+  module _ (made : Move O R) (versions : VersionsView (Move O R)) (core_is : versions.core ≡ record { history = settled.history ++ made ∷ []; terms = settled.terms }) where
+    pub pending-one : recorded_of settled versions.core ≡ record { written = settled.history; pending = made ∷ []; terms = settled.terms }
+    pending-one = ap (recorded_of settled) core_is ∙ ap (λ (l : List (Move O R)). let r : RecordedView (Move O R) = record { written = settled.history; pending = l; terms = settled.terms } in r) (drop-first settled.history (made ∷ []))
 
-    pub recorded-more : (objects : ObjectsView) (head : ℕ) → IsFullyValid fixed settled.history → IsValid meaning versions.core.limits versions.core.history → collision_refusal fixed settled.history made ≡ None → StoodAt settled.history made head
+    pub recorded-more : (objects : ObjectsView) (head : ℕ) → IsFullyValid fixed settled.history → IsValid meaning versions.core.terms versions.core.history → IsNew fixed settled.history made → collision_refusal fixed settled.history made ≡ None → StoodAt settled.terms settled.history made head
         → versions.addresses ≡ addresses_of fixed (settled.history ++ made ∷ []) → objects.stored ≡ objects_of fixed settled.history → objects.stored ++ objects.staged ≡ objects_of fixed (settled.history ++ made ∷ [])
         → IsRecorded meaning address (recorded_of settled versions.core) (Some head) versions objects
-    recorded-more objects head full valid free stood addressed stored staged =
+    recorded-more objects head full valid unseen free stood addressed stored staged =
         subst (λ (r : RecordedView (Move O R)). IsRecorded meaning address r (Some head) versions objects) (sym pending-one)
         (record {
-          valid = fully-more fixed settled.history made full (subst (λ (core : CoreView (Move O R)). IsValid meaning core.limits core.history) core_is valid) free;
+          valid = fully-more fixed settled.history made full (subst (λ (core : CoreView (Move O R)). IsValid meaning core.terms core.history) core_is valid) unseen free;
           came = (made, refl, stood);
           moves = core_is;
           addressed = addressed;
@@ -123,21 +124,24 @@ module _ {S O R Q A : Type 0} (meaning : Meaning S O R Q A) (address : List ℕ 
 
   -- the move taken off again
   module _ (versions new : VersionsView (Move O R)) (objects new_objects : ObjectsView) (head : ℕ) (kept : IsRecorded meaning address (recorded_of settled versions.core) (Some head) versions objects) (undone : Undone versions new) (same : new_objects.stored ≡ objects.stored) (none : new_objects.staged ≡ []) where
-    pub undo-stood : (moves : List (Move O R)) (made : Move O R) → versions.core.history ≡ moves ++ made ∷ [] → StoodAt moves made head
+    pub undo-stood : (moves : List (Move O R)) (made : Move O R) → versions.core.history ≡ moves ++ made ∷ [] → StoodAt settled.terms moves made head
     undo-stood moves made is =
         let came = kept.came in
         let e : settled.history ++ came.0 ∷ [] ≡ moves ++ made ∷ [] = ap (λ l. settled.history ++ l) (sym came.1) ∙ sym (ap (λ (core : CoreView (Move O R)). core.history) kept.moves) ∙ is in
         let parts = last-same settled.history moves came.0 made e in
-        subst (λ (l : List (Move O R)). StoodAt l made head) parts.0 (subst (λ (m : Move O R). StoodAt settled.history m head) parts.1 came.2)
+        subst (λ (l : List (Move O R)). StoodAt settled.terms l made head) parts.0 (subst (λ (m : Move O R). StoodAt settled.terms settled.history m head) parts.1 came.2)
 
-    back : new ≡ record { core = record versions.core { history = settled.history }; addresses = take (length (store_of settled.history).commits) versions.addresses }
-    back = let came = kept.came in undone settled.history came.0 (ap (λ (core : CoreView (Move O R)). core.history) kept.moves ∙ ap (λ l. settled.history ++ l) came.1)
+    back : new ≡ record { core = record versions.core { history = settled.history }; addresses = take (length (store_after fixed settled.history).commits) versions.addresses }
+    back =
+        let came = kept.came in
+        undone settled.history came.0 (ap (λ (core : CoreView (Move O R)). core.history) kept.moves ∙ ap (λ l. settled.history ++ l) came.1)
+        ∙ ap (λ (core : CoreView (Move O R)). let v : VersionsView (Move O R) = record { core = record versions.core { history = settled.history }; addresses = take (length (store_of core.terms.origin settled.history).commits) versions.addresses } in v) kept.moves
 
     core-back : new.core ≡ settled
-    core-back = ap (λ (v : VersionsView (Move O R)). v.core) back ∙ ap (λ (core : CoreView (Move O R)). let c : CoreView (Move O R) = record { history = settled.history; limits = core.limits } in c) kept.moves
+    core-back = ap (λ (v : VersionsView (Move O R)). v.core) back ∙ ap (λ (core : CoreView (Move O R)). let c : CoreView (Move O R) = record { history = settled.history; terms = core.terms } in c) kept.moves
 
-    pub pending-none : recorded_of settled new.core ≡ record { written = settled.history; pending = []; limits = settled.limits }
-    pending-none = ap (recorded_of settled) core-back ∙ ap (λ (l : List (Move O R)). let r : RecordedView (Move O R) = record { written = settled.history; pending = l; limits = settled.limits } in r) (ap (drop (length settled.history)) (sym (append-nil settled.history)) ∙ drop-first settled.history [])
+    pub pending-none : recorded_of settled new.core ≡ record { written = settled.history; pending = []; terms = settled.terms }
+    pending-none = ap (recorded_of settled) core-back ∙ ap (λ (l : List (Move O R)). let r : RecordedView (Move O R) = record { written = settled.history; pending = l; terms = settled.terms } in r) (ap (drop (length settled.history)) (sym (append-nil settled.history)) ∙ drop-first settled.history [])
 
     pub recorded-back : IsRecorded meaning address (recorded_of settled new.core) None new new_objects
     recorded-back =
@@ -146,8 +150,8 @@ module _ {S O R Q A : Type 0} (meaning : Meaning S O R Q A) (address : List ℕ 
         (record {
           valid = subst (IsFullyValid fixed) (sym whole) (valid-first fixed settled.history (recorded_of settled versions.core).pending kept.valid);
           came = refl;
-          moves = core-back ∙ ap (λ (l : List (Move O R)). let c : CoreView (Move O R) = record { history = l; limits = settled.limits } in c) (sym whole);
-          addressed = ap (λ (v : VersionsView (Move O R)). v.addresses) back ∙ ap (take (length (store_of settled.history).commits)) kept.addressed ∙ addresses-first fixed settled.history (recorded_of settled versions.core).pending ∙ ap (addresses_of fixed) (sym whole);
+          moves = core-back ∙ ap (λ (l : List (Move O R)). let c : CoreView (Move O R) = record { history = l; terms = settled.terms } in c) (sym whole);
+          addressed = ap (λ (v : VersionsView (Move O R)). v.addresses) back ∙ ap (take (length (store_after fixed settled.history).commits)) kept.addressed ∙ addresses-first fixed settled.history (recorded_of settled versions.core).pending ∙ ap (addresses_of fixed) (sym whole);
           stored = same ∙ kept.stored;
           staged = ap (λ (s : Stored). new_objects.stored ++ s) none ∙ append-nil new_objects.stored ∙ same ∙ kept.stored ∙ ap (objects_of fixed) (sym whole);
         })

@@ -1,8 +1,8 @@
 -- What staging a work's objects answers.
-use Rattle.std.proofs.Common.{◌≡◌, ℕ, ◌<◌, List, [], ◌∷◌, ◌++◌, length, refl, ap, sym, ◌∙◌, Some, None, slice_get, append-nil, subst, Bor}
+use Rattle.std.proofs.Common.{◌≡◌, ℕ, ◌+◌, ◌<◌, List, [], ◌∷◌, ◌++◌, length, refl, ap, sym, ◌∙◌, Some, None, slice_get, append-nil, subst, Bor}
 use mathlib.Core.List.{IsPrefix}
 use Rattle.mrdt_model.specs.Laws.{Meaning, KeepsLaws}
-use Rattle.branch_names.specs.declared.limits.Limits.{Limits}
+use Rattle.branch_names.specs.declared.terms.Terms.{Terms}
 use Rattle.branch_names.specs.Heads.{head_of}
 use Rattle.branch_wire.specs.declared.action.Action.{Action}
 use Rattle.branch_wire.specs.declared.action.Action.TheVariants as wire
@@ -11,11 +11,11 @@ use Rattle.branch_wire.specs.StoredObjects.{Stored, collision, fresh}
 use Rattle.branch_history.specs.declared.moves.Move.{Move}
 use Rattle.branch_history.specs.Commits.{Commit}
 use Rattle.branch_history.specs.History.{Store, store_of, operation_commit, merge_commit}
-use Rattle.branch_history.specs.Machine.{turn}
+use Rattle.branch_history.specs.Machine.{answers, turn}
 use Rattle.branch_history.specs.Steps as machine
 use Rattle.branch_history.proofs.Valid.{store_of-more}
 use Rattle.branch_machine.specs.Fixed.{Fixed, fix}
-use Rattle.branch_machine.specs.Objects.{both, address_at, pairs_of, objects_of, end_of}
+use Rattle.branch_machine.specs.Objects.{both, address_at, store_after, pairs_of, objects_of, end_of}
 use Rattle.branch_machine.specs.Validity.{IsFullyValid}
 use Rattle.object_store.specs.declared.errors.StageRefused.{StageRefused}
 use Rattle.object_store.specs.declared.errors.StageRefused.TheVariants as staging
@@ -31,16 +31,16 @@ use Rattle.store_seen.specs.Turns as turns
 use Rattle.store_seen.specs.Views.{SeenView, PreparedView, Work, Operation, Merge, Forward}
 use Rattle.store_seen.specs.Written.{IsWrittenWork}
 use Rattle.recorded_history.specs.Keeps.{IsStaged}
-use Rattle.recorded_history.specs.Machine.{addresses_of}
+use Rattle.recorded_history.specs.Machine.{FullyRefuses, addresses_of}
 use Rattle.recorded_history.specs.Refusals.{LandRefusedAs, stage_refused, land_refused}
-use Rattle.recorded_history.proofs.Steps.{address-found, refusal_for, full-collides, full-refuses, none-free, none-objects, none-addresses, new_pair, one-refused, one-stored, one-addresses, one-address, record-is}
+use Rattle.recorded_history.proofs.Steps.{address-found, refusal_for, full-collides, full-refuses, work-plain, none-free, none-objects, none-addresses, new_pair, one-refused, one-stored, one-addresses, one-address, record-is}
 use Rattle.recorded_history.proofs.Heads.{may-head}
 use Rattle.recorded_history.proofs.Commits.{operation-one, operation-pair, merge-one, merge-pair}
 
 -- a work's move makes a commit, and these are its value's object and its own
 pub record MakesPair {S O R Q A : Type 0} (fixed : Fixed S O R Q A) (history : List (Move O R)) (work : Work O R) (made : Move O R) (value commit : List ℕ) : Type 0 where
   pub new : Commit O R
-  pub one : (store_of (history ++ made ∷ [])).commits ≡ (store_of history).commits ++ new ∷ []
+  pub one : (store_after fixed (history ++ made ∷ [])).commits ≡ (store_after fixed history).commits ++ new ∷ []
   pub pair : value ∷ commit ∷ [] ≡ both (new_pair fixed history made new one)
   pub after : (a : List ℕ) (l : List (List ℕ)) → addresses_after work a l ≡ l ++ a ∷ []
 
@@ -67,10 +67,10 @@ module _ {S O R Q A : Type 0} (fixed : Fixed S O R Q A) (history : List (Move O 
         }
 
     -- or refused, as the machine refuses the move
-    pub staged-refused : (seen : SeenView (Move O R)) → (turn fixed.meaning fixed.limits history (step_of seen work)).made ≡ made ∷ [] → (refused : StageRefused) → RefusesToStage fixed.address stored (value ∷ commit ∷ []) refused
+    pub staged-refused : (seen : SeenView (Move O R)) → (turn fixed.meaning fixed.terms history (step_of seen work)).made ≡ made ∷ [] → (refused : StageRefused) → RefusesToStage fixed.address stored (value ∷ commit ∷ []) refused
         → LandRefusedAs fixed (record { seen = seen; work = work }) history (stage_refused refused)
     staged-refused seen may (staging.Collision a y x) is =
-        full-collides fixed history (step_of seen work) made (machine.Collision a y x) may
+        full-collides fixed history (step_of seen work) (work-plain fixed history seen work) made (machine.Collision a y x) may
         (one-refused fixed history made makes.new makes.one ∙ ap (refusal_for fixed.address) (sym collides ∙ is.0) ∙ ap (λ (b : List ℕ). Some (machine.Collision b y x)) (sym is.1))
     staged-refused seen may staging.Memory is = tt
 
@@ -82,7 +82,7 @@ staged-none fixed history branch (Merge commit) seen other is objects a stored s
 staged-none {S} {O} {R} fixed history branch (Forward commit) seen other is objects a stored staged =
     let work : Work O R = Forward commit in
     let made : Move O R = move_of branch work in
-    let same = ap (λ (s : Store O R). s.commits) (store_of-more history made) in
+    let same = ap (λ (s : Store O R). s.commits) (store_of-more fixed.terms.origin history made) in
     record {
       free = none-free fixed history made same;
       stored = stored;
@@ -92,52 +92,57 @@ staged-none {S} {O} {R} fixed history branch (Forward commit) seen other is obje
     }
 
 -- the commit that is merged is one of the look's
-pub other-there : {S O R Q A : Type 0} (meaning : Meaning S O R Q A) (seen : SeenView (Move O R)) (work : Work O R) (other clock : ℕ) (value : Bor (List ℕ)) → IsWrittenWork meaning seen work (written.Merge other clock value) → other < length (store_of seen.history).commits
+pub other-there : {S O R Q A : Type 0} (meaning : Meaning S O R Q A) (seen : SeenView (Move O R)) (work : Work O R) (other clock : ℕ) (value : Bor (List ℕ)) → IsWrittenWork meaning seen work (written.Merge other clock value) → other < length (store_of seen.terms.origin seen.history).commits
 other-there meaning seen (Operation op reply) other clock value is = absurd is
-other-there meaning seen (Merge commit) other clock value is = subst (λ (n : ℕ). n < length (store_of seen.history).commits) (sym is.other_is) is.there
+other-there meaning seen (Merge commit) other clock value is = subst (λ (n : ℕ). n < length (store_of seen.terms.origin seen.history).commits) (sym is.other_is) is.there
 other-there meaning seen (Forward commit) other clock value is = absurd is
 
+work-refuses : {S O R Q A : Type 0} (fixed : Fixed S O R Q A) (prepared : PreparedView O R) (history : List (Move O R)) (refusal : machine.Refusal) → turn fixed.meaning fixed.terms history (step_of prepared.seen prepared.work) ≡ answers (machine.Refused refusal)
+    → FullyRefuses fixed history (step_of prepared.seen prepared.work) refusal
+work-refuses fixed prepared history refusal is = full-refuses fixed history (step_of prepared.seen prepared.work) (work-plain fixed history prepared.seen prepared.work) refusal is
+
 -- what the half in memory refuses, the machine that keeps objects refuses
-pub seen-refused : {S O R Q A : Type 0} (fixed : Fixed S O R Q A) (prepared : PreparedView O R) (history : List (Move O R)) (refused : seen.LandRefused) → turns.LandRefusedAs fixed.meaning prepared (record { history = history; limits = fixed.limits }) refused
+pub seen-refused : {S O R Q A : Type 0} (fixed : Fixed S O R Q A) (prepared : PreparedView O R) (history : List (Move O R)) (refused : seen.LandRefused) → turns.LandRefusedAs fixed.meaning prepared (record { history = history; terms = fixed.terms }) refused
     → LandRefusedAs fixed prepared history (land_refused refused)
-seen-refused fixed prepared history (seen_refusal.Stale newest) is = (full-refuses fixed history (step_of prepared.seen prepared.work) (machine.Stale newest) is.0, is.1)
-seen-refused fixed prepared history (seen_refusal.FullCommits count) is = full-refuses fixed history (step_of prepared.seen prepared.work) (machine.FullCommits count) is
-seen-refused fixed prepared history (seen_refusal.FullMoves count) is = full-refuses fixed history (step_of prepared.seen prepared.work) (machine.FullMoves count) is
+seen-refused fixed prepared history (seen_refusal.Dropped branch) is = work-refuses fixed prepared history (machine.Dropped branch) is
+seen-refused fixed prepared history (seen_refusal.Stale newest) is = (work-refuses fixed prepared history (machine.Stale newest) is.0, is.1)
+seen-refused fixed prepared history (seen_refusal.FullCommits count) is = work-refuses fixed prepared history (machine.FullCommits count) is
+seen-refused fixed prepared history (seen_refusal.FullMoves count) is = work-refuses fixed prepared history (machine.FullMoves count) is
 seen-refused fixed prepared history seen_refusal.Memory is = tt
 
-module _ {S O R Q A : Type 0} (meaning : Meaning S O R Q A) (laws : KeepsLaws meaning) (limits : Limits) (address : List ℕ → List ℕ) (history : List (Move O R)) (valid : IsFullyValid (fix meaning limits address) history) (seen : SeenView (Move O R)) (is : IsSeen meaning seen) (prefix : IsPrefix seen.history history) where
+module _ {S O R Q A : Type 0} (meaning : Meaning S O R Q A) (laws : KeepsLaws meaning) (terms : Terms) (address : List ℕ → List ℕ) (history : List (Move O R)) (valid : IsFullyValid (fix meaning terms address) history) (seen : SeenView (Move O R)) (is : IsSeen meaning seen) (prefix : IsPrefix seen.history history) (under : seen.terms ≡ terms) where
   abbrev fixed : Fixed S O R Q A
-  fixed = fix meaning limits address
+  fixed = fix meaning terms address
 
-  module _ (addresses : List (List ℕ)) (addressed : addresses ≡ addresses_of (fix meaning limits address) history) where
-    found : (n : ℕ) (a : List ℕ) → slice_get addresses n ≡ Some a → a ≡ address_at address (pairs_of fixed (store_of history).commits) n
-    found n a at = sym (address-found address (pairs_of fixed (store_of history).commits) n a (ap (λ (l : List (List ℕ)). slice_get l n) (sym addressed) ∙ at))
+  module _ (addresses : List (List ℕ)) (addressed : addresses ≡ addresses_of (fix meaning terms address) history) where
+    found : (n : ℕ) (a : List ℕ) → slice_get addresses n ≡ Some a → a ≡ address_at address (pairs_of fixed (store_of terms.origin history).commits) n
+    found n a at = sym (address-found address (pairs_of fixed (store_of terms.origin history).commits) n a (ap (λ (l : List (List ℕ)). slice_get l n) (sym addressed) ∙ at))
 
-    pub operation-makes_pair : (work : Work O R) → (turn meaning limits history (step_of seen work)).made ≡ move_of seen.branch work ∷ [] → (clock : ℕ) (value op_bytes reply_bytes : Bor (List ℕ)) → IsWrittenWork meaning seen work (written.Operation clock value op_bytes reply_bytes)
-        → (parents : List (List ℕ)) (branch : ℕ) (action : Action) (a : List ℕ) → slice_get addresses seen.head ≡ Some a → parents ≡ a ∷ [] → branch ≡ seen.branch → action ≡ wire.Operation op_bytes.now reply_bytes.now
+    pub operation-makes_pair : (work : Work O R) → (turn meaning terms history (step_of seen work)).made ≡ move_of seen.branch work ∷ [] → (clock : ℕ) (value op_bytes reply_bytes : Bor (List ℕ)) → IsWrittenWork meaning seen work (written.Operation clock value op_bytes reply_bytes)
+        → (parents : List (List ℕ)) (branch : ℕ) (action : Action) (a : List ℕ) → slice_get addresses seen.head ≡ Some a → parents ≡ a ∷ [] → branch ≡ terms.origin + seen.branch → action ≡ wire.Operation op_bytes.now reply_bytes.now
         → MakesPair fixed history work (move_of seen.branch work) (value_object value.now) (commit_object (commit_fields address value.now parents branch clock action))
     operation-makes_pair (Operation op reply) may clock value op_bytes reply_bytes w parents branch action a at parents_are on does =
-        let newest = may-head meaning limits history seen (Operation op reply) may in
+        let newest = may-head meaning terms history seen (Operation op reply) may in
         record {
-          new = operation_commit (store_of history).commits seen.branch (head_of (store_of history).branches seen.branch) op reply;
-          one = operation-one meaning laws limits address history valid seen is prefix newest op reply;
-          pair = operation-pair meaning laws limits address history valid seen is prefix newest op reply clock value.now op_bytes.now reply_bytes.now w parents branch action (parents_are ∙ ap (λ (b : List ℕ). b ∷ []) (found seen.head a at)) on does;
+          new = operation_commit (store_of terms.origin history).commits (terms.origin + seen.branch) (head_of (store_of terms.origin history).branches seen.branch) op reply;
+          one = operation-one meaning laws terms address history valid seen is prefix under newest op reply;
+          pair = operation-pair meaning laws terms address history valid seen is prefix under newest op reply clock value.now op_bytes.now reply_bytes.now w parents branch action (parents_are ∙ ap (λ (b : List ℕ). b ∷ []) (found seen.head a at)) on does;
           after = λ b l. refl;
         }
     operation-makes_pair (Merge commit) may clock value op_bytes reply_bytes w parents branch action a at parents_are on does = absurd w
     operation-makes_pair (Forward commit) may clock value op_bytes reply_bytes w parents branch action a at parents_are on does = absurd w
 
-    pub merge-makes_pair : (work : Work O R) → (turn meaning limits history (step_of seen work)).made ≡ move_of seen.branch work ∷ [] → (other clock : ℕ) (value : Bor (List ℕ)) → IsWrittenWork meaning seen work (written.Merge other clock value)
-        → (parents : List (List ℕ)) (branch : ℕ) (a b : List ℕ) → slice_get addresses seen.head ≡ Some a → slice_get addresses other ≡ Some b → parents ≡ a ∷ b ∷ [] → branch ≡ seen.branch
+    pub merge-makes_pair : (work : Work O R) → (turn meaning terms history (step_of seen work)).made ≡ move_of seen.branch work ∷ [] → (other clock : ℕ) (value : Bor (List ℕ)) → IsWrittenWork meaning seen work (written.Merge other clock value)
+        → (parents : List (List ℕ)) (branch : ℕ) (a b : List ℕ) → slice_get addresses seen.head ≡ Some a → slice_get addresses other ≡ Some b → parents ≡ a ∷ b ∷ [] → branch ≡ terms.origin + seen.branch
         → MakesPair fixed history work (move_of seen.branch work) (value_object value.now) (commit_object (commit_fields address value.now parents branch clock wire.Merge))
     merge-makes_pair (Operation op reply) may other clock value w parents branch a b at behind parents_are on = absurd w
     merge-makes_pair (Merge commit) may other clock value w parents branch a b at behind parents_are on =
-        let newest = may-head meaning limits history seen (Merge commit) may in
-        let second : b ≡ address_at address (pairs_of fixed (store_of history).commits) commit = found other b behind ∙ ap (address_at address (pairs_of fixed (store_of history).commits)) w.other_is in
+        let newest = may-head meaning terms history seen (Merge commit) may in
+        let second : b ≡ address_at address (pairs_of fixed (store_of terms.origin history).commits) commit = found other b behind ∙ ap (address_at address (pairs_of fixed (store_of terms.origin history).commits)) w.other_is in
         record {
-          new = merge_commit (store_of history).commits seen.branch (head_of (store_of history).branches seen.branch) commit;
-          one = merge-one meaning laws limits address history valid seen is prefix newest commit;
-          pair = merge-pair meaning laws limits address history valid seen is prefix newest commit other clock value.now w parents branch (parents_are ∙ ap (λ (x : List ℕ). x ∷ b ∷ []) (found seen.head a at) ∙ ap (λ (x : List ℕ). address_at address (pairs_of fixed (store_of history).commits) seen.head ∷ x ∷ []) second) on;
+          new = merge_commit (store_of terms.origin history).commits (terms.origin + seen.branch) (head_of (store_of terms.origin history).branches seen.branch ∷ commit ∷ []);
+          one = merge-one meaning laws terms address history valid seen is prefix under newest commit;
+          pair = merge-pair meaning laws terms address history valid seen is prefix under newest commit other clock value.now w parents branch (parents_are ∙ ap (λ (x : List ℕ). x ∷ b ∷ []) (found seen.head a at) ∙ ap (λ (x : List ℕ). address_at address (pairs_of fixed (store_of terms.origin history).commits) seen.head ∷ x ∷ []) second) on;
           after = λ x l. refl;
         }
     merge-makes_pair (Forward commit) may other clock value w parents branch a b at behind parents_are on = absurd w

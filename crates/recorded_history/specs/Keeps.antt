@@ -2,6 +2,7 @@
 use Rattle.std.specs.Prelude.{◌≡◌, ℕ, List, [], ◌∷◌, ◌++◌, Some, None}
 use Rattle.std.specs.declared.option.Option.{Option}
 use Rattle.mrdt_model.specs.Laws.{Meaning}
+use Rattle.branch_names.specs.declared.terms.Terms.{Terms}
 use Rattle.branch_history.specs.declared.moves.Move.{Move}
 use Rattle.branch_machine.specs.Fixed.{Fixed, fix}
 use Rattle.branch_machine.specs.Objects.{objects_of, end_of}
@@ -15,24 +16,24 @@ use Rattle.recorded_history.specs.Machine.{addresses_of}
 use Rattle.recorded_history.specs.Views.{RecordedView}
 
 -- no move is pending, or one, whose branch stood at this commit before it
-abbrev pub CameFrom : {O R : Type 0} → List (Move O R) → List (Move O R) → Option ℕ → Type 0
-CameFrom written pending None = pending ≡ []
-CameFrom {O} {R} written pending (Some head) = (made : Move O R) × (pending ≡ made ∷ []) × StoodAt written made head
+abbrev pub CameFrom : {O R : Type 0} → Terms → List (Move O R) → List (Move O R) → Option ℕ → Type 0
+CameFrom terms written pending None = pending ≡ []
+CameFrom {O} {R} terms written pending (Some head) = (made : Move O R) × (pending ≡ made ∷ []) × StoodAt terms written made head
 
 -- A fully valid history. The half in memory has all its moves, with the address of each commit; of its objects those of the written moves are stored, and those of the pending one are staged.
 pub record IsRecorded {S O R Q A : Type 0} (meaning : Meaning S O R Q A) (address : List ℕ → List ℕ) (r : RecordedView (Move O R)) (stood : Option ℕ) (versions : VersionsView (Move O R)) (objects : ObjectsView) : Type 0 where
-  pub valid : IsFullyValid (fix meaning r.limits address) (r.written ++ r.pending)
-  pub came : CameFrom r.written r.pending stood
-  pub moves : versions.core ≡ record { history = r.written ++ r.pending; limits = r.limits }
-  pub addressed : versions.addresses ≡ addresses_of (fix meaning r.limits address) (r.written ++ r.pending)
-  pub stored : objects.stored ≡ objects_of (fix meaning r.limits address) r.written
-  pub staged : objects.stored ++ objects.staged ≡ objects_of (fix meaning r.limits address) (r.written ++ r.pending)
+  pub valid : IsFullyValid (fix meaning r.terms address) (r.written ++ r.pending)
+  pub came : CameFrom r.terms r.written r.pending stood
+  pub moves : versions.core ≡ record { history = r.written ++ r.pending; terms = r.terms }
+  pub addressed : versions.addresses ≡ addresses_of (fix meaning r.terms address) (r.written ++ r.pending)
+  pub stored : objects.stored ≡ objects_of (fix meaning r.terms address) r.written
+  pub staged : objects.stored ++ objects.staged ≡ objects_of (fix meaning r.terms address) (r.written ++ r.pending)
 
 -- the same where no move is pending
 pub record IsSettled {S O R Q A : Type 0} (meaning : Meaning S O R Q A) (address : List ℕ → List ℕ) (versions : VersionsView (Move O R)) (objects : ObjectsView) : Type 0 where
-  pub valid : IsFullyValid (fix meaning versions.core.limits address) versions.core.history
-  pub addressed : versions.addresses ≡ addresses_of (fix meaning versions.core.limits address) versions.core.history
-  pub stored : objects.stored ≡ objects_of (fix meaning versions.core.limits address) versions.core.history
+  pub valid : IsFullyValid (fix meaning versions.core.terms address) versions.core.history
+  pub addressed : versions.addresses ≡ addresses_of (fix meaning versions.core.terms address) versions.core.history
+  pub stored : objects.stored ≡ objects_of (fix meaning versions.core.terms address) versions.core.history
   pub staged : objects.staged ≡ []
 
 -- the objects of a move are staged behind those of the history, and do not collide; its work's commit, if it makes one, has this address

@@ -2,12 +2,11 @@
 use Rattle.std.specs.Prelude.{◌≡◌, ℕ, ◌+◌, List, [], ◌∷◌, length, map}
 use Rattle.branch_history.specs.declared.moves.Move.{Move}
 use Rattle.branch_history.specs.declared.moves.Move.TheVariants as move
-use Rattle.branch_history.specs.History.{store_of}
 use Rattle.branch_history.specs.Steps as machine
 use Rattle.branch_history.specs.Machine.{answers}
 use Rattle.heads_journal.specs.declared.record.Record.{Record}
 use Rattle.branch_machine.specs.Fixed.{Fixed}
-use Rattle.branch_machine.specs.Objects.{pairs_of}
+use Rattle.branch_machine.specs.Objects.{store_after, pairs_of}
 use Rattle.branch_machine.specs.Machine.{full_turn}
 use Rattle.branch_files.specs.Records.{record_of}
 use Rattle.store_seen.specs.Turns.{step_of, move_of, outcome_of}
@@ -18,7 +17,7 @@ use Rattle.recorded_history.specs.Views.{RecordedView}
 
 -- the addresses of the commits of a history, by number
 abbrev pub addresses_of : {S O R Q A : Type 0} → Fixed S O R Q A → List (Move O R) → List (List ℕ)
-addresses_of fixed moves = map (λ p. fixed.address p.commit) (pairs_of fixed (store_of moves).commits)
+addresses_of fixed moves = map (λ p. fixed.address p.commit) (pairs_of fixed (store_after fixed moves).commits)
 
 -- the machine that keeps objects makes this move, and answers so; the move is pending, and has this record
 pub record Makes {S O R Q A : Type 0} (fixed : Fixed S O R Q A) (old new : RecordedView (Move O R)) (step : machine.Step O Q) (made : Move O R) (outcome : machine.Outcome A R) (moves : ℕ) (r : Record) : Type 0 where

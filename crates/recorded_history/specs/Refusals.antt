@@ -3,9 +3,9 @@ use Rattle.std.specs.Prelude.{◌≡◌, List, ℕ, IsTrue}
 use Rattle.branch_graph.specs.Graph.{reaches}
 use Rattle.branch_history.specs.declared.moves.Move.{Move}
 use Rattle.branch_history.specs.Commits.{graph_of}
-use Rattle.branch_history.specs.History.{store_of}
 use Rattle.branch_history.specs.Steps as machine
 use Rattle.branch_machine.specs.Fixed.{Fixed}
+use Rattle.branch_machine.specs.Objects.{store_after}
 use Rattle.object_store.specs.declared.errors.StageRefused.{StageRefused}
 use Rattle.object_store.specs.declared.errors.StageRefused.TheVariants as staging
 use Rattle.store_seen.specs.declared.answers.ForkRefused.{ForkRefused}
@@ -25,6 +25,7 @@ stage_refused staging.Memory = land_refusal.Memory
 
 -- what cannot land where no objects are kept cannot land, for the same reason
 abbrev pub land_refused : seen.LandRefused → LandRefused
+land_refused (seen_refusal.Dropped branch) = land_refusal.Dropped branch
 land_refused (seen_refusal.Stale newest) = land_refusal.Stale newest
 land_refused (seen_refusal.FullCommits count) = land_refusal.FullCommits count
 land_refused (seen_refusal.FullMoves count) = land_refusal.FullMoves count
@@ -32,9 +33,10 @@ land_refused seen_refusal.Memory = land_refusal.Memory
 
 -- the machine that keeps objects refuses what was prepared, and a head that is not the newest lies below the newest
 abbrev pub LandRefusedAs : {S O R Q A : Type 0} → Fixed S O R Q A → PreparedView O R → List (Move O R) → LandRefused → Type 0
+LandRefusedAs fixed made history (land_refusal.Dropped branch) = FullyRefuses fixed history (step_of made.seen made.work) (machine.Dropped branch)
 LandRefusedAs fixed made history (land_refusal.Stale newest) =
     FullyRefuses fixed history (step_of made.seen made.work) (machine.Stale newest)
-    × IsTrue (reaches (graph_of (store_of history).commits) newest made.seen.head)
+    × IsTrue (reaches (graph_of (store_after fixed history).commits) newest made.seen.head)
 LandRefusedAs fixed made history (land_refusal.FullCommits count) = FullyRefuses fixed history (step_of made.seen made.work) (machine.FullCommits count)
 LandRefusedAs fixed made history (land_refusal.FullMoves count) = FullyRefuses fixed history (step_of made.seen made.work) (machine.FullMoves count)
 LandRefusedAs fixed made history (land_refusal.Collision address stored new) = FullyRefuses fixed history (step_of made.seen made.work) (machine.Collision address stored new)

@@ -1,11 +1,12 @@
 // A history, its commits in memory, and its stored objects.
-ghost use Rattle.std.specs.Prelude.{◌≡◌, ◌+◌, ◌<◌, ◌∷◌, [], ◌++◌, length, slice_get, Some, Ok, IfOk, IfErr, IfSome, OnOk, OnErr};
+ghost use Rattle.std.specs.Prelude.{◌≡◌, ◌+◌, ◌<◌, false, ◌∷◌, [], ◌++◌, length, slice_get, Some, Ok, IfOk, IfErr, IfSome, OnOk, OnErr};
 ghost use Rattle.std.specs.Option.{option_map};
 ghost use mathlib.Core.List.{IsPrefix};
 ghost use Rattle.branch_io.specs.Causes.{HasCause};
 ghost use Rattle.branch_disk.specs.Disk.{After, Holds, LeavesOnly, OnPart, Tells, Torn};
 ghost use Rattle.branch_graph.specs.Graph.{reaches};
-ghost use Rattle.branch_names.specs.Heads.{Branch, branch_named};
+ghost use Rattle.branch_names.specs.Heads.{branch_named, is_dropped};
+ghost use Rattle.branch_names.specs.declared.branch.Branch.{Branch};
 ghost use Rattle.branch_history.specs.Commits.{graph_of};
 ghost use Rattle.branch_history.specs.History.{store_of};
 ghost use Rattle.branch_history.specs.Machine.{turn, answers};
@@ -26,7 +27,7 @@ use crate::staging::{record_for, stage};
 use branch_address::Address;
 use branch_disk::{Disk, DiskFailed, Part};
 use branch_history::Move;
-use branch_names::{Limits, Name};
+use branch_names::{Name, Terms};
 use heads_journal::Record;
 use mrdt_model::{Memory, Mrdt};
 use object_store::Objects;
@@ -38,7 +39,7 @@ use store_seen::{
 };
 
 /// A history with the bytes of its files. Contracts see a `RecordedView`: the moves that are written, the one that was
-/// made and is not written yet, and the limits.
+/// made and is not written yet, and the terms.
 #[derive(Drop)]
 pub struct Recorded<T: Mrdt, A: Address> {
     alloc: Global,
@@ -64,13 +65,13 @@ impl<T: Mrdt, A: Address> Model for Recorded<T, A> {
 
 impl<T: Mrdt, A: Address> Recorded<T, A> {
     /// The empty history, with `main` at commit 0, whose objects stand in memory: `create` writes them.
-    pub fn fresh(alloc: Global, limits: Limits) -> Result<Recorded<T, A>, Memory>
-        ensures { IfOk result (λ recorded. recorded ≡ record { written = []; pending = []; limits = limits }) }
+    pub fn fresh(alloc: Global, terms: Terms) -> Result<Recorded<T, A>, Memory>
+        ensures { IfOk result (λ recorded. recorded ≡ record { written = []; pending = []; terms = terms }) }
     {
         let mut value = Vec::new(alloc);
         T::initial(alloc).put(&mut value)?;
         let (objects, root) = Objects::fresh(alloc, &value)?;
-        let versions = Versions::fresh(alloc, limits, root)?;
+        let versions = Versions::fresh(alloc, terms, root)?;
         Ok(Recorded {
             alloc,
             settled: Snapshot::of(&versions),
@@ -83,46 +84,56 @@ impl<T: Mrdt, A: Address> Recorded<T, A> {
     /// How many moves the history has, the pending one counted. It is a valid history of a store that keeps objects.
     pub fn moves(&self) -> u64
         ensures moves { result ≡ length (self.now.written ++ self.now.pending) }
-        ensures valid { IsFullyValid (fix T.meaning self.now.limits A.address) (self.now.written ++ self.now.pending) }
+        ensures valid { IsFullyValid (fix T.meaning self.now.terms A.address) (self.now.written ++ self.now.pending) }
     {
         self.versions.moves()
     }
 
     /// How many commits the store holds, commit 0 counted, and that of the pending move.
     pub fn commits(&self) -> u32
-        ensures { result ≡ length (store_of (self.now.written ++ self.now.pending)).commits }
+        ensures { result ≡ length (store_of self.now.terms.origin (self.now.written ++ self.now.pending)).commits }
     {
         self.versions.commits()
     }
 
-    /// How many branches the store holds, `main` counted, and that of the pending move.
+    /// How many branches the store holds, `main`, those that were dropped and that of the pending move counted.
     pub fn branches(&self) -> u32
-        ensures { result ≡ length (store_of (self.now.written ++ self.now.pending)).branches }
+        ensures { result ≡ length (store_of self.now.terms.origin (self.now.written ++ self.now.pending)).branches }
     {
         self.versions.branches()
     }
 
-    /// The limits that it was made under.
-    pub fn limits(&self) -> Limits
-        ensures { result ≡ self.now.limits }
+    /// The terms that it was made under.
+    pub fn terms(&self) -> Terms
+        ensures { result ≡ self.now.terms }
     {
-        self.versions.limits()
+        self.versions.terms()
     }
 
-    /// The name and the head of a branch, after the pending move; `None` exactly past the last branch. No other branch
-    /// has the name.
+    /// The name and the head of a branch, after the pending move, of a dropped one those that it had; `None` exactly
+    /// past the last branch. No other branch has the name of one that was not dropped.
     pub fn branch(&self, number: u32) -> Option<(Name, u32)>
-        ensures named { IfSome result (λ found. branch_named (store_of (self.now.written ++ self.now.pending)).branches found.0 ≡ Some number) }
-        ensures found { result ≡ option_map (λ (b : Branch). (b.name, b.head)) (slice_get (store_of (self.now.written ++ self.now.pending)).branches number) }
+        ensures named { IfSome result (λ found.
+            is_dropped (store_of self.now.terms.origin (self.now.written ++ self.now.pending)).branches number ≡ false
+            → branch_named (store_of self.now.terms.origin (self.now.written ++ self.now.pending)).branches found.0 ≡ Some number) }
+        ensures found { result ≡ option_map (λ (b : Branch). (b.name, b.head)) (slice_get (store_of self.now.terms.origin (self.now.written ++ self.now.pending)).branches number) }
     {
         self.versions.branch(number)
     }
 
-    /// Looks at the branch with a name. `UnknownBranch` comes exactly where no branch has it.
+    /// Whether a branch was dropped.
+    pub fn is_dropped(&self, number: u32) -> bool
+        requires { number < length (store_of self.now.terms.origin (self.now.written ++ self.now.pending)).branches }
+        ensures { result ≡ is_dropped (store_of self.now.terms.origin (self.now.written ++ self.now.pending)).branches number }
+    {
+        self.versions.is_dropped(number)
+    }
+
+    /// Looks at the branch with a name. `UnknownBranch` comes exactly where no branch has it, or it was dropped.
     pub fn look(&self, name: &Name) -> Result<Seen<T>, LookRefused>
         requires settled { self.now.pending ≡ [] }
-        ensures on { IfOk result (λ seen. (seen.history ≡ self.now.written) × (seen.limits ≡ self.now.limits)) }
-        ensures sees { IfOk result (λ seen. turn T.meaning self.now.limits self.now.written (machine.Look name.now) ≡ answers (machine.Sees seen.branch seen.head)) }
+        ensures on { IfOk result (λ seen. (seen.history ≡ self.now.written) × (seen.terms ≡ self.now.terms)) }
+        ensures sees { IfOk result (λ seen. turn T.meaning self.now.terms self.now.written (machine.Look name.now) ≡ answers (machine.Sees seen.branch seen.head)) }
         ensures refused { IfErr result (LookRefusedAs T.meaning (core_of self.now) name.now) }
     {
         self.versions.look(name)
@@ -133,7 +144,7 @@ impl<T: Mrdt, A: Address> Recorded<T, A> {
     pub fn pair(&self, seen: &Seen<T>, from: &Name) -> Result<Pair<T>, PairRefused>
         requires settled { self.now.pending ≡ [] }
         requires history { IsPrefix seen.now.history self.now.written }
-        requires limits { seen.now.limits ≡ self.now.limits }
+        requires terms { seen.now.terms ≡ self.now.terms }
         ensures paired { IfOk result (IsPaired T.meaning (core_of self.now) seen.now from.now) }
         ensures refused { IfErr result (PairRefusedAs T.meaning (core_of self.now) from.now) }
     {
@@ -149,8 +160,8 @@ impl<T: Mrdt, A: Address> Recorded<T, A> {
     ) -> Result<PairStep<T>, PairPrepareRefused>
         requires settled { self.old.pending ≡ [] }
         requires history { IsPrefix seen.now.history self.old.written }
-        requires limits { seen.now.limits ≡ self.old.limits }
-        requires there { other < length (store_of self.old.written).commits }
+        requires terms { seen.now.terms ≡ self.old.terms }
+        requires there { other < length (store_of self.old.terms.origin self.old.written).commits }
         ensures step { IfOk result (IsStepOf T.meaning (paired_at (core_of self.old) seen.now other)) }
         ensures refused { IfErr result (MergeRefusedAs T.meaning (paired_at (core_of self.old) seen.now other)) }
         ensures same { self.new ≡ self.old }
@@ -177,25 +188,25 @@ impl<T: Mrdt, A: Address> Recorded<T, A> {
     /// Whether a commit is another one or lies above it.
     pub fn reaches(&self, above: u32, below: u32) -> Result<bool, Memory>
         requires settled { self.now.pending ≡ [] }
-        requires above { above < length (store_of self.now.written).commits }
-        requires below { below < length (store_of self.now.written).commits }
-        ensures { IfOk result (λ is. is ≡ reaches (graph_of (store_of self.now.written).commits) above below) }
+        requires above { above < length (store_of self.now.terms.origin self.now.written).commits }
+        requires below { below < length (store_of self.now.terms.origin self.now.written).commits }
+        ensures { IfOk result (λ is. is ≡ reaches (graph_of (store_of self.now.terms.origin self.now.written).commits) above below) }
     {
         self.versions.reaches(above, below)
     }
 
     /// Lands what was prepared on a look at this history, now or earlier, in memory; then it is pending. It is refused
-    /// exactly as the machine refuses it, and then nothing has changed: `Stale` before `FullCommits`, which only a new
-    /// commit meets, before `FullMoves`, before `Collision`.
+    /// exactly as the machine refuses it, and then nothing has changed: `Dropped` before `Stale` before `FullCommits`,
+    /// which only a new commit meets, before `FullMoves`, before `Collision`.
     ///
     /// Where the address of the new value's object was worked out before, it only copies the value, and hashes nothing
     /// but the new commit's own bytes.
     pub fn land(&mut self, prepared: Addressed<T, A>) -> Result<Made<T::Reply>, LandRefused>
         requires settled { self.old.pending ≡ [] }
         requires history { IsPrefix prepared.seen.history self.old.written }
-        requires limits { prepared.seen.limits ≡ self.old.limits }
-        ensures made { IfOk result (LandsAs (fix T.meaning self.old.limits A.address) prepared self.old self.new) }
-        ensures refused { IfErr result (LandRefusedAs (fix T.meaning self.old.limits A.address) prepared self.old.written) }
+        requires terms { prepared.seen.terms ≡ self.old.terms }
+        ensures made { IfOk result (LandsAs (fix T.meaning self.old.terms A.address) prepared self.old self.new) }
+        ensures refused { IfErr result (LandRefusedAs (fix T.meaning self.old.terms A.address) prepared self.old.written) }
         ensures kept { OnErr result (self.new ≡ self.old) }
     {
         let Addressed {
@@ -228,8 +239,8 @@ impl<T: Mrdt, A: Address> Recorded<T, A> {
     /// `FullMoves`.
     pub fn fork(&mut self, new: Name, from: &Name) -> Result<Branched, ForkRefused>
         requires settled { self.old.pending ≡ [] }
-        ensures forked { IfOk result (Forks (fix T.meaning self.old.limits A.address) new from.now self.old self.new) }
-        ensures refused { IfErr result (ForkRefusedAs (fix T.meaning self.old.limits A.address) new from.now self.old.written) }
+        ensures forked { IfOk result (Forks (fix T.meaning self.old.terms A.address) new from.now self.old self.new) }
+        ensures refused { IfErr result (ForkRefusedAs (fix T.meaning self.old.terms A.address) new from.now self.old.written) }
         ensures kept { OnErr result (self.new ≡ self.old) }
     {
         let Some(source) = self.versions.find(from) else {
@@ -250,7 +261,7 @@ impl<T: Mrdt, A: Address> Recorded<T, A> {
 
     /// The bytes that the pending move adds to the objects; none where no move is pending.
     pub fn region(&self) -> &[u8]
-        ensures region { (made : Move T.Op T.Reply) → self.now.pending ≡ made ∷ [] → result.now ≡ region (fix T.meaning self.now.limits A.address) self.now.written made }
+        ensures region { (made : Move T.Op T.Reply) → self.now.pending ≡ made ∷ [] → result.now ≡ region (fix T.meaning self.now.terms A.address) self.now.written made }
         ensures none { self.now.pending ≡ [] → result.now ≡ [] }
     {
         self.objects.staged()
@@ -258,7 +269,7 @@ impl<T: Mrdt, A: Address> Recorded<T, A> {
 
     /// Where the objects end, behind those of the pending move.
     pub fn end(&self) -> u64
-        ensures { result ≡ end_of (fix T.meaning self.now.limits A.address) (self.now.written ++ self.now.pending) }
+        ensures { result ≡ end_of (fix T.meaning self.now.terms A.address) (self.now.written ++ self.now.pending) }
     {
         self.objects.end()
     }
@@ -266,11 +277,11 @@ impl<T: Mrdt, A: Address> Recorded<T, A> {
     /// Writes the objects of the history over what the file of the objects has, and syncs them.
     pub fn create<D: Disk>(&self, disk: &mut D) -> Result<(), DiskFailed>
         requires settled { self.now.pending ≡ [] }
-        ensures any_moment { LeavesOnly D.moment D.left_since disk.old disk.new (After (OnPart Part.Objects (Torn 0 (end_of (fix T.meaning self.now.limits A.address) self.now.written))) (D.may_leave disk.old)) }
-        ensures acknowledged { OnOk result (AllBegin (objects_text (fix T.meaning self.now.limits A.address) self.now.written) (D.may_leave disk.new)) }
-        ensures heads { OnOk result (AllCome (Grows (objects_text (fix T.meaning self.now.limits A.address) self.now.written)) (D.may_leave disk.old) (D.may_leave disk.new)) }
-        ensures written { OnOk result (Tells (OnPart Part.Objects (Holds 0 (objects_text (fix T.meaning self.now.limits A.address) self.now.written))) (D.contents disk.old) (D.contents disk.new)) }
-        ensures torn { Tells (OnPart Part.Objects (Torn 0 (end_of (fix T.meaning self.now.limits A.address) self.now.written))) (D.contents disk.old) (D.contents disk.new) }
+        ensures any_moment { LeavesOnly D.moment D.left_since disk.old disk.new (After (OnPart Part.Objects (Torn 0 (end_of (fix T.meaning self.now.terms A.address) self.now.written))) (D.may_leave disk.old)) }
+        ensures acknowledged { OnOk result (AllBegin (objects_text (fix T.meaning self.now.terms A.address) self.now.written) (D.may_leave disk.new)) }
+        ensures heads { OnOk result (AllCome (Grows (objects_text (fix T.meaning self.now.terms A.address) self.now.written)) (D.may_leave disk.old) (D.may_leave disk.new)) }
+        ensures written { OnOk result (Tells (OnPart Part.Objects (Holds 0 (objects_text (fix T.meaning self.now.terms A.address) self.now.written))) (D.contents disk.old) (D.contents disk.new)) }
+        ensures torn { Tells (OnPart Part.Objects (Torn 0 (end_of (fix T.meaning self.now.terms A.address) self.now.written))) (D.contents disk.old) (D.contents disk.new) }
         ensures cause { HasCause (D.faults disk.old) (D.faults disk.new) result }
     {
         self.objects.create_in(disk)
@@ -279,13 +290,13 @@ impl<T: Mrdt, A: Address> Recorded<T, A> {
     /// Writes the objects of the pending move behind the others, and syncs them; where there are none, it makes no
     /// device call. Then the move is still pending.
     pub fn write<D: Disk>(&self, disk: &mut D) -> Result<(), DiskFailed>
-        requires { AllBegin (objects_text (fix T.meaning self.now.limits A.address) self.now.written) (D.may_leave disk.old) }
-        ensures any_moment { LeavesOnly D.moment D.left_since disk.old disk.new (After (Grows (objects_text (fix T.meaning self.now.limits A.address) self.now.written)) (D.may_leave disk.old)) }
-        ensures acknowledged { OnOk result (AllBegin (objects_text (fix T.meaning self.now.limits A.address) (self.now.written ++ self.now.pending)) (D.may_leave disk.new)) }
-        ensures heads { OnOk result (AllCome (Grows (objects_text (fix T.meaning self.now.limits A.address) (self.now.written ++ self.now.pending))) (D.may_leave disk.old) (D.may_leave disk.new)) }
-        ensures written { (made : Move T.Op T.Reply) → self.now.pending ≡ made ∷ [] → OnOk result (Tells (OnPart Part.Objects (Holds (end_of (fix T.meaning self.now.limits A.address) self.now.written) (region (fix T.meaning self.now.limits A.address) self.now.written made))) (D.contents disk.old) (D.contents disk.new)) }
-        ensures torn { (made : Move T.Op T.Reply) → self.now.pending ≡ made ∷ [] → Tells (OnPart Part.Objects (Torn (end_of (fix T.meaning self.now.limits A.address) self.now.written) (length (region (fix T.meaning self.now.limits A.address) self.now.written made)))) (D.contents disk.old) (D.contents disk.new) }
-        ensures untouched { objects_of (fix T.meaning self.now.limits A.address) (self.now.written ++ self.now.pending) ≡ objects_of (fix T.meaning self.now.limits A.address) self.now.written → (disk.new ≡ disk.old) × (result ≡ Ok tt) }
+        requires { AllBegin (objects_text (fix T.meaning self.now.terms A.address) self.now.written) (D.may_leave disk.old) }
+        ensures any_moment { LeavesOnly D.moment D.left_since disk.old disk.new (After (Grows (objects_text (fix T.meaning self.now.terms A.address) self.now.written)) (D.may_leave disk.old)) }
+        ensures acknowledged { OnOk result (AllBegin (objects_text (fix T.meaning self.now.terms A.address) (self.now.written ++ self.now.pending)) (D.may_leave disk.new)) }
+        ensures heads { OnOk result (AllCome (Grows (objects_text (fix T.meaning self.now.terms A.address) (self.now.written ++ self.now.pending))) (D.may_leave disk.old) (D.may_leave disk.new)) }
+        ensures written { (made : Move T.Op T.Reply) → self.now.pending ≡ made ∷ [] → OnOk result (Tells (OnPart Part.Objects (Holds (end_of (fix T.meaning self.now.terms A.address) self.now.written) (region (fix T.meaning self.now.terms A.address) self.now.written made))) (D.contents disk.old) (D.contents disk.new)) }
+        ensures torn { (made : Move T.Op T.Reply) → self.now.pending ≡ made ∷ [] → Tells (OnPart Part.Objects (Torn (end_of (fix T.meaning self.now.terms A.address) self.now.written) (length (region (fix T.meaning self.now.terms A.address) self.now.written made)))) (D.contents disk.old) (D.contents disk.new) }
+        ensures untouched { objects_of (fix T.meaning self.now.terms A.address) (self.now.written ++ self.now.pending) ≡ objects_of (fix T.meaning self.now.terms A.address) self.now.written → (disk.new ≡ disk.old) × (result ≡ Ok tt) }
         ensures cause { HasCause (D.faults disk.old) (D.faults disk.new) result }
     {
         self.objects.write(disk)
@@ -293,7 +304,7 @@ impl<T: Mrdt, A: Address> Recorded<T, A> {
 
     /// Counts the pending move, if there is one, as written. It takes no memory.
     pub fn settle(&mut self)
-        ensures { self.new ≡ record { written = self.old.written ++ self.old.pending; pending = []; limits = self.old.limits } }
+        ensures { self.new ≡ record { written = self.old.written ++ self.old.pending; pending = []; terms = self.old.terms } }
     {
         self.objects.keep_staged();
         self.settled = Snapshot::of(&self.versions);

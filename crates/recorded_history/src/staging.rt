@@ -27,15 +27,16 @@ pub(crate) fn stage<T: Mrdt, A: Address>(
     known: Option<[u8; 32]>,
 ) -> Result<[u8; 32], LandRefused>
     requires history { IsPrefix prepared.now.seen.history versions.now.core.history }
-    requires limits { prepared.now.seen.limits ≡ versions.now.core.limits }
+    requires terms { prepared.now.seen.terms ≡ versions.now.core.terms }
     requires may { MayLand T.meaning prepared.now versions.now.core }
     requires known { IfSome known (IsValueAddress T.meaning A.address prepared.now) }
     requires settled { IsSettled T.meaning A.address versions.now objects.old }
-    ensures staged { IfOk result (IsStaged (fix T.meaning versions.now.core.limits A.address) versions.now.core.history prepared.now.work (move_of prepared.now.seen.branch prepared.now.work) objects.new) }
-    ensures refused { IfErr result (LandRefusedAs (fix T.meaning versions.now.core.limits A.address) prepared.now versions.now.core.history) }
+    ensures staged { IfOk result (IsStaged (fix T.meaning versions.now.core.terms A.address) versions.now.core.history prepared.now.work (move_of prepared.now.seen.branch prepared.now.work) objects.new) }
+    ensures refused { IfErr result (LandRefusedAs (fix T.meaning versions.now.core.terms A.address) prepared.now versions.now.core.history) }
     ensures kept { OnErr result (objects.new ≡ objects.old) }
 {
-    let (branch, head) = (prepared.branch(), prepared.head());
+    let (origin, head) = (prepared.origin(), prepared.head());
+    let _branch = prepared.branch();
     match prepared.written() {
         Written::Operation {
             clock,
@@ -53,7 +54,7 @@ pub(crate) fn stage<T: Mrdt, A: Address>(
                 value,
                 known,
                 Listing::from_vec(parent),
-                branch,
+                origin,
                 clock,
                 action,
             )?)
@@ -67,7 +68,7 @@ pub(crate) fn stage<T: Mrdt, A: Address>(
             push_address(*versions.address(head), &mut parents)?;
             push_address(*versions.address(other), &mut parents)?;
             let parents = Listing::from_vec(parents);
-            Ok(objects.stage(value, known, parents, branch, clock, Action::Merge)?)
+            Ok(objects.stage(value, known, parents, origin, clock, Action::Merge)?)
         }
         // It makes no commit.
         Written::Forward { .. } => Ok([0; 32]),

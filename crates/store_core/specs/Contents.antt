@@ -38,17 +38,17 @@ MayBeTorn {S} {O} {R} fixed history more old new = (made : Move O R) → more �
 
 -- the same of a recorded history, whose pending move is put on the disk
 abbrev pub PutsExactly : {S O R Q A : Type 0} → Meaning S O R Q A → (List ℕ → List ℕ) → RecordedView (Move O R) → Option Files → Option Files → Type 0
-PutsExactly meaning address r = HoldsExactly (fix meaning r.limits address) (r.written ++ r.pending)
+PutsExactly meaning address r = HoldsExactly (fix meaning r.terms address) (r.written ++ r.pending)
 
 abbrev pub MayTear : {S O R Q A : Type 0} → Meaning S O R Q A → (List ℕ → List ℕ) → RecordedView (Move O R) → Option Files → Option Files → Type 0
-MayTear meaning address r = MayBeTorn (fix meaning r.limits address) r.written r.pending
+MayTear meaning address r = MayBeTorn (fix meaning r.terms address) r.written r.pending
 
 -- the disk of a store tells exactly the bytes of the history that it has now, over what it told before
 abbrev pub LeavesExactly : {D S O R Q A : Type 0} → Meaning S O R Q A → (List ℕ → List ℕ) → (D → Option Files) → StoreView (Move O R) D → StoreView (Move O R) D → Type 0
-LeavesExactly meaning address contents old new = HoldsExactly (fix meaning old.limits address) new.history (contents old.disk) (contents new.disk)
+LeavesExactly meaning address contents old new = HoldsExactly (fix meaning old.terms address) new.history (contents old.disk) (contents new.disk)
 
 -- it tells what it told before, but for the region and the record of the move that the machine makes of a step
 abbrev pub LeavesTorn : {D S O R Q A : Type 0} → Meaning S O R Q A → (List ℕ → List ℕ) → (D → Option Files) → StoreView (Move O R) D → StoreView (Move O R) D → Step O Q → Type 0
 LeavesTorn meaning address contents old new step =
-    let fixed = fix meaning old.limits address in
+    let fixed = fix meaning old.terms address in
     MayBeTorn fixed old.history (full_turn fixed old.history step).made (contents old.disk) (contents new.disk)

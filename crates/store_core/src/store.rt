@@ -1,10 +1,11 @@
 // A store on a disk.
-ghost use Rattle.std.specs.Prelude.{◌≡◌, ◌≢◌, ◌≤◌, ◌++◌, [], length, slice_get, IfOk, IfErr, IfSome, OnOk, OnErr, Some, Err, true, false};
+ghost use Rattle.std.specs.Prelude.{◌≡◌, ◌≢◌, ◌<◌, ◌≤◌, ◌++◌, [], length, slice_get, IfOk, IfErr, IfSome, OnOk, OnErr, Some, Err, true, false};
 ghost use Rattle.std.specs.Option.{option_map, ForSome};
 ghost use mathlib.Core.List.{IsPrefix};
 ghost use Rattle.branch_io.specs.Causes.{HasCauseOf, Rose};
 ghost use Rattle.branch_disk.specs.Disk.{Files, LeavesOnly, Tells};
-ghost use Rattle.branch_names.specs.Heads.{Branch, branch_named};
+ghost use Rattle.branch_names.specs.declared.branch.Branch.{Branch};
+ghost use Rattle.branch_names.specs.Heads.{branch_named, is_dropped};
 ghost use Rattle.branch_history.specs.History.{store_of};
 ghost use Rattle.branch_history.specs.Machine.{turn, answers};
 ghost use Rattle.branch_history.specs.Steps as machine;
@@ -29,7 +30,7 @@ use branch_address::Address;
 use branch_disk::{Disk, Part};
 use branch_files::laws::stands_for_what_is_read;
 use branch_machine::laws::grows_by_full_moves;
-use branch_names::{Limits, Name};
+use branch_names::{Name, Terms};
 use heads_journal::Journal;
 use mrdt_model::Mrdt;
 use recorded_history::{Addressed, Recorded};
@@ -38,7 +39,7 @@ use std::marker::Model;
 use std::snapshot::Snapshot;
 use store_seen::{Forked, Landed, LookRefused, Pair, PairRefused, Prepared, Seen};
 
-/// A history of accepted moves, kept on a disk. Contracts see a `StoreView`: the history and the limits, whether the
+/// A history of accepted moves, kept on a disk. Contracts see a `StoreView`: the history and the terms, whether the
 /// disk has failed, the disk, and the disk as it was when the core was given.
 ///
 /// Where the disk has not failed, each image that a crash may leave of it stands for the history. Once it failed,
@@ -60,7 +61,7 @@ impl<T: Mrdt, D: Disk + Drop, A: Address> Model for Core<T, D, A> {
 
     ghost use Rattle.store_core.specs.Keeps.{IsCore};
 
-    ghost view = { λ c. record { history = c.recorded.written; limits = c.recorded.limits; failed = c.failed; disk = c.disk; opened = c.opened.value } };
+    ghost view = { λ c. record { history = c.recorded.written; terms = c.recorded.terms; failed = c.failed; disk = c.disk; opened = c.opened.value } };
 
     ghost invariant = { λ c. IsCore T.meaning A.address D.may_leave D.faults c.recorded c.journal c.disk c.opened.value c.failed };
 }
@@ -93,18 +94,18 @@ impl<T: Mrdt, D: Disk + Drop, A: Address> Core<T, D, A> {
     ///
     /// Of a disk that tells its bytes, the two parts are exactly those of a store of no moves: its first objects, and
     /// the header with a closed gate. After a fault nothing has changed but in those places; after all else, nothing.
-    pub fn init(alloc: Global, disk: D, limits: Limits) -> Result<Core<T, D, A>, (InitRefused, D)>
-        ensures made { IfOk result (λ core. core ≡ record { history = []; limits = limits; failed = false; disk = core.disk; opened = core.disk }) }
+    pub fn init(alloc: Global, disk: D, terms: Terms) -> Result<Core<T, D, A>, (InitRefused, D)>
+        ensures made { IfOk result (λ core. core ≡ record { history = []; terms = terms; failed = false; disk = core.disk; opened = core.disk }) }
         ensures empty { OnOk result (ForSome (D.contents disk) IsEmpty) }
         ensures refused { IfErr result (λ e. ForSome (D.contents disk) (InitRefusedAs e.0)) }
-        ensures stands { IfOk result (λ core. AllStand (fix T.meaning limits A.address) [] (D.may_leave core.disk)) }
-        ensures exact { let fixed = fix T.meaning limits A.address in
+        ensures stands { IfOk result (λ core. AllStand (fix T.meaning terms A.address) [] (D.may_leave core.disk)) }
+        ensures exact { let fixed = fix T.meaning terms A.address in
             IfOk result (λ core. HoldsExactly fixed [] (D.contents disk) (D.contents core.disk)) }
         ensures same { IfErr result (λ e. e.0 ≢ InitRefused.DiskFault → D.contents e.1 ≡ D.contents disk) }
-        ensures torn { let end = end_of (fix T.meaning limits A.address) [] in
+        ensures torn { let end = end_of (fix T.meaning terms A.address) [] in
             IfErr result (λ e. Tells (IsTorn 0 end 0) (D.contents disk) (D.contents e.1)) }
-        ensures any_moment { IfOk result (λ core. ((c : Files) → D.may_leave disk c → IsEmpty c) → LeavesOnly D.moment D.left_since disk core.disk (NoneOrEmpty (fix T.meaning limits A.address))) }
-        ensures any_moment_err { IfErr result (λ e. ((c : Files) → D.may_leave disk c → IsEmpty c) → LeavesOnly D.moment D.left_since disk e.1 (NoneOrEmpty (fix T.meaning limits A.address))) }
+        ensures any_moment { IfOk result (λ core. ((c : Files) → D.may_leave disk c → IsEmpty c) → LeavesOnly D.moment D.left_since disk core.disk (NoneOrEmpty (fix T.meaning terms A.address))) }
+        ensures any_moment_err { IfErr result (λ e. ((c : Files) → D.may_leave disk c → IsEmpty c) → LeavesOnly D.moment D.left_since disk e.1 (NoneOrEmpty (fix T.meaning terms A.address))) }
         ensures untouched { IfErr result (λ e. e.0 ≢ InitRefused.DiskFault → LeavesOnly D.moment D.left_since disk e.1 (D.may_leave disk)) }
         ensures kept { IfErr result (λ e. (f : Files) → D.contents disk ≡ Some f → ¬ IsEmpty f → LeavesOnly D.moment D.left_since disk e.1 (D.may_leave disk)) }
         ensures no_cause { IfOk result (λ core. D.faults core.disk ≡ D.faults disk) }
@@ -116,13 +117,13 @@ impl<T: Mrdt, D: Disk + Drop, A: Address> Core<T, D, A> {
             Ok(()) => {}
             Err(refused) => return Err((refused, disk)),
         }
-        let Ok(recorded) = Recorded::fresh(alloc, limits) else {
+        let Ok(recorded) = Recorded::fresh(alloc, terms) else {
             return Err((InitRefused::Memory, disk));
         };
         let Ok(()) = recorded.create(&mut disk) else {
             return Err((InitRefused::DiskFault, disk));
         };
-        let Ok(journal) = Journal::create(&mut disk, limits) else {
+        let Ok(journal) = Journal::create(&mut disk, &terms, 0) else {
             return Err((InitRefused::DiskFault, disk));
         };
         let opened = Snapshot::of(&disk);
@@ -139,11 +140,11 @@ impl<T: Mrdt, D: Disk + Drop, A: Address> Core<T, D, A> {
     /// nothing. `Ok` and each refusal but `DiskFault` and `Memory` come exactly where the files read so: what it opens is
     /// the one answer of the files, and so is why it refuses them. An `Err` hands the disk back.
     pub fn open(alloc: Global, disk: D) -> Result<Core<T, D, A>, (OpenRefused, D)>
-        ensures opened { IfOk result (λ core. core ≡ record { history = core.history; limits = core.limits; failed = false; disk = core.disk; opened = core.disk }) }
-        ensures reads { IfOk result (λ core. ForSome (D.contents disk) (λ f. ReadsAs T.meaning A.address f (Opens core.limits core.history))) }
-        ensures only { IfOk result (λ core. ForSome (D.contents disk) (ReadsOnlyAs T.meaning A.address (Opens core.limits core.history))) }
-        ensures valid { IfOk result (λ core. IsFullyValid (fix T.meaning core.limits A.address) core.history) }
-        ensures stands { IfOk result (λ core. AllStand (fix T.meaning core.limits A.address) core.history (D.may_leave core.disk)) }
+        ensures opened { IfOk result (λ core. core ≡ record { history = core.history; terms = core.terms; failed = false; disk = core.disk; opened = core.disk }) }
+        ensures reads { IfOk result (λ core. ForSome (D.contents disk) (λ f. ReadsAs T.meaning A.address f (Opens core.terms core.history))) }
+        ensures only { IfOk result (λ core. ForSome (D.contents disk) (ReadsOnlyAs T.meaning A.address (Opens core.terms core.history))) }
+        ensures valid { IfOk result (λ core. IsFullyValid (fix T.meaning core.terms A.address) core.history) }
+        ensures stands { IfOk result (λ core. AllStand (fix T.meaning core.terms A.address) core.history (D.may_leave core.disk)) }
         ensures refused { IfErr result (λ e. ForSome (D.contents disk) (OpenRefusedAs T.meaning A.address e.0)) }
         ensures refused_only { IfErr result (λ e. e.0 ≢ OpenRefused.DiskFault → e.0 ≢ OpenRefused.Memory → ForSome (D.contents disk) (ReadsAsNone T.meaning A.address)) }
         ensures only_refused { IfErr result (λ e.
@@ -176,9 +177,9 @@ impl<T: Mrdt, D: Disk + Drop, A: Address> Core<T, D, A> {
     /// stands for it, or for a valid one with one move more.
     pub fn moves(&self) -> u64
         ensures moves { result ≡ length self.now.history }
-        ensures valid { IsFullyValid (fix T.meaning self.now.limits A.address) self.now.history }
-        ensures stands { self.now.failed ≡ false → AllStand (fix T.meaning self.now.limits A.address) self.now.history (D.may_leave self.now.disk) }
-        ensures left { (c : Files) → D.may_leave self.now.disk c → MayBeLeft (fix T.meaning self.now.limits A.address) self.now.history c }
+        ensures valid { IsFullyValid (fix T.meaning self.now.terms A.address) self.now.history }
+        ensures stands { self.now.failed ≡ false → AllStand (fix T.meaning self.now.terms A.address) self.now.history (D.may_leave self.now.disk) }
+        ensures left { (c : Files) → D.may_leave self.now.disk c → MayBeLeft (fix T.meaning self.now.terms A.address) self.now.history c }
         ensures later { D.faults self.now.opened ≤ D.faults self.now.disk }
         ensures caused { self.now.failed ≡ true → Rose (D.faults self.now.opened) (D.faults self.now.disk) }
         ensures quiet { self.now.failed ≡ false → D.faults self.now.disk ≡ D.faults self.now.opened }
@@ -195,48 +196,59 @@ impl<T: Mrdt, D: Disk + Drop, A: Address> Core<T, D, A> {
 
     /// How many commits the store holds, commit 0 counted.
     pub fn commits(&self) -> u32
-        ensures { result ≡ length (store_of self.now.history).commits }
+        ensures { result ≡ length (store_of self.now.terms.origin self.now.history).commits }
     {
         self.recorded.commits()
     }
 
-    /// How many branches the store holds, `main` counted.
+    /// How many branches the store holds, `main` and those that were dropped counted.
     pub fn branches(&self) -> u32
-        ensures { result ≡ length (store_of self.now.history).branches }
+        ensures { result ≡ length (store_of self.now.terms.origin self.now.history).branches }
     {
         self.recorded.branches()
     }
 
-    /// The limits that the store was made under.
-    pub fn limits(&self) -> Limits
-        ensures { result ≡ self.now.limits }
+    /// The terms that the store was made under.
+    pub fn terms(&self) -> Terms
+        ensures { result ≡ self.now.terms }
     {
-        self.recorded.limits()
+        self.recorded.terms()
     }
 
-    /// The name and the head of a branch; `None` exactly past the last branch. No other branch has the name.
+    /// The name and the head of a branch, of a dropped one those that it had; `None` exactly past the last branch. No
+    /// other branch has the name of one that was not dropped.
     pub fn branch(&self, number: u32) -> Option<(Name, u32)>
-        ensures named { IfSome result (λ found. branch_named (store_of self.now.history).branches found.0 ≡ Some number) }
-        ensures found { result ≡ option_map (λ (b : Branch). (b.name, b.head)) (slice_get (store_of self.now.history).branches number) }
+        ensures named { IfSome result (λ found.
+            is_dropped (store_of self.now.terms.origin self.now.history).branches number ≡ false
+            → branch_named (store_of self.now.terms.origin self.now.history).branches found.0 ≡ Some number) }
+        ensures found { result ≡ option_map (λ (b : Branch). (b.name, b.head)) (slice_get (store_of self.now.terms.origin self.now.history).branches number) }
     {
         self.recorded.branch(number)
     }
 
+    /// Whether a branch was dropped.
+    pub fn is_dropped(&self, number: u32) -> bool
+        requires { number < length (store_of self.now.terms.origin self.now.history).branches }
+        ensures { result ≡ is_dropped (store_of self.now.terms.origin self.now.history).branches number }
+    {
+        self.recorded.is_dropped(number)
+    }
+
     /// Looks at the branch with a name, also where the disk has failed. `UnknownBranch` comes exactly where no branch
-    /// has the name.
+    /// has the name, or it was dropped.
     pub fn look(&self, name: &Name) -> Result<Seen<T>, LookRefused>
-        ensures on { IfOk result (λ seen. (seen.history ≡ self.now.history) × (seen.limits ≡ self.now.limits)) }
-        ensures sees { IfOk result (λ seen. turn T.meaning self.now.limits self.now.history (machine.Look name.now) ≡ answers (machine.Sees seen.branch seen.head)) }
+        ensures on { IfOk result (λ seen. (seen.history ≡ self.now.history) × (seen.terms ≡ self.now.terms)) }
+        ensures sees { IfOk result (λ seen. turn T.meaning self.now.terms self.now.history (machine.Look name.now) ≡ answers (machine.Sees seen.branch seen.head)) }
         ensures refused { IfErr result (LookRefusedAs T.meaning (held self.now) name.now) }
     {
         self.recorded.look(name)
     }
 
     /// Pairs a look at this core, taken now or earlier, with the head that a branch has now, also where the disk has
-    /// failed. `UnknownBranch` comes exactly where no branch has the name.
+    /// failed. `UnknownBranch` comes exactly where no branch has the name, or it was dropped.
     pub fn pair(&self, seen: &Seen<T>, from: &Name) -> Result<Pair<T>, PairRefused>
         requires history { IsPrefix seen.now.history self.now.history }
-        requires limits { seen.now.limits ≡ self.now.limits }
+        requires terms { seen.now.terms ≡ self.now.terms }
         ensures paired { IfOk result (IsPaired T.meaning (held self.now) seen.now from.now) }
         ensures refused { IfErr result (PairRefusedAs T.meaning (held self.now) from.now) }
     {
@@ -244,27 +256,27 @@ impl<T: Mrdt, D: Disk + Drop, A: Address> Core<T, D, A> {
     }
 
     /// Lands what was prepared on a look at this core, now or earlier. It is refused exactly as the machine refuses
-    /// it, and then nothing has changed: `Stale` before `FullCommits`, which only a new commit meets, before
-    /// `FullMoves`, before `Collision`. All memory is taken before the first device call. At every moment a crash
-    /// leaves the history before, or that with the move; after `Ok`, the latter. Both are valid, so that the disk can
-    /// be opened again after a fault.
+    /// it, and then nothing has changed: `Dropped` before `Stale` before `FullCommits`, which only a new commit meets,
+    /// before `FullMoves`, before `Collision`. All memory is taken before the first device call. At every moment a
+    /// crash leaves the history before, or that with the move; after `Ok`, the latter. Both are valid, so that the disk
+    /// can be opened again after a fault.
     ///
     /// Of a disk that tells its bytes, after `Ok` the two parts begin with exactly the objects of the longer history
     /// and its records with a closed gate, and no other byte has changed. After a fault nothing has changed but in the
     /// move's region and from its record's gate to the next one.
     pub fn land(&mut self, prepared: Prepared<T>) -> Result<Landed<T::Reply>, LandRefused>
         requires history { IsPrefix prepared.seen.history self.old.history }
-        requires limits { prepared.seen.limits ≡ self.old.limits }
-        ensures landed { IfOk result (λ landed. LandsAs (fix T.meaning self.old.limits A.address) prepared self.old self.new landed.moves landed.kind) }
-        ensures stands { OnOk result (AllStand (fix T.meaning self.old.limits A.address) self.new.history (D.may_leave self.new.disk)) }
+        requires terms { prepared.seen.terms ≡ self.old.terms }
+        ensures landed { IfOk result (λ landed. LandsAs (fix T.meaning self.old.terms A.address) prepared self.old self.new landed.moves landed.kind) }
+        ensures stands { OnOk result (AllStand (fix T.meaning self.old.terms A.address) self.new.history (D.may_leave self.new.disk)) }
         ensures failed { self.old.failed ≡ true → result ≡ Err (LandRefused.Failed (length self.old.history)) }
-        ensures refused { IfErr result (LandRefusedAs (fix T.meaning self.old.limits A.address) prepared self.old) }
+        ensures refused { IfErr result (LandRefusedAs (fix T.meaning self.old.terms A.address) prepared self.old) }
         ensures kept { IfErr result (LandLeaves self.old self.new) }
         ensures any_moment { self.old.failed ≡ false → LeavesOnly D.moment D.left_since self.old.disk self.new.disk
-            (WithOrWithout (fix T.meaning self.old.limits A.address) self.old.history (full_turn (fix T.meaning self.old.limits A.address) self.old.history (step_made prepared)).made) }
+            (WithOrWithout (fix T.meaning self.old.terms A.address) self.old.history (full_turn (fix T.meaning self.old.terms A.address) self.old.history (step_made prepared)).made) }
         ensures fault_leaves { result ≡ Err LandRefused.DiskFault → (c : Files) → D.may_leave self.new.disk c
-            → WithOrWithout (fix T.meaning self.old.limits A.address) self.old.history (full_turn (fix T.meaning self.old.limits A.address) self.old.history (step_made prepared)).made c }
-        ensures fault_valid { result ≡ Err LandRefused.DiskFault → IsFullyValid (fix T.meaning self.old.limits A.address) (self.old.history ++ (full_turn (fix T.meaning self.old.limits A.address) self.old.history (step_made prepared)).made) }
+            → WithOrWithout (fix T.meaning self.old.terms A.address) self.old.history (full_turn (fix T.meaning self.old.terms A.address) self.old.history (step_made prepared)).made c }
+        ensures fault_valid { result ≡ Err LandRefused.DiskFault → IsFullyValid (fix T.meaning self.old.terms A.address) (self.old.history ++ (full_turn (fix T.meaning self.old.terms A.address) self.old.history (step_made prepared)).made) }
         ensures exact { OnOk result (LeavesExactly T.meaning A.address D.contents self.old self.new) }
         ensures torn { result ≡ Err LandRefused.DiskFault
             → LeavesTorn T.meaning A.address D.contents self.old self.new (step_made prepared) }
@@ -280,17 +292,17 @@ impl<T: Mrdt, D: Disk + Drop, A: Address> Core<T, D, A> {
         prepared: Addressed<T, A>,
     ) -> Result<Landed<T::Reply>, LandRefused>
         requires history { IsPrefix prepared.seen.history self.old.history }
-        requires limits { prepared.seen.limits ≡ self.old.limits }
-        ensures landed { IfOk result (λ landed. LandsAs (fix T.meaning self.old.limits A.address) prepared self.old self.new landed.moves landed.kind) }
-        ensures stands { OnOk result (AllStand (fix T.meaning self.old.limits A.address) self.new.history (D.may_leave self.new.disk)) }
+        requires terms { prepared.seen.terms ≡ self.old.terms }
+        ensures landed { IfOk result (λ landed. LandsAs (fix T.meaning self.old.terms A.address) prepared self.old self.new landed.moves landed.kind) }
+        ensures stands { OnOk result (AllStand (fix T.meaning self.old.terms A.address) self.new.history (D.may_leave self.new.disk)) }
         ensures failed { self.old.failed ≡ true → result ≡ Err (LandRefused.Failed (length self.old.history)) }
-        ensures refused { IfErr result (LandRefusedAs (fix T.meaning self.old.limits A.address) prepared self.old) }
+        ensures refused { IfErr result (LandRefusedAs (fix T.meaning self.old.terms A.address) prepared self.old) }
         ensures kept { IfErr result (LandLeaves self.old self.new) }
         ensures any_moment { self.old.failed ≡ false → LeavesOnly D.moment D.left_since self.old.disk self.new.disk
-            (WithOrWithout (fix T.meaning self.old.limits A.address) self.old.history (full_turn (fix T.meaning self.old.limits A.address) self.old.history (step_made prepared)).made) }
+            (WithOrWithout (fix T.meaning self.old.terms A.address) self.old.history (full_turn (fix T.meaning self.old.terms A.address) self.old.history (step_made prepared)).made) }
         ensures fault_leaves { result ≡ Err LandRefused.DiskFault → (c : Files) → D.may_leave self.new.disk c
-            → WithOrWithout (fix T.meaning self.old.limits A.address) self.old.history (full_turn (fix T.meaning self.old.limits A.address) self.old.history (step_made prepared)).made c }
-        ensures fault_valid { result ≡ Err LandRefused.DiskFault → IsFullyValid (fix T.meaning self.old.limits A.address) (self.old.history ++ (full_turn (fix T.meaning self.old.limits A.address) self.old.history (step_made prepared)).made) }
+            → WithOrWithout (fix T.meaning self.old.terms A.address) self.old.history (full_turn (fix T.meaning self.old.terms A.address) self.old.history (step_made prepared)).made c }
+        ensures fault_valid { result ≡ Err LandRefused.DiskFault → IsFullyValid (fix T.meaning self.old.terms A.address) (self.old.history ++ (full_turn (fix T.meaning self.old.terms A.address) self.old.history (step_made prepared)).made) }
         ensures exact { OnOk result (LeavesExactly T.meaning A.address D.contents self.old self.new) }
         ensures torn { result ≡ Err LandRefused.DiskFault
             → LeavesTorn T.meaning A.address D.contents self.old self.new (step_made prepared) }
@@ -318,16 +330,16 @@ impl<T: Mrdt, D: Disk + Drop, A: Address> Core<T, D, A> {
     /// moment a crash leaves the history before, or that with the fork; after `Ok`, the latter. Both are valid. What a
     /// disk tells is then as after `land`.
     pub fn fork(&mut self, new: Name, from: &Name) -> Result<Forked, ForkRefused>
-        ensures forked { IfOk result (Forks (fix T.meaning self.old.limits A.address) new from.now self.old self.new) }
-        ensures stands { OnOk result (AllStand (fix T.meaning self.old.limits A.address) self.new.history (D.may_leave self.new.disk)) }
+        ensures forked { IfOk result (Forks (fix T.meaning self.old.terms A.address) new from.now self.old self.new) }
+        ensures stands { OnOk result (AllStand (fix T.meaning self.old.terms A.address) self.new.history (D.may_leave self.new.disk)) }
         ensures failed { self.old.failed ≡ true → result ≡ Err (ForkRefused.Failed (length self.old.history)) }
-        ensures refused { IfErr result (ForkRefusedAs (fix T.meaning self.old.limits A.address) new from.now self.old) }
+        ensures refused { IfErr result (ForkRefusedAs (fix T.meaning self.old.terms A.address) new from.now self.old) }
         ensures kept { IfErr result (ForkLeaves self.old self.new) }
         ensures any_moment { self.old.failed ≡ false → LeavesOnly D.moment D.left_since self.old.disk self.new.disk
-            (WithOrWithout (fix T.meaning self.old.limits A.address) self.old.history (full_turn (fix T.meaning self.old.limits A.address) self.old.history (machine.Fork new from.now)).made) }
+            (WithOrWithout (fix T.meaning self.old.terms A.address) self.old.history (full_turn (fix T.meaning self.old.terms A.address) self.old.history (machine.Fork new from.now)).made) }
         ensures fault_leaves { result ≡ Err ForkRefused.DiskFault → (c : Files) → D.may_leave self.new.disk c
-            → WithOrWithout (fix T.meaning self.old.limits A.address) self.old.history (full_turn (fix T.meaning self.old.limits A.address) self.old.history (machine.Fork new from.now)).made c }
-        ensures fault_valid { result ≡ Err ForkRefused.DiskFault → IsFullyValid (fix T.meaning self.old.limits A.address) (self.old.history ++ (full_turn (fix T.meaning self.old.limits A.address) self.old.history (machine.Fork new from.now)).made) }
+            → WithOrWithout (fix T.meaning self.old.terms A.address) self.old.history (full_turn (fix T.meaning self.old.terms A.address) self.old.history (machine.Fork new from.now)).made c }
+        ensures fault_valid { result ≡ Err ForkRefused.DiskFault → IsFullyValid (fix T.meaning self.old.terms A.address) (self.old.history ++ (full_turn (fix T.meaning self.old.terms A.address) self.old.history (machine.Fork new from.now)).made) }
         ensures exact { OnOk result (LeavesExactly T.meaning A.address D.contents self.old self.new) }
         ensures torn { result ≡ Err ForkRefused.DiskFault
             → LeavesTorn T.meaning A.address D.contents self.old self.new (machine.Fork new from.now) }
@@ -353,9 +365,9 @@ impl<T: Mrdt, D: Disk + Drop, A: Address> Core<T, D, A> {
     /// Hands the disk back. It makes no device call, and takes no memory. Each image stands for what `moves` says.
     pub fn close(self) -> D
         ensures same { result ≡ self.disk }
-        ensures valid { IsFullyValid (fix T.meaning self.limits A.address) self.history }
-        ensures stands { self.failed ≡ false → AllStand (fix T.meaning self.limits A.address) self.history (D.may_leave result) }
-        ensures left { let fixed = fix T.meaning self.limits A.address in
+        ensures valid { IsFullyValid (fix T.meaning self.terms A.address) self.history }
+        ensures stands { self.failed ≡ false → AllStand (fix T.meaning self.terms A.address) self.history (D.may_leave result) }
+        ensures left { let fixed = fix T.meaning self.terms A.address in
             (c : Files) → D.may_leave result c → MayBeLeft fixed self.history c }
     {
         self.disk

@@ -3,11 +3,15 @@ use denote.RattleType.{RattleType}
 use denote.Param.Send.{IsSend, IsSync, sendable}
 use Rattle.std.proofs.Crossing.{crosses}
 use Rattle.mrdt_model.specs.declared.mrdt.Mrdt as mrdt
+use Rattle.mrdt_model.specs.contracts.listing.Listing as Listing
 use Rattle.branch_names.proofs.Crosses.{Heads-send}
 use Rattle.branch_history.specs.contracts.moves.Move as Move
 use Rattle.virtual_base.proofs.Crosses.{Nodes-send, Nodes-sync, Memo-send}
 use Rattle.store_seen.specs.contracts.shared.SharedNodes as SharedNodes
 use Rattle.store_seen.specs.contracts.versions.Versions as Versions
+
+listing_send : (X : RattleType) → IsSend X → IsSend (Listing.the_row X)
+listing_send X s = search (sendable, crosses) depth 20
 
 module _ (T O Q W R : RattleType) (m : mrdt.Ghosts T.Denot O.Denot Q.Denot W.Denot R.Denot) where
   shared_send : IsSend T → IsSync T → IsSend (SharedNodes.the_row T O Q W R m)
@@ -17,7 +21,7 @@ module _ (T O Q W R : RattleType) (m : mrdt.Ghosts T.Denot O.Denot Q.Denot W.Den
       let c = Memo-send T s y in search (sendable, crosses) depth 20
 
   move_send : IsSend O → IsSend R → IsSend (Move.the_row O R)
-  move_send so sr = search sendable depth 20
+  move_send so sr = search (sendable, crosses, listing_send) depth 30
 
   pub Versions-send : IsSend T → IsSync T → IsSend O → IsSend R → IsSend (Versions.the_row T O Q W R m)
   Versions-send s y so sr =

@@ -1,5 +1,5 @@
 -- The folds that are kept of nodes.
-use Rattle.std.proofs.Common.{◌≡◌, ℕ, ◌+◌, ◌<◌, List, [], ◌∷◌, length, arith, subst, sym, length-append, Option, None, Some}
+use Rattle.std.proofs.Common.{◌≡◌, ℕ, List, [], ◌∷◌, length, arith, subst, sym, length-append, Option, None, Some}
 use Rattle.mrdt_model.specs.Laws.{Meaning}
 use Rattle.virtual_base.specs.Memos.{MemoView, KeepsMemos}
 use Rattle.virtual_base.specs.Nodes.{NodesView, with_node}

@@ -1,37 +1,13 @@
--- Among branches of distinct names, the name of each finds it.
-use Rattle.std.proofs.Common.{◌≡◌, ◌≢◌, ℕ, ◌+◌, ◌<◌, zero, suc, Bool, true, false, cond, List, [], ◌∷◌, length, refl, ap, sym, ◌∙◌, Some, arith}
-use Rattle.std.specs.Prelude.{slice_index_or}
-use Rattle.std.specs.List.{position_from}
-use Rattle.std.specs.Str.{bytes_eq}
-use Rattle.std.proofs.lemmas.Slice.Eq.{bytes_eq-Decides}
-use Rattle.branch_names.specs.Heads.{Branch, name_of, names_of, branch_named, AreDistinct}
+-- Among branches of distinct names, the name of each that was not dropped finds it.
+use Rattle.std.proofs.Common.{◌≡◌, ℕ, List, refl, ap, ◌∙◌, Option, Some, None}
+use Rattle.branch_names.specs.declared.branch.Branch.{Branch}
+use Rattle.branch_names.specs.Heads.{name_of, branch_named, AreDistinct, IsKeptBranch}
+use Rattle.branch_names.proofs.Branches.{branch_named-none, branch_named-kept, branch_named-is}
 
-name_of-names_of : (branches : List Branch) (n : ℕ) → slice_index_or (names_of branches) n [] ≡ name_of branches n
-name_of-names_of [] n = refl
-name_of-names_of (b ∷ bs) zero = refl
-name_of-names_of (b ∷ bs) (suc n) = name_of-names_of bs n
+found_is : (branches : List Branch) (r : ℕ) → AreDistinct branches → IsKeptBranch branches r → (o : Option ℕ) → branch_named branches (name_of branches r) ≡ o → branch_named branches (name_of branches r) ≡ Some r
+found_is branches r distinct kept None is = absurd (branch_named-none branches (name_of branches r) r is kept refl)
+found_is branches r distinct kept (Some q) is =
+    is ∙ ap Some (distinct q r (branch_named-kept branches (name_of branches r) q is) kept (branch_named-is branches (name_of branches r) q is))
 
-not_same : (x y : List ℕ) (t : Bool) → bytes_eq x y ≡ t → x ≢ y → bytes_eq x y ≡ false
-not_same x y true test other = absurd (other ((bytes_eq-Decides x y).0 test))
-not_same x y false test other = test
-
-named_from : (branches : List Branch) (n first : ℕ) → AreDistinct branches → n < length branches → position_from (λ b. bytes_eq (name_of branches n) b.name) first branches ≡ Some (first + n)
-named_from [] n first distinct lt = absurd (omega arith)
-named_from (b ∷ bs) zero first distinct lt =
-    let at : first ≡ first + 0 = omega arith in
-    ap (λ t. cond t (Some first) (position_from (λ c. bytes_eq b.name c.name) (first + 1) bs)) ((bytes_eq-Decides b.name b.name).1 refl) ∙ ap Some at
-named_from (b ∷ bs) (suc n) first distinct lt =
-    let other : name_of bs n ≢ b.name = λ same. distinct 0 (suc n) [] (omega arith) (omega (arith, length-names_of bs)) (sym (name_of-names_of bs n ∙ same)) in
-    let at : first + 1 + n ≡ first + suc n = omega arith in
-    ap (λ t. cond t (Some first) (position_from (λ c. bytes_eq (name_of bs n) c.name) (first + 1) bs)) (not_same (name_of bs n) b.name (bytes_eq (name_of bs n) b.name) refl other)
-    ∙ named_from bs n (first + 1) (λ i j d below within. distinct (suc i) (suc j) d (omega arith) (omega arith)) (omega arith)
-    ∙ ap Some at
-  where
-    length-names_of : (cs : List Branch) → length (names_of cs) ≡ length cs
-    length-names_of [] = refl
-    length-names_of (c ∷ cs) = ap suc (length-names_of cs)
-
-pub branch_named-name_of : (branches : List Branch) (n : ℕ) → AreDistinct branches → n < length branches → branch_named branches (name_of branches n) ≡ Some n
-branch_named-name_of branches n distinct lt =
-    let at : 0 + n ≡ n = omega arith in
-    named_from branches n 0 distinct lt ∙ ap Some at
+pub branch_named-name_of : (branches : List Branch) (r : ℕ) → AreDistinct branches → IsKeptBranch branches r → branch_named branches (name_of branches r) ≡ Some r
+branch_named-name_of branches r distinct kept = found_is branches r distinct kept (branch_named branches (name_of branches r)) refl

@@ -1,5 +1,5 @@
 -- What is written of a ready work is what the history means.
-use Rattle.std.proofs.Common.{◌≡◌, ℕ, ◌∷◌, [], List, ap, ◌∙◌}
+use Rattle.std.proofs.Common.{◌≡◌, ℕ, ◌+◌, ◌∷◌, [], List, ap, ◌∙◌}
 use Rattle.mrdt_model.specs.declared.time.Time.{Time}
 use Rattle.mrdt_model.specs.Executions.{Event}
 use Rattle.mrdt_model.specs.Laws.{Meaning, KeepsLaws}
@@ -13,23 +13,23 @@ use Rattle.branch_history.proofs.Valid.{operation-room}
 use Rattle.store_seen.specs.Keeps.{IsSeen, IsReadyOperation, IsReadyMerge, AreSpelled}
 use Rattle.store_seen.specs.Views.{SeenView, SpelledView}
 use Rattle.store_seen.specs.Written.{IsWrittenOperation, IsWrittenMerge}
-use Rattle.store_seen.proofs.Looks.{seen-kept}
+use Rattle.store_seen.proofs.Looks.{seen-kept, seen-small}
 
 module _ {S O R Q A : Type 0} (meaning : Meaning S O R Q A) (laws : KeepsLaws meaning) (seen : SeenView (Move O R)) (is : IsSeen meaning seen) where
   abbrev commits : List (Commit O R)
-  commits = (store_of seen.history).commits
+  commits = (store_of seen.terms.origin seen.history).commits
 
-  kept : IsKept meaning seen.limits (store_of seen.history)
+  kept : IsKept meaning seen.terms (store_of seen.terms.origin seen.history)
   kept = seen-kept meaning laws seen is
 
   pub operation-written : (time : Time) (value : S) (op : O) (reply : R) (spelled : SpelledView) → IsReadyOperation meaning seen time value op reply → AreSpelled meaning value op reply spelled → IsWrittenOperation meaning seen op reply time.clock spelled.value spelled.op spelled.reply
   operation-written time value op reply spelled ready are =
-      let low = operation-room meaning seen.limits seen.history seen.branch seen.head op ready.fits in
-      let lawful = made-lawful meaning seen.limits laws seen.history is.valid seen.branch seen.head op is.branch ready.known low in
+      let low = operation-room meaning seen.terms seen.history (seen.terms.origin + seen.branch) seen.head op ready.fits in
+      let lawful = made-lawful meaning seen.terms laws seen.history is.valid (seen.terms.origin + seen.branch) seen.head op (seen-small meaning laws seen is) ready.known low in
       record {
         clock_is = ap (λ t. t.clock) ready.timed;
         replies = ready.replies;
-        value_is = are.value_is ∙ laws.one_spelling value (event_made meaning commits seen.branch seen.head op ∷ visible commits seen.head) lawful ready.stands;
+        value_is = are.value_is ∙ laws.one_spelling value (event_made meaning commits (seen.terms.origin + seen.branch) seen.head op ∷ visible commits seen.head) lawful ready.stands;
         op_is = are.op_is;
         reply_is = are.reply_is;
       }
@@ -37,7 +37,7 @@ module _ {S O R Q A : Type 0} (meaning : Meaning S O R Q A) (laws : KeepsLaws me
   pub merge-written : (commit clock : ℕ) (value : S) (spelled : List ℕ) (other : ℕ) → other ≡ commit → IsReadyMerge meaning seen commit clock value → spelled ≡ meaning.state_spelling value → IsWrittenMerge meaning seen commit other clock spelled
   merge-written commit clock value spelled other same ready are =
       let union : List (Event O R) = visible_at_all commits (seen.head ∷ commit ∷ []) in
-      let part = visible_at_all-closed commits kept.ordered.ranked kept.ordered.rising kept.events kept.climbs (seen.head ∷ commit ∷ []) in
+      let part = visible_at_all-closed commits kept.ordered.ranked kept.ordered.rising kept.events kept.distinct (seen.head ∷ commit ∷ []) in
       record {
         other_is = same;
         there = ready.there;

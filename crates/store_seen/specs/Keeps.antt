@@ -1,11 +1,12 @@
 -- What looks and prepared works keep of a history.
-use Rattle.std.specs.Prelude.{◌≡◌, ℕ, ◌+◌, ◌<◌, max, false, List, [], ◌∷◌, length, None, IsTrue}
+use Rattle.std.specs.Prelude.{◌≡◌, ℕ, ◌+◌, ◌<◌, false, List, [], ◌∷◌, length, None, IsTrue}
 use Rattle.mrdt_model.specs.declared.time.Time.{Time}
 use Rattle.mrdt_model.specs.Laws.{Meaning}
 use Rattle.branch_graph.specs.Graph.{reaches}
+use Rattle.branch_names.specs.declared.terms.Terms.{Terms}
 use Rattle.branch_names.specs.Heads.{head_of}
 use Rattle.branch_history.specs.declared.moves.Move.{Move}
-use Rattle.branch_history.specs.Commits.{Commit, graph_of, clock_of, visible, visible_at_all}
+use Rattle.branch_history.specs.Commits.{Commit, graph_of, clock_of, greatest_clock, visible, visible_at_all}
 use Rattle.branch_history.specs.History.{store_of}
 use Rattle.branch_history.specs.Machine.{event_made, operation_refusal, merge_refusal}
 use Rattle.branch_history.specs.Validity.{IsValid}
@@ -22,16 +23,16 @@ pub record IsNode {S O R Q A : Type 0} (meaning : Meaning S O R Q A) (commits : 
 
 -- a valid history, with one of its branches, and a commit that this branch's head is or lies above
 pub record IsSeen {S O R Q A : Type 0} (meaning : Meaning S O R Q A) (seen : SeenView (Move O R)) : Type 0 where
-  pub valid : IsValid meaning seen.limits seen.history
-  pub branch : seen.branch < length (store_of seen.history).branches
-  pub head : seen.head < length (store_of seen.history).commits
-  pub below : IsTrue (reaches (graph_of (store_of seen.history).commits) (head_of (store_of seen.history).branches seen.branch) seen.head)
+  pub valid : IsValid meaning seen.terms seen.history
+  pub branch : seen.branch < length (store_of seen.terms.origin seen.history).branches
+  pub head : seen.head < length (store_of seen.terms.origin seen.history).commits
+  pub below : IsTrue (reaches (graph_of (store_of seen.terms.origin seen.history).commits) (head_of (store_of seen.terms.origin seen.history).branches seen.branch) seen.head)
 
 -- a look, with the clock and the value of the head
 pub record IsLook {S O R Q A : Type 0} (meaning : Meaning S O R Q A) (seen : SeenView (Move O R)) (moves clock : ℕ) (value : S) : Type 0 where
   pub look : IsSeen meaning seen
   pub counted : moves ≡ length seen.history
-  pub node : IsNode meaning (store_of seen.history).commits seen.head clock value
+  pub node : IsNode meaning (store_of seen.terms.origin seen.history).commits seen.head clock value
 
 -- the work for which a commit's parts are ready
 abbrev pub work_of : {S O R : Type 0} → Ready S O R → Work O R
@@ -43,25 +44,25 @@ work_of (ready.Forward commit) = Forward commit
 pub record IsReadyOperation {S O R Q A : Type 0} (meaning : Meaning S O R Q A) (seen : SeenView (Move O R)) (time : Time) (value : S) (op : O) (reply : R) : Type 0 where
   pub known : meaning.is_op op
   pub known_reply : meaning.is_reply reply
-  pub fits : operation_refusal meaning seen.limits (store_of seen.history).commits seen.branch seen.head op ≡ None
-  pub timed : time ≡ record { clock = clock_of (store_of seen.history).commits seen.head + 1; origin = seen.branch }
-  pub replies : reply ≡ meaning.reply_of (visible (store_of seen.history).commits seen.head) op
-  pub stands : meaning.stands value (event_made meaning (store_of seen.history).commits seen.branch seen.head op ∷ visible (store_of seen.history).commits seen.head)
+  pub fits : operation_refusal meaning seen.terms.limits (store_of seen.terms.origin seen.history).commits (seen.terms.origin + seen.branch) seen.head op ≡ None
+  pub timed : time ≡ record { clock = clock_of (store_of seen.terms.origin seen.history).commits seen.head + 1; origin = seen.terms.origin + seen.branch }
+  pub replies : reply ≡ meaning.reply_of (visible (store_of seen.terms.origin seen.history).commits seen.head) op
+  pub stands : meaning.stands value (event_made meaning (store_of seen.terms.origin seen.history).commits (seen.terms.origin + seen.branch) seen.head op ∷ visible (store_of seen.terms.origin seen.history).commits seen.head)
 
--- a merge that is not refused, with the greater clock, and a value that stands for what either commit sees
+-- a merge that is not refused, with the greater of the two clocks, and a value that stands for what either commit sees
 pub record IsReadyMerge {S O R Q A : Type 0} (meaning : Meaning S O R Q A) (seen : SeenView (Move O R)) (commit clock : ℕ) (value : S) : Type 0 where
-  pub there : commit < length (store_of seen.history).commits
-  pub above : reaches (graph_of (store_of seen.history).commits) seen.head commit ≡ false
-  pub below : reaches (graph_of (store_of seen.history).commits) commit seen.head ≡ false
-  pub fits : merge_refusal meaning seen.limits (store_of seen.history).commits seen.head commit ≡ None
-  pub timed : clock ≡ max (clock_of (store_of seen.history).commits seen.head) (clock_of (store_of seen.history).commits commit)
-  pub stands : meaning.stands value (visible_at_all (store_of seen.history).commits (seen.head ∷ commit ∷ []))
+  pub there : commit < length (store_of seen.terms.origin seen.history).commits
+  pub above : reaches (graph_of (store_of seen.terms.origin seen.history).commits) seen.head commit ≡ false
+  pub below : reaches (graph_of (store_of seen.terms.origin seen.history).commits) commit seen.head ≡ false
+  pub fits : merge_refusal meaning seen.terms.limits (store_of seen.terms.origin seen.history).commits (seen.head ∷ commit ∷ []) ≡ None
+  pub timed : clock ≡ greatest_clock (store_of seen.terms.origin seen.history).commits (seen.head ∷ commit ∷ [])
+  pub stands : meaning.stands value (visible_at_all (store_of seen.terms.origin seen.history).commits (seen.head ∷ commit ∷ []))
 
 -- the head lies below the commit
-pub record IsReadyForward {O R : Type 0} (history : List (Move O R)) (head commit : ℕ) : Type 0 where
-  pub there : commit < length (store_of history).commits
-  pub above : reaches (graph_of (store_of history).commits) head commit ≡ false
-  pub below : IsTrue (reaches (graph_of (store_of history).commits) commit head)
+pub record IsReadyForward {O R : Type 0} (terms : Terms) (history : List (Move O R)) (head commit : ℕ) : Type 0 where
+  pub there : commit < length (store_of terms.origin history).commits
+  pub above : reaches (graph_of (store_of terms.origin history).commits) head commit ≡ false
+  pub below : IsTrue (reaches (graph_of (store_of terms.origin history).commits) commit head)
 
 -- the bytes are the spellings of these three
 pub record AreSpelled {S O R Q A : Type 0} (meaning : Meaning S O R Q A) (value : S) (op : O) (reply : R) (spelled : SpelledView) : Type 0 where
@@ -73,7 +74,7 @@ pub record AreSpelled {S O R Q A : Type 0} (meaning : Meaning S O R Q A) (value 
 abbrev pub IsReady : {S O R Q A : Type 0} → Meaning S O R Q A → SeenView (Move O R) → Ready S O R → Type 0
 IsReady meaning seen (ready.Operation time value op reply spelled) = IsReadyOperation meaning seen time value op reply × AreSpelled meaning value op reply spelled
 IsReady meaning seen (ready.Merge commit clock value spelled) = IsReadyMerge meaning seen commit clock value × (spelled ≡ meaning.state_spelling value)
-IsReady meaning seen (ready.Forward commit) = IsReadyForward seen.history seen.head commit
+IsReady meaning seen (ready.Forward commit) = IsReadyForward seen.terms seen.history seen.head commit
 
 -- such a merge of this commit
 abbrev pub IsMergeReady : {S O R Q A : Type 0} → Meaning S O R Q A → SeenView (Move O R) → ℕ → Ready S O R → Type 0
@@ -81,15 +82,16 @@ IsMergeReady meaning seen other (ready.Operation time value op reply spelled) = 
 IsMergeReady meaning seen other (ready.Merge commit clock value spelled) = (commit ≡ other) × IsReadyMerge meaning seen commit clock value × (spelled ≡ meaning.state_spelling value)
 IsMergeReady meaning seen other (ready.Forward commit) = ⊥
 
--- what is ready on a look, which is at a branch and its head
-pub record IsPrepared {S O R Q A : Type 0} (meaning : Meaning S O R Q A) (seen : SeenView (Move O R)) (branch head : ℕ) (made : Ready S O R) : Type 0 where
+-- what is ready on a look, which is at a branch of an origin, and its head
+pub record IsPrepared {S O R Q A : Type 0} (meaning : Meaning S O R Q A) (seen : SeenView (Move O R)) (origin branch head : ℕ) (made : Ready S O R) : Type 0 where
   pub look : IsSeen meaning seen
+  pub own : origin ≡ seen.terms.origin + seen.branch
   pub at_branch : branch ≡ seen.branch
   pub newest : head ≡ seen.head
   pub ready : IsReady meaning seen made
 
 -- a look and another commit of its history, with that commit's clock, and the nodes of the history's commits
 pub record IsPair {S O R Q A : Type 0} (meaning : Meaning S O R Q A) (seen : SeenView (Move O R)) (other clock : ℕ) (nodes : NodesView S) : Type 0 where
-  pub there : other < length (store_of seen.history).commits
-  pub timed : clock ≡ clock_of (store_of seen.history).commits other
-  pub nodes_are : AreNodesOf meaning (store_of seen.history).commits nodes
+  pub there : other < length (store_of seen.terms.origin seen.history).commits
+  pub timed : clock ≡ clock_of (store_of seen.terms.origin seen.history).commits other
+  pub nodes_are : AreNodesOf meaning (store_of seen.terms.origin seen.history).commits nodes

@@ -1,11 +1,11 @@
 -- What a core keeps of its history, and the commit that a move adds to it.
-use Rattle.std.specs.Prelude.{◌≡◌, ℕ, ◌<◌, List, [], ◌∷◌, ◌++◌, All, length, take, slice_get, Some, None}
+use Rattle.std.specs.Prelude.{◌≡◌, ℕ, ◌+◌, ◌<◌, List, [], ◌∷◌, ◌++◌, All, length, take, slice_get, Some, None}
 use Rattle.std.specs.declared.option.Option.{Option}
 use Rattle.mrdt_model.specs.Executions.{Event}
 use Rattle.mrdt_model.specs.Laws.{Meaning}
 use Rattle.branch_graph.specs.Graph.{Ancestry}
-use Rattle.branch_names.specs.declared.limits.Limits.{Limits}
-use Rattle.branch_names.specs.Heads.{Table}
+use Rattle.branch_names.specs.declared.terms.Terms.{Terms}
+use Rattle.branch_names.specs.Heads.{Table, IsKeptBranch}
 use Rattle.branch_history.specs.declared.moves.Move.{Move}
 use Rattle.branch_history.specs.Commits.{graph_of, visible}
 use Rattle.branch_history.specs.History.{store_of, with_commit}
@@ -24,20 +24,20 @@ AreFoldsOf meaning nodes None = Unit {0}
 AreFoldsOf meaning nodes (Some memo) = (0 < length nodes.graph.commits) × IsMemoOf meaning nodes memo
 
 -- a valid history, the table of its branches, the graph of its commits, and a clock and a value for each of these
-pub record IsCore {S O R Q A : Type 0} (meaning : Meaning S O R Q A) (limits : Limits) (history : List (Move O R)) (table : Table) (graph : Ancestry) (clocks : List ℕ) (values : List S) : Type 0 where
-  pub valid : IsValid meaning limits history
-  pub heads : table ≡ record { limit = limits.branches; branches = (store_of history).branches }
-  pub parents : graph ≡ record { limit = limits.commits; commits = graph_of (store_of history).commits }
-  pub count : length clocks ≡ length (store_of history).commits
-  pub valued : length values ≡ length (store_of history).commits
-  pub each : (n clock : ℕ) (value : S) → slice_get clocks n ≡ Some clock → slice_get values n ≡ Some value → IsNode meaning (store_of history).commits n clock value
+pub record IsCore {S O R Q A : Type 0} (meaning : Meaning S O R Q A) (terms : Terms) (history : List (Move O R)) (table : Table) (graph : Ancestry) (clocks : List ℕ) (values : List S) : Type 0 where
+  pub valid : IsValid meaning terms history
+  pub heads : table ≡ record { limit = terms.limits.branches; branches = (store_of terms.origin history).branches }
+  pub parents : graph ≡ record { limit = terms.limits.commits; commits = graph_of (store_of terms.origin history).commits }
+  pub count : length clocks ≡ length (store_of terms.origin history).commits
+  pub valued : length values ≡ length (store_of terms.origin history).commits
+  pub each : (n clock : ℕ) (value : S) → slice_get clocks n ≡ Some clock → slice_get values n ≡ Some value → IsNode meaning (store_of terms.origin history).commits n clock value
 
--- after a history, a move makes a commit on a branch, with these parents, a clock and a value
-pub record AddsCommit {S O R Q A : Type 0} (meaning : Meaning S O R Q A) (limits : Limits) (history : List (Move O R)) (made : Move O R) (branch : ℕ) (parents : List ℕ) (clock : ℕ) (value : S) : Type 0 where
-  pub moves : IsMove meaning limits history made
-  pub there : branch < length (store_of history).branches
-  pub room : length (store_of history).commits < limits.commits
-  pub below : All (λ p. p < length (store_of history).commits) parents
+-- after a history, a move makes a commit on a branch that was not dropped, with these parents, a clock and a value
+pub record AddsCommit {S O R Q A : Type 0} (meaning : Meaning S O R Q A) (terms : Terms) (history : List (Move O R)) (made : Move O R) (branch : ℕ) (parents : List ℕ) (clock : ℕ) (value : S) : Type 0 where
+  pub moves : IsMove meaning terms history made
+  pub there : IsKeptBranch (store_of terms.origin history).branches branch
+  pub room : length (store_of terms.origin history).commits < terms.limits.commits
+  pub below : All (λ p. p < length (store_of terms.origin history).commits) parents
   pub event : Option (Event O R)
-  pub store : store_of (history ++ made ∷ []) ≡ with_commit (store_of history) (record { parents = parents; branch = branch; clock = clock; event = event })
-  pub stands : meaning.stands value (visible (store_of (history ++ made ∷ [])).commits (length (store_of history).commits))
+  pub store : store_of terms.origin (history ++ made ∷ []) ≡ with_commit (store_of terms.origin history) branch (record { parents = parents; origin = terms.origin + branch; clock = clock; event = event })
+  pub stands : meaning.stands value (visible (store_of terms.origin (history ++ made ∷ [])).commits (length (store_of terms.origin history).commits))

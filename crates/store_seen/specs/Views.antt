@@ -1,22 +1,22 @@
 -- What a core, a look and a prepared step are to a contract.
 use Rattle.std.specs.Prelude.{ℕ, List}
-use Rattle.branch_names.specs.declared.limits.Limits.{Limits}
+use Rattle.branch_names.specs.declared.terms.Terms.{Terms}
 use Rattle.branch_history.specs.declared.moves.Move.{Move}
 
--- a core: its history of moves M, and the limits that it was made under
+-- a core: its history of moves M, and the terms that it was made under
 pub record CoreView (M : Type 0) : Type 0 where
   pub history : List M
-  pub limits : Limits
+  pub terms : Terms
 
 -- a core, with the address of each commit's object by number
 pub record VersionsView (M : Type 0) : Type 0 where
   pub core : CoreView M
   pub addresses : List (List ℕ)
 
--- a look: the history and the limits of the core when it was taken, the branch's number and its head
+-- a look: the history and the terms of the core when it was taken, the branch's number and its head
 pub record SeenView (M : Type 0) : Type 0 where
   pub history : List M
-  pub limits : Limits
+  pub terms : Terms
   pub branch : ℕ
   pub head : ℕ
 
@@ -37,10 +37,10 @@ pub record SpelledView : Type 0 where
   pub op : List ℕ
   pub reply : List ℕ
 
--- a look and another commit: the history and the limits of the core when they were paired, the branch's number, the head that was seen, and the commit
+-- a look and another commit: the history and the terms of the core when they were paired, the branch's number, the head that was seen, and the commit
 pub record PairView (M : Type 0) : Type 0 where
   pub history : List M
-  pub limits : Limits
+  pub terms : Terms
   pub branch : ℕ
   pub head : ℕ
   pub other : ℕ

@@ -1,8 +1,8 @@
 -- What is written of a prepared work.
-use Rattle.std.specs.Prelude.{◌≡◌, ℕ, ◌+◌, ◌<◌, max, List, [], ◌∷◌, length}
+use Rattle.std.specs.Prelude.{◌≡◌, ℕ, ◌+◌, ◌<◌, List, [], ◌∷◌, length}
 use Rattle.mrdt_model.specs.Laws.{Meaning}
 use Rattle.branch_history.specs.declared.moves.Move.{Move}
-use Rattle.branch_history.specs.Commits.{clock_of, visible, visible_at_all}
+use Rattle.branch_history.specs.Commits.{clock_of, greatest_clock, visible, visible_at_all}
 use Rattle.branch_history.specs.History.{store_of}
 use Rattle.branch_history.specs.Machine.{event_made}
 use Rattle.store_seen.specs.declared.prepared.Written.{Written}
@@ -11,18 +11,18 @@ use Rattle.store_seen.specs.Views.{SeenView, PreparedView, Work, Operation, Merg
 
 -- of an operation: the clock after the head's, and the spellings of the value of what is visible there with the new event, of the operation, and of the reply that what is visible determines
 pub record IsWrittenOperation {S O R Q A : Type 0} (meaning : Meaning S O R Q A) (seen : SeenView (Move O R)) (op : O) (reply : R) (clock : ℕ) (value_bytes op_bytes reply_bytes : List ℕ) : Type 0 where
-  pub clock_is : clock ≡ clock_of (store_of seen.history).commits seen.head + 1
-  pub replies : reply ≡ meaning.reply_of (visible (store_of seen.history).commits seen.head) op
-  pub value_is : value_bytes ≡ meaning.spelling_of (event_made meaning (store_of seen.history).commits seen.branch seen.head op ∷ visible (store_of seen.history).commits seen.head)
+  pub clock_is : clock ≡ clock_of (store_of seen.terms.origin seen.history).commits seen.head + 1
+  pub replies : reply ≡ meaning.reply_of (visible (store_of seen.terms.origin seen.history).commits seen.head) op
+  pub value_is : value_bytes ≡ meaning.spelling_of (event_made meaning (store_of seen.terms.origin seen.history).commits (seen.terms.origin + seen.branch) seen.head op ∷ visible (store_of seen.terms.origin seen.history).commits seen.head)
   pub op_is : op_bytes ≡ meaning.op_spelling op
   pub reply_is : reply_bytes ≡ meaning.reply_spelling reply
 
 -- of a merge of a commit of the history: this commit, the greater of the two clocks, and the spelling of the value of what is visible at either
 pub record IsWrittenMerge {S O R Q A : Type 0} (meaning : Meaning S O R Q A) (seen : SeenView (Move O R)) (commit other clock : ℕ) (value_bytes : List ℕ) : Type 0 where
   pub other_is : other ≡ commit
-  pub there : commit < length (store_of seen.history).commits
-  pub clock_is : clock ≡ max (clock_of (store_of seen.history).commits seen.head) (clock_of (store_of seen.history).commits commit)
-  pub value_is : value_bytes ≡ meaning.spelling_of (visible_at_all (store_of seen.history).commits (seen.head ∷ commit ∷ []))
+  pub there : commit < length (store_of seen.terms.origin seen.history).commits
+  pub clock_is : clock ≡ greatest_clock (store_of seen.terms.origin seen.history).commits (seen.head ∷ commit ∷ [])
+  pub value_is : value_bytes ≡ meaning.spelling_of (visible_at_all (store_of seen.terms.origin seen.history).commits (seen.head ∷ commit ∷ []))
 
 -- what is written is that of the work: of a move up, the commit
 abbrev pub IsWrittenWork : {S O R Q A : Type 0} → Meaning S O R Q A → SeenView (Move O R) → Work O R → Written → Type 0
@@ -34,7 +34,7 @@ IsWrittenWork meaning seen (Merge commit) (written.Merge other clock value_bytes
 IsWrittenWork meaning seen (Merge commit) (written.Forward other) = ⊥
 IsWrittenWork meaning seen (Forward commit) (written.Operation clock value_bytes op_bytes reply_bytes) = ⊥
 IsWrittenWork meaning seen (Forward commit) (written.Merge other clock value_bytes) = ⊥
-IsWrittenWork meaning seen (Forward commit) (written.Forward other) = (other ≡ commit) × (commit < length (store_of seen.history).commits)
+IsWrittenWork meaning seen (Forward commit) (written.Forward other) = (other ≡ commit) × (commit < length (store_of seen.terms.origin seen.history).commits)
 
 abbrev pub IsWritten : {S O R Q A : Type 0} → Meaning S O R Q A → PreparedView O R → Written → Type 0
 IsWritten meaning made is = IsWrittenWork meaning made.seen made.work is

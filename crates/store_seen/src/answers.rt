@@ -55,6 +55,9 @@ pub enum PairPrepareRefused {
 /// Why what was prepared did not land.
 #[derive(Clone, Copy, Debug, PartialEq, Eq, Error)]
 pub enum LandRefused {
+    /// The branch of this number was dropped.
+    #[error("branch {branch} was dropped")]
+    Dropped { branch: u32 },
     /// The branch's head is not the commit that was seen, but this newer one.
     #[error("the newest head is #{newest}")]
     Stale { newest: u32 },

@@ -17,7 +17,7 @@ use std::snapshot::Snapshot;
 use std::sync::Arc;
 use virtual_base::{Nodes, base};
 
-/// A look at a branch, and a commit to merge into it. Contracts see a `PairView`: the history and the limits of
+/// A look at a branch, and a commit to merge into it. Contracts see a `PairView`: the history and the terms of
 /// the core when the two were paired, the branch, the head that was seen, and the commit.
 #[derive(Drop)]
 pub struct Pair<T: Mrdt> {
@@ -36,7 +36,7 @@ impl<T: Mrdt> Model for Pair<T> {
     ghost use Rattle.std.specs.Arc.{arc_value};
     ghost use Rattle.store_seen.specs.Keeps.{IsPair};
 
-    ghost view = { λ p. record { history = p.seen.history; limits = p.seen.limits; branch = p.seen.branch; head = p.seen.head; other = p.other } };
+    ghost view = { λ p. record { history = p.seen.history; terms = p.seen.terms; branch = p.seen.branch; head = p.seen.head; other = p.other } };
 
     ghost invariant = { λ p. IsPair T.meaning p.seen p.other p.clock (arc_value p.nodes) };
 }
@@ -77,6 +77,7 @@ impl<T: Mrdt> Pair<T> {
         if self.nodes.reaches(self.other, head)? {
             return Ok(Some(PairStep::Land(Prepared {
                 seen: Snapshot::of(seen),
+                origin: seen.origin(),
                 branch,
                 head,
                 ready: Ready::Forward { commit: self.other },
@@ -87,7 +88,7 @@ impl<T: Mrdt> Pair<T> {
 
     // The base of the two commits.
     fn base(&self) -> Result<T, Memory>
-        ensures { IfOk result (IsBaseAt T.meaning (store_of self.now.history).commits self.now.head self.now.other) }
+        ensures { IfOk result (IsBaseAt T.meaning (store_of self.now.terms.origin self.now.history).commits self.now.head self.now.other) }
     {
         let seen = &self.seen;
         let base = base(&self.nodes, &[seen.head], &[self.other])?;
@@ -97,7 +98,7 @@ impl<T: Mrdt> Pair<T> {
     // Makes the merge over this base ready, where neither commit reaches the other.
     pub(crate) fn prepare_over(&self, base: &T) -> Result<PairStep<T>, PairPrepareRefused>
         requires apart { IsApart self.now }
-        requires base { IsBaseAt T.meaning (store_of self.now.history).commits self.now.head self.now.other base.now }
+        requires base { IsBaseAt T.meaning (store_of self.now.terms.origin self.now.history).commits self.now.head self.now.other base.now }
         ensures step { IfOk result (IsStepOf T.meaning self.now) }
         ensures refused { IfErr result (MergeRefusedAs T.meaning self.now) }
     {
@@ -105,6 +106,7 @@ impl<T: Mrdt> Pair<T> {
         let ready = self.merged(base)?;
         Ok(PairStep::Land(Prepared {
             seen: Snapshot::of(seen),
+            origin: seen.origin(),
             branch: seen.branch,
             head: seen.head,
             ready,
@@ -114,9 +116,9 @@ impl<T: Mrdt> Pair<T> {
     // The merge of the two commits over this base, of which neither reaches the other, unless its value's spelling is
     // too long.
     fn merged(&self, base: &T) -> Result<Ready<T, T::Op, T::Reply>, PairPrepareRefused>
-        requires above { reaches (graph_of (store_of self.now.history).commits) self.now.head self.now.other ≡ false }
-        requires below { reaches (graph_of (store_of self.now.history).commits) self.now.other self.now.head ≡ false }
-        requires base { IsBaseAt T.meaning (store_of self.now.history).commits self.now.head self.now.other base.now }
+        requires above { reaches (graph_of (store_of self.now.terms.origin self.now.history).commits) self.now.head self.now.other ≡ false }
+        requires below { reaches (graph_of (store_of self.now.terms.origin self.now.history).commits) self.now.other self.now.head ≡ false }
+        requires base { IsBaseAt T.meaning (store_of self.now.terms.origin self.now.history).commits self.now.head self.now.other base.now }
         ensures ready { IfOk result (IsMergeReady T.meaning (seen_of self.now) self.now.other) }
         ensures refused { IfErr result (MergeRefusedAs T.meaning self.now) }
     {
@@ -125,7 +127,7 @@ impl<T: Mrdt> Pair<T> {
         let mut bytes = Vec::new(seen.alloc);
         value.put(&mut bytes)?;
         let length = bytes.len() as u64;
-        if length > seen.limits.value {
+        if length > seen.terms.limits.value {
             return Err(PairPrepareRefused::ValueTooLarge { length });
         }
         Ok(Ready::Merge {
@@ -138,8 +140,8 @@ impl<T: Mrdt> Pair<T> {
 
     // The merge of the values of the two commits, over their base.
     fn merged_value(&self, base: &T) -> Result<T, Memory>
-        requires { IsBaseAt T.meaning (store_of self.now.history).commits self.now.head self.now.other base.now }
-        ensures { IfOk result (λ value. T.meaning.stands value (visible_at_all (store_of self.now.history).commits (self.now.head ∷ self.now.other ∷ []))) }
+        requires { IsBaseAt T.meaning (store_of self.now.terms.origin self.now.history).commits self.now.head self.now.other base.now }
+        ensures { IfOk result (λ value. T.meaning.stands value (visible_at_all (store_of self.now.terms.origin self.now.history).commits (self.now.head ∷ self.now.other ∷ []))) }
     {
         merges_lists::<T>();
         sees_alone::<T>();

@@ -1,5 +1,5 @@
 // What is ready to land.
-ghost use Rattle.std.specs.Prelude.{◌≡◌, ◌<◌, length, IfOk};
+ghost use Rattle.std.specs.Prelude.{◌≡◌, ◌+◌, ◌<◌, length, IfOk};
 ghost use Rattle.branch_history.specs.History.{store_of};
 ghost use Rattle.store_seen.specs.Keeps.{IsSeen};
 ghost use Rattle.store_seen.specs.Written.{IsWritten};
@@ -39,6 +39,7 @@ pub(crate) enum Ready<T, O, R> {
 #[derive(Drop)]
 pub struct Prepared<T: Mrdt> {
     pub(crate) seen: Snapshot<Seen<T>>,
+    pub(crate) origin: u32,
     pub(crate) branch: u32,
     pub(crate) head: u32,
     pub(crate) ready: Ready<T, T::Op, T::Reply>,
@@ -53,7 +54,7 @@ impl<T: Mrdt> Model for Prepared<T> {
 
     ghost view = { λ p. record { seen = p.seen.value; work = work_of p.ready } };
 
-    ghost invariant = { λ p. IsPrepared T.meaning p.seen.value p.branch p.head p.ready };
+    ghost invariant = { λ p. IsPrepared T.meaning p.seen.value p.origin p.branch p.head p.ready };
 }
 
 /// What is written of a work that is ready: of an operation its commit's clock, and the spellings of the new value,
@@ -86,10 +87,17 @@ impl<T: Mrdt> Prepared<T> {
         self.branch
     }
 
+    /// The origin of that branch.
+    pub fn origin(&self) -> u32
+        ensures { result ≡ self.now.seen.terms.origin + self.now.seen.branch }
+    {
+        self.origin
+    }
+
     /// The commit that was seen, which the history has.
     pub fn head(&self) -> u32
         ensures head { result ≡ self.now.seen.head }
-        ensures within { self.now.seen.head < length (store_of self.now.seen.history).commits }
+        ensures within { self.now.seen.head < length (store_of self.now.seen.terms.origin self.now.seen.history).commits }
     {
         self.head
     }

@@ -1,9 +1,10 @@
 // The core's half in memory: a history, and the value of each of its commits.
-ghost use Rattle.std.specs.Prelude.{◌≡◌, ◌≢◌, ◌<◌, ◌≤◌, ℕ, List, [], ◌∷◌, ◌++◌, length, slice_get, IfOk, IfErr, IfSome, OnOk, OnErr, Some, None};
+ghost use Rattle.std.specs.Prelude.{◌≡◌, ◌≢◌, ◌<◌, ◌≤◌, ℕ, false, List, [], ◌∷◌, ◌++◌, length, slice_get, IfOk, IfErr, IfSome, OnOk, OnErr, Some, None};
 ghost use Rattle.std.specs.Option.{option_map};
 ghost use mathlib.Core.List.{IsPrefix};
 ghost use Rattle.branch_graph.specs.Graph.{reaches};
-ghost use Rattle.branch_names.specs.Heads.{Branch, branch_named, head_of, with_head};
+ghost use Rattle.branch_names.specs.Heads.{branch_named, head_of, is_dropped, with_head, IsKeptBranch};
+ghost use Rattle.branch_names.specs.declared.branch.Branch.{Branch};
 ghost use Rattle.branch_history.specs.Commits.{graph_of};
 ghost use Rattle.branch_history.specs.History.{store_of};
 ghost use Rattle.branch_history.specs.Machine.{turn, answers, commit_refusal, forward_refusal};
@@ -23,7 +24,7 @@ use crate::seen::Seen;
 use crate::shared::SharedNodes;
 use crate::spelled::Spelled;
 use branch_history::Move;
-use branch_names::{Heads, Limits, Name};
+use branch_names::{Heads, Name, Terms};
 use mrdt_model::{Memory, Mrdt, Time};
 use std::alloc::Global;
 use std::marker::Model;
@@ -31,11 +32,11 @@ use std::snapshot::Snapshot;
 use std::sync::Arc;
 
 /// A history of accepted moves, with what each commit of it has. Contracts see a `VersionsView`: the history and
-/// the limits, and the address of each commit's object.
+/// the terms, and the address of each commit's object.
 #[derive(Drop)]
 pub struct Versions<T: Mrdt> {
     alloc: Global,
-    limits: Limits,
+    terms: Terms,
     moves: Vec<Move<T::Op, T::Reply>>,
     heads: Heads,
     clocks: Vec<u64>,
@@ -50,9 +51,9 @@ impl<T: Mrdt> Model for Versions<T> {
 
     ghost use Rattle.store_seen.specs.Nodes.{IsCore};
 
-    ghost view = { λ v. record { core = record { history = v.moves.items; limits = v.limits }; addresses = v.nodes.addresses } };
+    ghost view = { λ v. record { core = record { history = v.moves.items; terms = v.terms }; addresses = v.nodes.addresses } };
 
-    ghost invariant = { λ v. IsCore T.meaning v.limits v.moves.items v.heads v.nodes.graph v.clocks.items v.nodes.values };
+    ghost invariant = { λ v. IsCore T.meaning v.terms v.moves.items v.heads v.nodes.graph v.clocks.items v.nodes.values };
 }
 
 // Where a commit is to stand: on a branch, above its head, with the address of its object.
@@ -65,17 +66,17 @@ struct Place {
 
 impl<T: Mrdt> Versions<T> {
     /// The empty history, with `main` at commit 0, whose object has the address `root`.
-    pub fn fresh(alloc: Global, limits: Limits, root: [u8; 32]) -> Result<Versions<T>, Memory>
-        ensures { IfOk result (λ versions. versions ≡ record { core = record { history = []; limits = limits }; addresses = root ∷ [] }) }
+    pub fn fresh(alloc: Global, terms: Terms, root: [u8; 32]) -> Result<Versions<T>, Memory>
+        ensures { IfOk result (λ versions. versions ≡ record { core = record { history = []; terms = terms }; addresses = root ∷ [] }) }
     {
-        let heads = Heads::new(alloc, limits.branches)?;
+        let heads = Heads::new(alloc, terms.limits.branches)?;
         let mut clocks = Vec::new(alloc);
         clocks.push(0)?;
-        let mut nodes = SharedNodes::new(alloc, limits.commits)?;
+        let mut nodes = SharedNodes::new(alloc, terms.limits.commits)?;
         let _ = nodes.push(T::initial(alloc), &[], root)?;
         Ok(Versions {
             alloc,
-            limits,
+            terms,
             moves: Vec::new(alloc),
             heads,
             clocks,
@@ -86,37 +87,40 @@ impl<T: Mrdt> Versions<T> {
     /// How many moves the history has, which is a valid one.
     pub fn moves(&self) -> u64
         ensures moves { result ≡ length self.now.core.history }
-        ensures valid { IsValid T.meaning self.now.core.limits self.now.core.history }
+        ensures valid { IsValid T.meaning self.now.core.terms self.now.core.history }
     {
         self.moves.len() as u64
     }
 
     /// How many commits the store holds, commit 0 counted. Each has an address.
     pub fn commits(&self) -> u32
-        ensures count { result ≡ length (store_of self.now.core.history).commits }
-        ensures addressed { length self.now.addresses ≡ length (store_of self.now.core.history).commits }
+        ensures count { result ≡ length (store_of self.now.core.terms.origin self.now.core.history).commits }
+        ensures addressed { length self.now.addresses ≡ length (store_of self.now.core.terms.origin self.now.core.history).commits }
     {
         self.nodes.count()
     }
 
-    /// How many branches the store holds, `main` counted.
+    /// How many branches the store holds, `main` and those that were dropped counted.
     pub fn branches(&self) -> u32
-        ensures { result ≡ length (store_of self.now.core.history).branches }
+        ensures { result ≡ length (store_of self.now.core.terms.origin self.now.core.history).branches }
     {
         self.heads.count()
     }
 
-    /// The limits that it was made under.
-    pub fn limits(&self) -> Limits
-        ensures { result ≡ self.now.core.limits }
+    /// The terms that it was made under.
+    pub fn terms(&self) -> Terms
+        ensures { result ≡ self.now.core.terms }
     {
-        self.limits
+        self.terms
     }
 
-    /// The name and the head of a branch; `None` exactly past the last branch. No other branch has the name.
+    /// The name and the head of a branch, of a dropped one those that it had; `None` exactly past the last branch. No
+    /// other branch has the name of one that was not dropped.
     pub fn branch(&self, number: u32) -> Option<(Name, u32)>
-        ensures named { IfSome result (λ found. branch_named (store_of self.now.core.history).branches found.0 ≡ Some number) }
-        ensures found { result ≡ option_map (λ (b : Branch). (b.name, b.head)) (slice_get (store_of self.now.core.history).branches number) }
+        ensures named { IfSome result (λ found.
+            is_dropped (store_of self.now.core.terms.origin self.now.core.history).branches number ≡ false
+            → branch_named (store_of self.now.core.terms.origin self.now.core.history).branches found.0 ≡ Some number) }
+        ensures found { result ≡ option_map (λ (b : Branch). (b.name, b.head)) (slice_get (store_of self.now.core.terms.origin self.now.core.history).branches number) }
     {
         if number < self.heads.count() {
             Some((self.heads.name(number), self.heads.head(number)))
@@ -125,18 +129,27 @@ impl<T: Mrdt> Versions<T> {
         }
     }
 
-    /// The number of the branch with a name; `None` exactly where no branch has it.
+    /// Whether a branch was dropped.
+    pub fn is_dropped(&self, number: u32) -> bool
+        requires { number < length (store_of self.now.core.terms.origin self.now.core.history).branches }
+        ensures { result ≡ is_dropped (store_of self.now.core.terms.origin self.now.core.history).branches number }
+    {
+        self.heads.is_dropped(number)
+    }
+
+    /// The number of the branch with a name; `None` exactly where no branch has it, or it was dropped.
     pub fn find(&self, name: &Name) -> Option<u32>
-        ensures { result ≡ branch_named (store_of self.now.core.history).branches name.now }
+        ensures number { result ≡ branch_named (store_of self.now.core.terms.origin self.now.core.history).branches name.now }
+        ensures kept { IfSome result (IsKeptBranch (store_of self.now.core.terms.origin self.now.core.history).branches) }
     {
         self.heads.find(name)
     }
 
     /// Whether a commit is another one or lies above it.
     pub fn reaches(&self, above: u32, below: u32) -> Result<bool, Memory>
-        requires above { above < length (store_of self.now.core.history).commits }
-        requires below { below < length (store_of self.now.core.history).commits }
-        ensures { IfOk result (λ is. is ≡ reaches (graph_of (store_of self.now.core.history).commits) above below) }
+        requires above { above < length (store_of self.now.core.terms.origin self.now.core.history).commits }
+        requires below { below < length (store_of self.now.core.terms.origin self.now.core.history).commits }
+        ensures { IfOk result (λ is. is ≡ reaches (graph_of (store_of self.now.core.terms.origin self.now.core.history).commits) above below) }
     {
         let nodes = self.nodes.share()?;
         nodes.reaches(above, below)
@@ -144,9 +157,9 @@ impl<T: Mrdt> Versions<T> {
 
     /// The address of a commit's object.
     pub fn address(&self, number: u32) -> &[u8; 32]
-        requires { number < length (store_of self.now.core.history).commits }
+        requires { number < length (store_of self.now.core.terms.origin self.now.core.history).commits }
         ensures address { slice_get self.now.addresses number ≡ Some result.now }
-        ensures addressed { length self.now.addresses ≡ length (store_of self.now.core.history).commits }
+        ensures addressed { length self.now.addresses ≡ length (store_of self.now.core.terms.origin self.now.core.history).commits }
     {
         let _count = self.nodes.count();
         self.nodes.address(number)
@@ -154,8 +167,8 @@ impl<T: Mrdt> Versions<T> {
 
     /// Looks at the branch with a name. `UnknownBranch` comes exactly where no branch has it.
     pub fn look(&self, name: &Name) -> Result<Seen<T>, LookRefused>
-        ensures on { IfOk result (λ seen. (seen.history ≡ self.now.core.history) × (seen.limits ≡ self.now.core.limits)) }
-        ensures sees { IfOk result (λ seen. turn T.meaning self.now.core.limits self.now.core.history (machine.Look name.now) ≡ answers (machine.Sees seen.branch seen.head)) }
+        ensures on { IfOk result (λ seen. (seen.history ≡ self.now.core.history) × (seen.terms ≡ self.now.core.terms)) }
+        ensures sees { IfOk result (λ seen. turn T.meaning self.now.core.terms self.now.core.history (machine.Look name.now) ≡ answers (machine.Sees seen.branch seen.head)) }
         ensures refused { IfErr result (LookRefusedAs T.meaning self.now.core name.now) }
     {
         let Some(branch) = self.heads.find(name) else {
@@ -165,7 +178,7 @@ impl<T: Mrdt> Versions<T> {
         Ok(Seen {
             alloc: self.alloc,
             history: Snapshot::of(&self.moves),
-            limits: self.limits,
+            terms: self.terms,
             moves: self.moves.len() as u64,
             branch,
             head,
@@ -178,7 +191,7 @@ impl<T: Mrdt> Versions<T> {
     /// exactly where no branch has the name.
     pub fn pair(&self, seen: &Seen<T>, from: &Name) -> Result<Pair<T>, PairRefused>
         requires history { IsPrefix seen.now.history self.now.core.history }
-        requires limits { seen.now.limits ≡ self.now.core.limits }
+        requires terms { seen.now.terms ≡ self.now.core.terms }
         ensures paired { IfOk result (IsPaired T.meaning self.now.core seen.now from.now) }
         ensures refused { IfErr result (PairRefusedAs T.meaning self.now.core from.now) }
     {
@@ -192,9 +205,9 @@ impl<T: Mrdt> Versions<T> {
     /// Pairs a look at this core, taken now or earlier, with a commit.
     pub fn pair_at(&self, seen: &Seen<T>, other: u32) -> Result<Pair<T>, Memory>
         requires history { IsPrefix seen.now.history self.now.core.history }
-        requires limits { seen.now.limits ≡ self.now.core.limits }
-        requires there { other < length (store_of self.now.core.history).commits }
-        ensures { IfOk result (λ pair. pair ≡ record { history = self.now.core.history; limits = self.now.core.limits; branch = seen.now.branch; head = seen.now.head; other = other }) }
+        requires terms { seen.now.terms ≡ self.now.core.terms }
+        requires there { other < length (store_of self.now.core.terms.origin self.now.core.history).commits }
+        ensures { IfOk result (λ pair. pair ≡ record { history = self.now.core.history; terms = self.now.core.terms; branch = seen.now.branch; head = seen.now.head; other = other }) }
     {
         let seen = self.seen_again(seen)?;
         Ok(Pair {
@@ -213,8 +226,8 @@ impl<T: Mrdt> Versions<T> {
         other: u32,
     ) -> Result<PairStep<T>, PairPrepareRefused>
         requires history { IsPrefix seen.now.history self.old.core.history }
-        requires limits { seen.now.limits ≡ self.old.core.limits }
-        requires there { other < length (store_of self.old.core.history).commits }
+        requires terms { seen.now.terms ≡ self.old.core.terms }
+        requires there { other < length (store_of self.old.core.terms.origin self.old.core.history).commits }
         ensures step { IfOk result (IsStepOf T.meaning (paired_at self.old.core seen.now other)) }
         ensures refused { IfErr result (MergeRefusedAs T.meaning (paired_at self.old.core seen.now other)) }
         ensures same { self.new ≡ self.old }
@@ -229,9 +242,9 @@ impl<T: Mrdt> Versions<T> {
 
     // The base of two commits.
     fn base_at(&mut self, left: u32, right: u32) -> Result<T, Memory>
-        requires left { left < length (store_of self.old.core.history).commits }
-        requires right { right < length (store_of self.old.core.history).commits }
-        ensures base { IfOk result (IsBaseAt T.meaning (store_of self.old.core.history).commits left right) }
+        requires left { left < length (store_of self.old.core.terms.origin self.old.core.history).commits }
+        requires right { right < length (store_of self.old.core.terms.origin self.old.core.history).commits }
+        ensures base { IfOk result (IsBaseAt T.meaning (store_of self.old.core.terms.origin self.old.core.history).commits left right) }
         ensures same { self.new ≡ self.old }
     {
         let _count = self.nodes.count();
@@ -258,13 +271,13 @@ impl<T: Mrdt> Versions<T> {
     // The branch and the commit of a look, at the history of now.
     fn seen_again(&self, seen: &Seen<T>) -> Result<Seen<T>, Memory>
         requires history { IsPrefix seen.now.history self.now.core.history }
-        requires limits { seen.now.limits ≡ self.now.core.limits }
+        requires terms { seen.now.terms ≡ self.now.core.terms }
         ensures { IfOk result (λ again. again ≡ at_head self.now.core seen.now.branch seen.now.head) }
     {
         Ok(Seen {
             alloc: self.alloc,
             history: Snapshot::of(&self.moves),
-            limits: self.limits,
+            terms: self.terms,
             moves: self.moves.len() as u64,
             branch: seen.branch,
             head: seen.head,
@@ -278,7 +291,7 @@ impl<T: Mrdt> Versions<T> {
     pub fn fork(&mut self, new: Name, from: &Name) -> Result<Forked, ForkRefused>
         ensures forked { IfOk result (Forks T.meaning new from.now self.old.core self.new.core) }
         ensures addresses { self.new.addresses ≡ self.old.addresses }
-        ensures before { OnOk result ((head : ℕ) → StoodBefore self.new.core.history head) }
+        ensures before { OnOk result ((head : ℕ) → StoodBefore self.new.core.terms self.new.core.history head) }
         ensures back { OnOk result (GoesBack self.new self.old) }
         ensures refused { IfErr result (ForkRefusedAs T.meaning new from.now self.old.core) }
         ensures kept { OnErr result (self.new ≡ self.old) }
@@ -290,11 +303,11 @@ impl<T: Mrdt> Versions<T> {
             return Err(ForkRefused::NameTaken { number });
         }
         let count = self.heads.count();
-        if count >= self.limits.branches {
+        if count >= self.terms.limits.branches {
             return Err(ForkRefused::FullBranches { count });
         }
         let moves = self.moves.len() as u64;
-        if moves >= self.limits.moves {
+        if moves >= self.terms.limits.moves {
             return Err(ForkRefused::FullMoves { count: moves });
         }
         Ok(self.add_branch(new, source)?)
@@ -302,13 +315,13 @@ impl<T: Mrdt> Versions<T> {
 
     // Adds a branch from the head of another: it takes all memory first, and then nothing fails.
     fn add_branch(&mut self, new: Name, source: u32) -> Result<Forked, Memory>
-        requires moves { IsMove T.meaning self.old.core.limits self.old.core.history (Move.Fork new (length (store_of self.old.core.history).branches) source) }
-        requires free { branch_named (store_of self.old.core.history).branches new ≡ None }
-        requires room { length (store_of self.old.core.history).branches < self.old.core.limits.branches }
-        requires source { source < length (store_of self.old.core.history).branches }
+        requires moves { IsMove T.meaning self.old.core.terms self.old.core.history (Move.Fork new (length (store_of self.old.core.terms.origin self.old.core.history).branches) source) }
+        requires free { branch_named (store_of self.old.core.terms.origin self.old.core.history).branches new ≡ None }
+        requires room { length (store_of self.old.core.terms.origin self.old.core.history).branches < self.old.core.terms.limits.branches }
+        requires source { source < length (store_of self.old.core.terms.origin self.old.core.history).branches }
         ensures added { IfOk result (BranchAdded new source self.old.core self.new.core) }
         ensures addresses { self.new.addresses ≡ self.old.addresses }
-        ensures before { OnOk result ((head : ℕ) → StoodBefore self.new.core.history head) }
+        ensures before { OnOk result ((head : ℕ) → StoodBefore self.new.core.terms self.new.core.history head) }
         ensures back { OnOk result (GoesBack self.new self.old) }
         ensures kept { OnErr result (self.new ≡ self.old) }
     {
@@ -334,11 +347,11 @@ impl<T: Mrdt> Versions<T> {
     }
 
     /// Whether what was prepared on a look at this core, now or earlier, may land. It is refused exactly as the
-    /// machine refuses it, `Stale` before `FullCommits`, which only a new commit meets, before `FullMoves`. It takes no
-    /// memory.
+    /// machine refuses it, `Dropped` before `Stale` before `FullCommits`, which only a new commit meets, before
+    /// `FullMoves`. It takes no memory.
     pub fn may_land(&self, prepared: &Prepared<T>) -> Result<(), LandRefused>
         requires history { IsPrefix prepared.now.seen.history self.now.core.history }
-        requires limits { prepared.now.seen.limits ≡ self.now.core.limits }
+        requires terms { prepared.now.seen.terms ≡ self.now.core.terms }
         ensures may { OnOk result (MayLand T.meaning prepared.now self.now.core) }
         ensures refused { IfErr result (LandRefusedAs T.meaning prepared.now self.now.core) }
         ensures decided { IfErr result (λ refusal. refusal ≢ LandRefused.Memory) }
@@ -352,19 +365,19 @@ impl<T: Mrdt> Versions<T> {
     }
 
     /// Lands what was prepared on a look at this core, now or earlier; a commit that it makes has an object with this
-    /// address. It is refused exactly as the machine refuses it, and then nothing has changed: `Stale` before
-    /// `FullCommits`, which only a new commit meets, before `FullMoves`. Where it may land, `Memory` alone is left.
-    /// What landed can be undone, with the head that was seen.
+    /// address. It is refused exactly as the machine refuses it, and then nothing has changed: `Dropped` before `Stale`
+    /// before `FullCommits`, which only a new commit meets, before `FullMoves`. Where it may land, `Memory` alone is
+    /// left. What landed can be undone, with the head that was seen.
     pub fn land(
         &mut self,
         prepared: Prepared<T>,
         address: [u8; 32],
     ) -> Result<Landed<T::Reply>, LandRefused>
         requires history { IsPrefix prepared.seen.history self.old.core.history }
-        requires limits { prepared.seen.limits ≡ self.old.core.limits }
+        requires terms { prepared.seen.terms ≡ self.old.core.terms }
         ensures landed { IfOk result (λ landed. LandsAs T.meaning prepared self.old.core self.new.core landed.moves landed.kind) }
         ensures addressed { OnOk result (self.new.addresses ≡ addresses_after prepared.work address self.old.addresses) }
-        ensures before { OnOk result (StoodBefore self.new.core.history prepared.seen.head) }
+        ensures before { OnOk result (StoodBefore self.new.core.terms self.new.core.history prepared.seen.head) }
         ensures back { OnOk result (GoesBack self.new self.old) }
         ensures refused { IfErr result (LandRefusedAs T.meaning prepared self.old.core) }
         ensures only { MayLand T.meaning prepared self.old.core → IfErr result (λ refusal. refusal ≡ LandRefused.Memory) }
@@ -374,6 +387,7 @@ impl<T: Mrdt> Versions<T> {
         let _ = &self.moves;
         let Prepared {
             seen: _,
+            origin: _,
             branch,
             head,
             ready,
@@ -411,14 +425,14 @@ impl<T: Mrdt> Versions<T> {
         reply: T::Reply,
         spelled: Spelled,
     ) -> Result<Landed<T::Reply>, LandRefused>
-        requires there { place.branch < length (store_of self.old.core.history).branches }
+        requires there { place.branch < length (store_of self.old.core.terms.origin self.old.core.history).branches }
         requires ready { IsReadyOperation T.meaning (at_head self.old.core place.branch place.head) time value op reply }
         requires spelled { AreSpelled T.meaning value op reply spelled }
         ensures landed { IfOk result (λ landed. Moves T.meaning self.old.core self.new.core (machine.Land place.branch place.head op) (Move.Operation place.branch op reply) (outcome_of landed.kind) landed.moves) }
         ensures addressed { OnOk result (self.new.addresses ≡ self.old.addresses ++ place.address ∷ []) }
-        ensures before { OnOk result (StoodBefore self.new.core.history place.head) }
+        ensures before { OnOk result (StoodBefore self.new.core.terms self.new.core.history place.head) }
         ensures back { OnOk result (GoesBack self.new self.old) }
-        ensures refused { IfErr result (RefusedBy (commit_refusal self.old.core.limits self.old.core.history place.branch place.head)) }
+        ensures refused { IfErr result (RefusedBy (commit_refusal self.old.core.terms self.old.core.history place.branch place.head)) }
         ensures kept { OnErr result (self.new ≡ self.old) }
     {
         self.may_add_commit(place.branch, place.head)?;
@@ -447,13 +461,13 @@ impl<T: Mrdt> Versions<T> {
         clock: u64,
         value: T,
     ) -> Result<Landed<T::Reply>, LandRefused>
-        requires there { place.branch < length (store_of self.old.core.history).branches }
+        requires there { place.branch < length (store_of self.old.core.terms.origin self.old.core.history).branches }
         requires ready { IsReadyMerge T.meaning (at_head self.old.core place.branch place.head) other clock value }
-        ensures landed { IfOk result (λ landed. Moves T.meaning self.old.core self.new.core (machine.Merge place.branch place.head other) (Move.Merge place.branch other) (outcome_of landed.kind) landed.moves) }
+        ensures landed { IfOk result (λ landed. Moves T.meaning self.old.core self.new.core (machine.Merge place.branch place.head (other ∷ [])) (Move.Merge place.branch other) (outcome_of landed.kind) landed.moves) }
         ensures addressed { OnOk result (self.new.addresses ≡ self.old.addresses ++ place.address ∷ []) }
-        ensures before { OnOk result (StoodBefore self.new.core.history place.head) }
+        ensures before { OnOk result (StoodBefore self.new.core.terms self.new.core.history place.head) }
         ensures back { OnOk result (GoesBack self.new self.old) }
-        ensures refused { IfErr result (RefusedBy (commit_refusal self.old.core.limits self.old.core.history place.branch place.head)) }
+        ensures refused { IfErr result (RefusedBy (commit_refusal self.old.core.terms self.old.core.history place.branch place.head)) }
         ensures kept { OnErr result (self.new ≡ self.old) }
     {
         self.may_add_commit(place.branch, place.head)?;
@@ -475,13 +489,13 @@ impl<T: Mrdt> Versions<T> {
         head: u32,
         commit: u32,
     ) -> Result<Landed<T::Reply>, LandRefused>
-        requires there { branch < length (store_of self.old.core.history).branches }
-        requires ready { IsReadyForward self.old.core.history head commit }
-        ensures landed { IfOk result (λ landed. Moves T.meaning self.old.core self.new.core (machine.Merge branch head commit) (Move.Forward branch commit) (outcome_of landed.kind) landed.moves) }
+        requires there { branch < length (store_of self.old.core.terms.origin self.old.core.history).branches }
+        requires ready { IsReadyForward self.old.core.terms self.old.core.history head commit }
+        ensures landed { IfOk result (λ landed. Moves T.meaning self.old.core self.new.core (machine.Merge branch head (commit ∷ [])) (Move.Forward branch commit) (outcome_of landed.kind) landed.moves) }
         ensures addressed { OnOk result (self.new.addresses ≡ self.old.addresses) }
-        ensures before { OnOk result (StoodBefore self.new.core.history head) }
+        ensures before { OnOk result (StoodBefore self.new.core.terms self.new.core.history head) }
         ensures back { OnOk result (GoesBack self.new self.old) }
-        ensures refused { IfErr result (RefusedBy (forward_refusal self.old.core.limits self.old.core.history branch head)) }
+        ensures refused { IfErr result (RefusedBy (forward_refusal self.old.core.terms self.old.core.history branch head)) }
         ensures kept { OnErr result (self.new ≡ self.old) }
     {
         self.may_move(branch, head)?;
@@ -496,13 +510,14 @@ impl<T: Mrdt> Versions<T> {
 
     // Whether a branch may move from the head that was seen.
     fn may_move(&self, branch: u32, head: u32) -> Result<(), LandRefused>
-        requires { branch < length (store_of self.now.core.history).branches }
-        ensures free { OnOk result (forward_refusal self.now.core.limits self.now.core.history branch head ≡ None) }
-        ensures newest { OnOk result (head_of (store_of self.now.core.history).branches branch ≡ head) }
-        ensures addressed { length self.now.addresses ≡ length (store_of self.now.core.history).commits }
-        ensures refused { IfErr result (RefusedBy (forward_refusal self.now.core.limits self.now.core.history branch head)) }
+        requires { branch < length (store_of self.now.core.terms.origin self.now.core.history).branches }
+        ensures free { OnOk result (forward_refusal self.now.core.terms self.now.core.history branch head ≡ None) }
+        ensures there { OnOk result (is_dropped (store_of self.now.core.terms.origin self.now.core.history).branches branch ≡ false) }
+        ensures newest { OnOk result (head_of (store_of self.now.core.terms.origin self.now.core.history).branches branch ≡ head) }
+        ensures addressed { length self.now.addresses ≡ length (store_of self.now.core.terms.origin self.now.core.history).commits }
+        ensures refused { IfErr result (RefusedBy (forward_refusal self.now.core.terms self.now.core.history branch head)) }
         ensures decided { IfErr result (λ refusal. refusal ≢ LandRefused.Memory) }
-        ensures valid { IsValid T.meaning self.now.core.limits self.now.core.history }
+        ensures valid { IsValid T.meaning self.now.core.terms self.now.core.history }
     {
         self.is_newest(branch, head)?;
         self.has_moves_left()?;
@@ -511,33 +526,39 @@ impl<T: Mrdt> Versions<T> {
 
     // Whether a branch may move from the head that was seen to a new commit.
     fn may_add_commit(&self, branch: u32, head: u32) -> Result<(), LandRefused>
-        requires { branch < length (store_of self.now.core.history).branches }
-        ensures free { OnOk result (commit_refusal self.now.core.limits self.now.core.history branch head ≡ None) }
-        ensures newest { OnOk result (head_of (store_of self.now.core.history).branches branch ≡ head) }
-        ensures addressed { length self.now.addresses ≡ length (store_of self.now.core.history).commits }
-        ensures refused { IfErr result (RefusedBy (commit_refusal self.now.core.limits self.now.core.history branch head)) }
+        requires { branch < length (store_of self.now.core.terms.origin self.now.core.history).branches }
+        ensures free { OnOk result (commit_refusal self.now.core.terms self.now.core.history branch head ≡ None) }
+        ensures there { OnOk result (is_dropped (store_of self.now.core.terms.origin self.now.core.history).branches branch ≡ false) }
+        ensures newest { OnOk result (head_of (store_of self.now.core.terms.origin self.now.core.history).branches branch ≡ head) }
+        ensures addressed { length self.now.addresses ≡ length (store_of self.now.core.terms.origin self.now.core.history).commits }
+        ensures refused { IfErr result (RefusedBy (commit_refusal self.now.core.terms self.now.core.history branch head)) }
         ensures decided { IfErr result (λ refusal. refusal ≢ LandRefused.Memory) }
-        ensures valid { IsValid T.meaning self.now.core.limits self.now.core.history }
+        ensures valid { IsValid T.meaning self.now.core.terms self.now.core.history }
     {
         self.is_newest(branch, head)?;
         let count = self.commits();
-        if count >= self.limits.commits {
+        if count >= self.terms.limits.commits {
             return Err(LandRefused::FullCommits { count });
         }
         self.has_moves_left()?;
         Ok(())
     }
 
-    // Whether the newest head of a branch is the one that was seen.
+    // Whether a branch was not dropped, and its newest head is the one that was seen.
     fn is_newest(&self, branch: u32, head: u32) -> Result<(), LandRefused>
-        requires { branch < length (store_of self.now.core.history).branches }
-        ensures newest { OnOk result (head_of (store_of self.now.core.history).branches branch ≡ head) }
-        ensures older { OnErr result (head_of (store_of self.now.core.history).branches branch ≢ head) }
-        ensures refused { IfErr result (λ refused. refused ≡ LandRefused.Stale (head_of (store_of self.now.core.history).branches branch)) }
-        ensures valid { IsValid T.meaning self.now.core.limits self.now.core.history }
-        ensures addressed { length self.now.addresses ≡ length (store_of self.now.core.history).commits }
+        requires { branch < length (store_of self.now.core.terms.origin self.now.core.history).branches }
+        ensures there { OnOk result (is_dropped (store_of self.now.core.terms.origin self.now.core.history).branches branch ≡ false) }
+        ensures newest { OnOk result (head_of (store_of self.now.core.terms.origin self.now.core.history).branches branch ≡ head) }
+        ensures forward { IfErr result (RefusedBy (forward_refusal self.now.core.terms self.now.core.history branch head)) }
+        ensures commit { IfErr result (RefusedBy (commit_refusal self.now.core.terms self.now.core.history branch head)) }
+        ensures decided { IfErr result (λ refusal. refusal ≢ LandRefused.Memory) }
+        ensures valid { IsValid T.meaning self.now.core.terms self.now.core.history }
+        ensures addressed { length self.now.addresses ≡ length (store_of self.now.core.terms.origin self.now.core.history).commits }
     {
         let _count = self.commits();
+        if self.heads.is_dropped(branch) {
+            return Err(LandRefused::Dropped { branch });
+        }
         let newest = self.heads.head(branch);
         if newest != head {
             return Err(LandRefused::Stale { newest });
@@ -547,12 +568,12 @@ impl<T: Mrdt> Versions<T> {
 
     // Whether the history may have one move more.
     fn has_moves_left(&self) -> Result<(), LandRefused>
-        ensures left { OnOk result (length self.now.core.history < self.now.core.limits.moves) }
-        ensures full { OnErr result (self.now.core.limits.moves ≤ length self.now.core.history) }
+        ensures left { OnOk result (length self.now.core.history < self.now.core.terms.limits.moves) }
+        ensures full { OnErr result (self.now.core.terms.limits.moves ≤ length self.now.core.history) }
         ensures refused { IfErr result (λ refused. refused ≡ LandRefused.FullMoves (length self.now.core.history)) }
     {
         let count = self.moves.len() as u64;
-        if count >= self.limits.moves {
+        if count >= self.terms.limits.moves {
             return Err(LandRefused::FullMoves { count });
         }
         Ok(())
@@ -567,8 +588,8 @@ impl<T: Mrdt> Versions<T> {
         clock: u64,
         value: T,
     ) -> Result<u32, Memory>
-        requires { AddsCommit T.meaning self.old.core.limits self.old.core.history made place.now.branch parents.now clock value }
-        ensures number { IfOk result (λ number. number ≡ length (store_of self.old.core.history).commits) }
+        requires { AddsCommit T.meaning self.old.core.terms self.old.core.history made place.now.branch parents.now clock value }
+        ensures number { IfOk result (λ number. number ≡ length (store_of self.old.core.terms.origin self.old.core.history).commits) }
         ensures added { OnOk result (self.new.core ≡ record self.old.core { history = self.old.core.history ++ made ∷ [] }) }
         ensures addressed { OnOk result (self.new.addresses ≡ self.old.addresses ++ place.now.address ∷ []) }
         ensures kept { OnErr result (self.new ≡ self.old) }
@@ -583,10 +604,10 @@ impl<T: Mrdt> Versions<T> {
     }
 
     /// Takes the last move off again, and no memory: for a move that could not be written. `head` is where the branch
-    /// that it moves stood before; for a fork it is not used.
+    /// whose head it moves stood before; for a move that moves none it is not used.
     pub fn undo(&mut self, head: u32)
         requires some { 0 < length self.old.core.history }
-        requires stood { StoodBefore self.old.core.history head }
+        requires stood { StoodBefore self.old.core.terms self.old.core.history head }
         ensures { Undone self.old self.new }
     {
         let _count = self.nodes.count();
@@ -605,14 +626,25 @@ impl<T: Mrdt> Versions<T> {
                 self.nodes.pop();
                 put_head(&mut self.heads, branch, head);
             }
+            Move::Join { branch, .. } => {
+                let _ = self.clocks.pop();
+                self.nodes.pop();
+                put_head(&mut self.heads, branch, head);
+            }
             Move::Forward { branch, .. } => put_head(&mut self.heads, branch, head),
+            Move::Received { .. } => {
+                let _ = self.clocks.pop();
+                self.nodes.pop();
+            }
+            Move::Place { .. } => self.heads.unfork(),
+            Move::Drop { branch } => self.heads.undrop(branch),
         }
     }
 }
 
-// Puts a branch's head, wherever it stands.
+// Puts the head of a branch that was not dropped, wherever it stands.
 fn put_head(heads: &mut Heads, branch: u32, head: u32)
-    requires { branch < length heads.old.branches }
+    requires { IsKeptBranch heads.old.branches branch }
     ensures { heads.new ≡ record heads.old { branches = with_head heads.old.branches branch head } }
 {
     let newest = heads.head(branch);

@@ -22,7 +22,7 @@ fn address_of(number: u32) -> [u8; 32] {
 }
 
 // Puts a commit behind the others.
-fn pushed(rt: &impl Abort, nodes: &mut Nodes<Sum>, value: Sum, parents: &[u32]) -> u32 {
+pub fn pushed(rt: &impl Abort, nodes: &mut Nodes<Sum>, value: Sum, parents: &[u32]) -> u32 {
     let count = nodes.count();
     assert!(rt; parents.iter().all(|parent| *parent < count));
     nodes
@@ -31,14 +31,14 @@ fn pushed(rt: &impl Abort, nodes: &mut Nodes<Sum>, value: Sum, parents: &[u32]) 
 }
 
 // A commit that adds to the value of another.
-fn add(rt: &impl Abort, nodes: &mut Nodes<Sum>, parent: u32, amount: i64) -> u32 {
+pub fn add(rt: &impl Abort, nodes: &mut Nodes<Sum>, parent: u32, amount: i64) -> u32 {
     assert!(rt; parent < nodes.count());
     let value = nodes.value(parent).added(amount);
     pushed(rt, nodes, value, &[parent])
 }
 
 // A commit that merges two.
-fn merge(rt: &impl Abort, nodes: &mut Nodes<Sum>, left: u32, right: u32) -> u32 {
+pub fn merge(rt: &impl Abort, nodes: &mut Nodes<Sum>, left: u32, right: u32) -> u32 {
     assert!(rt; left < nodes.count());
     assert!(rt; right < nodes.count());
     let over = base(nodes, &[left], &[right]).expect(rt, "memory");

@@ -1,5 +1,5 @@
 // Sums on branches, up to the limits.
-use branch_names::{Limits, Name};
+use branch_names::{Limits, Name, Terms};
 use mrdt_counter::{CounterQuery, Sum, SumOp};
 use mrdt_model::Time;
 use std::alloc::Global;
@@ -34,8 +34,13 @@ fn limited(
     branches: u32,
     value: u64,
     moves: u64,
-) -> Limits {
-    Limits::new(clock, commits, branches, value, moves).expect(rt, "limits")
+) -> Terms {
+    Terms::under(Limits::new(clock, commits, branches, value, moves).expect(rt, "limits"))
+}
+
+// The default limits, and the first origin 0.
+fn ample() -> Terms {
+    Terms::under(Limits::default())
 }
 
 // Adds to the newest value of a branch.
@@ -73,8 +78,8 @@ fn operation<R>(landed: &Landed<R>) -> Option<(u64, u32, Time)> {
 }
 
 // What refuses one more addition to `main` after some.
-fn refused_after(rt: &impl Abort, alloc: Global, limits: Limits, adds: u32) -> Option<Refused> {
-    let mut core = Versions::fresh(alloc, limits, ADDRESS).expect(rt, "a core");
+fn refused_after(rt: &impl Abort, alloc: Global, terms: Terms, adds: u32) -> Option<Refused> {
+    let mut core = Versions::fresh(alloc, terms, ADDRESS).expect(rt, "a core");
     for _ in 0..adds {
         let landed = add(rt, &mut core, &Name::main(), 1).expect(rt, "landed");
         assert!(rt; operation(&landed).is_some());
@@ -121,7 +126,8 @@ fn moved_up<R>(landed: &Landed<R>) -> Option<(u64, u32)> {
 
 #[test]
 fn two_forks_add(rt: HostRuntime) -> Result<(), Fail> {
-    let mut core = Versions::fresh(rt.alloc(), Limits::default(), ADDRESS)?;
+    let terms = Terms::new(Limits::default(), 5).expect(&rt, "terms");
+    let mut core = Versions::fresh(rt.alloc(), terms, ADDRESS)?;
     let (main, left, right) = (Name::main(), name(&rt, b"left"), name(&rt, b"right"));
     let forked = core.fork(left, &main)?;
     assert_eq!(rt; (forked.moves, forked.number, forked.head), (1, 1, 0));
@@ -131,13 +137,13 @@ fn two_forks_add(rt: HostRuntime) -> Result<(), Fail> {
     let first = add(&rt, &mut core, &left, 5).expect(&rt, "five");
     let time = Time {
         clock: 1,
-        origin: 1,
+        origin: 6,
     };
     assert_eq!(rt; operation(&first), Some((3, 1, time)));
     let second = add(&rt, &mut core, &right, -7).expect(&rt, "minus seven");
     let time = Time {
         clock: 1,
-        origin: 2,
+        origin: 7,
     };
     assert_eq!(rt; operation(&second), Some((4, 2, time)));
 
@@ -151,13 +157,13 @@ fn two_forks_add(rt: HostRuntime) -> Result<(), Fail> {
     assert_eq!(rt; core.branch(2), Some((right, 2)));
     assert_eq!(rt; core.branch(3), None);
     assert_eq!(rt; (core.moves(), core.commits(), core.branches()), (4, 3, 3));
-    assert_eq!(rt; core.limits(), Limits::default());
+    assert_eq!(rt; core.terms(), terms);
     Ok(())
 }
 
 #[test]
 fn a_late_addition_is_stale(rt: HostRuntime) -> Result<(), Fail> {
-    let mut core = Versions::fresh(rt.alloc(), Limits::default(), ADDRESS)?;
+    let mut core = Versions::fresh(rt.alloc(), ample(), ADDRESS)?;
     let late = add_late(&rt, &mut core).err();
     assert_eq!(rt; late, Some(LandRefused::Stale { newest: 1 }));
     Ok(())
@@ -165,7 +171,7 @@ fn a_late_addition_is_stale(rt: HostRuntime) -> Result<(), Fail> {
 
 #[test]
 fn names_are_taken_and_unknown(rt: HostRuntime) -> Result<(), Fail> {
-    let mut core: Versions<Sum> = Versions::fresh(rt.alloc(), Limits::default(), ADDRESS)?;
+    let mut core: Versions<Sum> = Versions::fresh(rt.alloc(), ample(), ADDRESS)?;
     let (main, left) = (Name::main(), name(&rt, b"left"));
     let unknown = core.fork(main, &left).err();
     assert_eq!(rt; unknown, Some(ForkRefused::UnknownBranch { name: left }));
@@ -216,7 +222,7 @@ fn limits_are_met(rt: HostRuntime) -> Result<(), Fail> {
 // Two branches are merged, and the other one moves up; then nothing is left to merge.
 #[test]
 fn two_branches_merge(rt: HostRuntime) -> Result<(), Fail> {
-    let mut core = Versions::fresh(rt.alloc(), Limits::default(), ADDRESS)?;
+    let mut core = Versions::fresh(rt.alloc(), ample(), ADDRESS)?;
     let (main, left, right) = (Name::main(), name(&rt, b"left"), name(&rt, b"right"));
     let _forked = core.fork(left, &main)?;
     let _forked = core.fork(right, &main)?;
@@ -290,7 +296,7 @@ fn merge_both(
 
 // A core with two branches beside `main`, both at its head.
 fn with_two_branches(rt: &impl Abort, alloc: Global, left: Name, right: Name) -> Versions<Sum> {
-    let mut core = Versions::fresh(alloc, Limits::default(), ADDRESS).expect(rt, "a core");
+    let mut core = Versions::fresh(alloc, ample(), ADDRESS).expect(rt, "a core");
     let _forked = core.fork(left, &Name::main()).expect(rt, "a new name");
     let _forked = core.fork(right, &Name::main()).expect(rt, "a new name");
     core

@@ -1,7 +1,9 @@
-//! Tests of what threads share: the front of a store, clients of a store, and clients of drawn steps. They stand in a
-//! crate of their own, since a crate with tests is proved twice.
+//! Tests of what threads share: the front of a store, a store, clients of one, and clients of drawn steps. They stand in
+//! a crate of their own, since a crate with tests is proved twice.
 #![tactic(auto)]
 
+#[cfg(test)]
+mod calls;
 #[cfg(test)]
 mod clients;
 #[cfg(test)]
@@ -12,3 +14,5 @@ mod drawn;
 mod meeting;
 #[cfg(test)]
 mod plays;
+#[cfg(test)]
+mod rows;

@@ -5,7 +5,7 @@ ghost use Rattle.branch_shared.specs.Names.{IsNamed};
 use branch_address::Sha256Address;
 use branch_disk::MemoryDisk;
 use branch_doc::{DocOp, DocReply};
-use branch_names::Limits;
+use branch_names::{Limits, Terms};
 use branch_script::{Step, read_line};
 use branch_shared::{Blank, Named, Shared};
 use mrdt_doc::Doc;
@@ -28,7 +28,7 @@ pub(crate) fn fresh(
     limits: Limits,
     failing: Vec<u64>,
 ) -> Documents {
-    match Documents::init(alloc, MemoryDisk::new(failing), limits) {
+    match Documents::init(alloc, MemoryDisk::new(failing), Terms::under(limits)) {
         Ok(core) => core,
         Err(_) => panic!(rt; "no store"),
     }
@@ -83,7 +83,7 @@ fn share<N: Named<DocOp, DocReply> + Drop + Send + Sync, G: Gate, R: Threads + W
     scripts: &[Listing<Step>],
     gate: &G,
 ) -> (Listing<Outcome>, Documents)
-    requires name { IsNamed blank N.table N.begun N.limits N.parts N.opened }
+    requires name { IsNamed blank N.table N.begun N.terms N.parts N.opened }
     requires parts { 2 * length scripts.now < blank.parts }
 {
     let (shared, mut pass) = Shared::<Doc, MemoryDisk, Sha256Address, N>::new(blank);

@@ -4,27 +4,29 @@ use Rattle.std.specs.Prelude.{Result, Ok, Err, IsSome, option_map, is_some}
 use Rattle.std.specs.Cmp.Lexicographic.{pointwise}
 use Rattle.lru.proofs.CallerLemmas.{Contains-lookup}
 use Rattle.std.specs.List.{AllByRecursion}
-use Rattle.mrdt_model.specs.Executions.{Event}
+use Rattle.mrdt_model.specs.Times.{among}
+use Rattle.mrdt_model.specs.Executions.{Event, times_of}
 use Rattle.mrdt_model.specs.Laws.{Meaning, StandsAsWell}
 use Rattle.branch_graph.specs.Graph.{parents_of, HasParents, maximal_common}
-use Rattle.branch_history.specs.Commits.{visible, visible_at_all}
+use Rattle.branch_history.specs.Commits.{graph_of, visible, visible_at_all, all_events}
 use Rattle.branch_history.specs.History.{store_of}
 use Rattle.branch_history.specs.Laws.{SeesAlone, SeesJoins, SeesBases, SeesClosedPartsAtAll, IsRising}
 use Rattle.virtual_base.specs.Nodes.{NodesView, IsFold, IsBase, AreThere}
 use Rattle.virtual_base.specs.Memos.{MemoView, kept_for, Holds, IsMemoOf, AddsNothing, AddsOnly}
 use Rattle.virtual_base.proofs.Kept.{same_items}
+use Rattle.virtual_base.proofs.Maximal.{restrict-both}
 
 module _ {S O R Q A : Type 0} (meaning : Meaning S O R Q A) (nodes : NodesView S) where
   -- the value of a commit of two parents is their fold
   pub merged-fold : SeesAlone meaning → SeesJoins meaning → (n p q : ℕ) (value : S) → HasParents nodes.graph.commits n p q → IsFold meaning nodes (n ∷ []) value → IsFold meaning nodes (p ∷ q ∷ []) value
   merged-fold alone joins n p q value parents fold = record {
-    stands = λ limits moves valid are.
-        let commits = (store_of moves).commits in
-        let here = subst (λ (x : List (Event O R)). meaning.stands value x) (alone commits n) (fold.stands limits moves valid are) in
+    stands = λ terms moves valid are.
+        let commits = (store_of terms.origin moves).commits in
+        let here = subst (λ (x : List (Event O R)). meaning.stands value x) (alone commits n) (fold.stands terms moves valid are) in
         let seen : visible commits n ≡ visible_at_all commits (p ∷ q ∷ []) =
         ⊎_elim
-        (λ straight. (joins limits moves valid n p q (ap (λ g. parents_of g n) (sym are.parents) ∙ straight)).0)
-        (λ turned. (joins limits moves valid n q p (ap (λ g. parents_of g n) (sym are.parents) ∙ turned)).1)
+        (λ straight. (joins terms moves valid n p q [] (ap (λ g. parents_of g n) (sym are.parents) ∙ straight)).0)
+        (λ turned. let seen = joins terms moves valid n q p [] (ap (λ g. parents_of g n) (sym are.parents) ∙ turned) in seen.0 ∙ seen.1)
         parents in
         subst (λ (x : List (Event O R)). meaning.stands value x) seen here;
   }
@@ -32,16 +34,27 @@ module _ {S O R Q A : Type 0} (meaning : Meaning S O R Q A) (nodes : NodesView S
   -- what stands for all that a fold stands for is the fold
   pub copied-fold : SeesClosedPartsAtAll meaning → (ns : List ℕ) (old new : S) → StandsAsWell meaning old new → IsFold meaning nodes ns old → IsFold meaning nodes ns new
   copied-fold closed ns old new copies fold = record {
-    stands = λ limits moves valid are. copies (visible_at_all (store_of moves).commits ns) (closed limits moves valid ns).1 (fold.stands limits moves valid are);
+    stands = λ terms moves valid are. copies (visible_at_all (store_of terms.origin moves).commits ns) (closed terms moves valid ns).1 (fold.stands terms moves valid are);
   }
 
   -- the fold of the maximal common ancestors is the base
   pub base-fold : SeesBases meaning → (left right : List ℕ) (value : S) → IsFold meaning nodes (maximal_common nodes.graph.commits left right) value → IsBase meaning nodes left right value
   base-fold bases left right value fold = record {
-    stands = λ limits moves valid are.
-        let commits = (store_of moves).commits in
-        let here = subst (λ (g : List (List ℕ)). meaning.stands value (visible_at_all commits (maximal_common g left right))) are.parents (fold.stands limits moves valid are) in
-        subst (λ (x : List (Event O R)). meaning.stands value x) (bases limits moves valid left right) here;
+    stands = λ terms moves valid are.
+        let commits = (store_of terms.origin moves).commits in
+        let here = subst (λ (g : List (List ℕ)). meaning.stands value (visible_at_all commits (maximal_common g left right))) are.parents (fold.stands terms moves valid are) in
+        subst (λ (x : List (Event O R)). meaning.stands value x) (bases terms moves valid left right) here;
+  }
+
+  -- the fold of the maximal commits of a list is that of the list
+  pub maximal-fold : SeesBases meaning → SeesClosedPartsAtAll meaning → (ns : List ℕ) (value : S) → IsFold meaning nodes (maximal_common nodes.graph.commits ns ns) value → IsFold meaning nodes ns value
+  maximal-fold bases closed ns value fold = record {
+    stands = λ terms moves valid are.
+        let commits = (store_of terms.origin moves).commits in
+        let x : List (Event O R) = visible_at_all commits ns in
+        let here = subst (λ (g : List (List ℕ)). meaning.stands value (visible_at_all commits (maximal_common g ns ns))) are.parents (fold.stands terms moves valid are) in
+        let seen : visible_at_all commits (maximal_common (graph_of commits) ns ns) ≡ x = bases terms moves valid ns ns ∙ restrict-both (among (times_of x)) (all_events commits) ∙ sym (closed terms moves valid ns).0.kept in
+        subst (λ (y : List (Event O R)). meaning.stands value y) seen here;
   }
 
   -- memos

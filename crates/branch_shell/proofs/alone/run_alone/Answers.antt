@@ -3,17 +3,16 @@ use Rattle.std.proofs.Common.{◌≡◌, map, inl}
 use Rattle.std.specs.String.{string_bytes}
 use Rattle.branch_disk.specs.Moments.{weakened}
 use Rattle.branch_doc.specs.Document.{document}
-use Rattle.branch_names.specs.declared.limits.Limits.{Limits}
+use Rattle.branch_names.specs.declared.terms.Terms.{Terms}
 use Rattle.branch_command.specs.Commands.{Init, Script, Check, Generate, Help}
-use Rattle.branch_command.specs.Numbers.{AreLimits}
 use Rattle.branch_command.specs.Work.{Work}
 use Rattle.branch_shell.specs.declared.status.Status.TheVariants.{ReadFault, DiskFault}
 use Rattle.branch_shell.specs.Generated.{SaysWork}
-use Rattle.branch_shell.specs.Stores.{ReadsAsNoneOrEmpty, SaysRefused}
+use Rattle.branch_shell.specs.Stores.{AreUnder, ReadsAsNoneOrEmpty, SaysRefused}
 use Rattle.branch_shell.specs.Alone.{command_alone}
-use Rattle.branch_shell.specs.Ran.{LeavesInit}
+use Rattle.branch_shell.specs.Ran.{LeavesInit, AreTerms}
 use Rattle.branch_shell.proofs.Inits.{empty_map, none_or_empty_map}
-use Rattle.branch_shell.proofs.Said.{said_init, said_script, said_check, said_generate, said_help, limits_said}
+use Rattle.branch_shell.proofs.Said.{said_init, said_script, said_check, said_generate, said_help, terms_said}
 use Rattle.branch_shell.proofs.Runs.{no_usage, once_usage, said_behind, said_ran, init_ran, check_ran, help_ran, memory_ran}
 use Rattle.branch_shell.proofs.alone.run_alone.Goals as goal
 
@@ -26,7 +25,7 @@ returns-in-Ok-Init-clause-ran g c command is =
     let limits = c.in-Ok-Init.limits in
     let said = said_init words c.in-Ok-Init.field-0 limits c.in-Ok-Init.field-0-is c.in-Ok-Init.ensures.read in
     let numbers = said.0 in
-    let are = limits_said words c.in-Ok-Init.field-0 limits c.in-Ok-Init.field-0-is c.in-Ok-Init.ensures.read numbers said.1 in
+    let are = terms_said words c.in-Ok-Init.field-0 limits c.in-Ok-Init.field-0-is c.in-Ok-Init.ensures.read numbers said.1 in
     let run = c.run_init.ensures in
     let old = c.args.disk in
     let new = c.run_init.result.1 in
@@ -34,11 +33,11 @@ returns-in-Ok-Init-clause-ran g c command is =
     let left = g.S.Source.left c.args.source.now in
     let given = g.K.Sink.given c.args.sink.now in
     let gave = g.K.Sink.given c.run_init.new.sink in
-    let is_so : Limits → Type 0 = λ l. l ≡ limits in
-    let leaves : LeavesInit d address (AreLimits numbers) old new status = record {
-      any_moment = λ empty. weakened d.moment d.left_since old new (ReadsAsNoneOrEmpty document address is_so) (ReadsAsNoneOrEmpty document address (AreLimits numbers))
-          (run.any_moment empty) (none_or_empty_map document address is_so (AreLimits numbers) are);
-      made = λ done f image. empty_map document address is_so (AreLimits numbers) are f (run.made done f image);
+    let is_so : Terms → Type 0 = AreUnder limits in
+    let leaves : LeavesInit d address (AreTerms numbers) old new status = record {
+      any_moment = λ empty. weakened d.moment d.left_since old new (ReadsAsNoneOrEmpty document address is_so) (ReadsAsNoneOrEmpty document address (AreTerms numbers))
+          (run.any_moment empty) (none_or_empty_map document address is_so (AreTerms numbers) are);
+      made = λ done f image. empty_map document address is_so (AreTerms numbers) are f (run.made done f image);
       kept = run.kept;
     } in
     said_ran address d laws.counts_now laws.only_now words (Init numbers) command said.1 is old new left left given gave status

@@ -14,8 +14,8 @@ returns-in-Ok-clause-wrote g c =
     let opened = c.in-Ok.ensures in
     let m = g.T.Mrdt.meaning in
     let address = g.A.Address.address in
-    answers_map (λ whole. whole ≡ report_text core.history) (λ whole. ⊥) (SaysReport m address told) (SaysRefused m address told)
-    (λ whole is. (record { limits = core.limits; history = core.history }, record { valid = opened.valid; reads = opened.reads; only = opened.only }, is)) (λ whole no. absurd no)
+    answers_map (λ whole. whole ≡ report_text core.terms.origin core.history) (λ whole. ⊥) (SaysReport m address told) (SaysRefused m address told)
+    (λ whole is. (record { terms = core.terms; history = core.history }, record { valid = opened.valid; reads = opened.reads; only = opened.only }, is)) (λ whole no. absurd no)
     c.report.result (g.K.Sink.given c.args.sink.now) (g.K.Sink.given c.report.new.sink) c.report.ensures.wrote
 
 pub returns-in-Ok-clause-keeps : goal.returns-in-Ok-clause-keeps
@@ -24,8 +24,8 @@ returns-in-Ok-clause-keeps g c done f store told reads i left =
     let address = g.A.Address.address in
     let core = c.in-Ok.core in
     let opened = c.in-Ok.ensures in
-    let image = c.reads_what_stands.ensures core.limits address core.history i opened.valid (opened.stands i (subst (λ d. g.D.Disk.may_leave d i) c.close.ensures.same left)) in
-    subst (λ (a : Answer _ _). Rattle.branch_files.specs.Reading.ReadsAs m address i a) (sym (opened.only f told (Opens store.limits store.history) reads)) image
+    let image = c.reads_what_stands.ensures core.terms address core.history i opened.valid (opened.stands i (subst (λ d. g.D.Disk.may_leave d i) c.close.ensures.same left)) in
+    subst (λ (a : Answer _ _). Rattle.branch_files.specs.Reading.ReadsAs m address i a) (sym (opened.only f told (Opens store.terms store.history) reads)) image
 
 pub returns-in-Err-clause-wrote : goal.returns-in-Err-clause-wrote
 returns-in-Err-clause-wrote g c =
@@ -46,5 +46,5 @@ returns-in-Err-clause-no_fault g c = not_behind (g.D.Disk.faults c.args.disk) (g
 pub returns-in-Ok-clause-reason : goal.returns-in-Ok-clause-reason
 returns-in-Ok-clause-reason g c n =
     let faults = g.D.Disk.faults in
-    reason_said (λ whole. whole ≡ report_text c.in-Ok.core.history) (λ whole. ⊥) n (g.K.Sink.faults c.args.sink.now) (g.K.Sink.faults c.report.new.sink) (faults c.args.disk) (faults c.close.result)
+    reason_said (λ whole. whole ≡ report_text c.in-Ok.core.terms.origin c.in-Ok.core.history) (λ whole. ⊥) n (g.K.Sink.faults c.args.sink.now) (g.K.Sink.faults c.report.new.sink) (faults c.args.disk) (faults c.close.result)
     (g.K.Sink.given c.args.sink.now) (g.K.Sink.given c.report.new.sink) c.report.result c.report.ensures.wrote (ap faults c.close.ensures.same ∙ c.in-Ok.ensures.no_cause) c.report.ensures.other c.report.ensures.reason

@@ -1,7 +1,6 @@
 use Rattle.std.proofs.Common.{◌≡◌, refl, subst}
-use Rattle.branch_names.specs.declared.limits.Limits.{Limits}
 use Rattle.branch_print.specs.Reports.{ready_text, not_empty_text}
-use Rattle.branch_shell.specs.Stores.{SaysReady, SaysNotEmpty}
+use Rattle.branch_shell.specs.Stores.{AreUnder, SaysReady, SaysNotEmpty}
 use Rattle.store_core.specs.Inits.{InitRefusedAs}
 use Rattle.branch_shell.proofs.Once.{said_done, said_refused}
 use Rattle.branch_shell.proofs.Inits.{has_bytes, made_empty, empty_store}
@@ -10,16 +9,18 @@ use Rattle.branch_shell.proofs.answer.run_init.Goals as goal
 pub returns-in-Ok-clause-any_moment : goal.returns-in-Ok-clause-any_moment
 returns-in-Ok-clause-any_moment g c empty =
     let d = g.D.Disk in
-    let limits = c.args.limits in
+    let terms = c.under-terms.result in
+    let under : AreUnder c.args.limits terms = record { limits_are = c.under-terms.ensures.limits; origin = c.under-terms.ensures.origin } in
     let same = c.close.ensures.same in
-    rw same (made_empty g.T.Mrdt.meaning g.A.Address.address c.reads_what_stands.ensures c.reads_as_no_store.ensures d.may_leave d.moment d.left_since limits (λ (l : Limits). l ≡ limits) refl c.args.disk c.in-Ok.core.disk
+    rw same (made_empty g.T.Mrdt.meaning g.A.Address.address c.reads_what_stands.ensures c.reads_as_no_store.ensures d.may_leave d.moment d.left_since terms (AreUnder c.args.limits) under c.args.disk c.in-Ok.core.disk
     (c.in-Ok.ensures.any_moment empty))
 
 pub returns-in-Ok-clause-made : goal.returns-in-Ok-clause-made
 returns-in-Ok-clause-made g c done f left =
     let d = g.D.Disk in
-    let limits = c.args.limits in
-    empty_store g.T.Mrdt.meaning g.A.Address.address c.reads_what_stands.ensures c.reads_as_no_store.ensures limits (λ (l : Limits). l ≡ limits) refl (d.may_leave c.in-Ok.core.disk) c.in-Ok.ensures.stands f (subst (λ d'. d.may_leave d' f) c.close.ensures.same left)
+    let terms = c.under-terms.result in
+    let under : AreUnder c.args.limits terms = record { limits_are = c.under-terms.ensures.limits; origin = c.under-terms.ensures.origin } in
+    empty_store g.T.Mrdt.meaning g.A.Address.address c.reads_what_stands.ensures c.reads_as_no_store.ensures terms (AreUnder c.args.limits) under (d.may_leave c.in-Ok.core.disk) c.in-Ok.ensures.stands f (subst (λ d'. d.may_leave d' f) c.close.ensures.same left)
 
 pub returns-in-Err-NotEmpty-default-clause-wrote : goal.returns-in-Err-NotEmpty-default-clause-wrote
 returns-in-Err-NotEmpty-default-clause-wrote g c =
@@ -31,22 +32,25 @@ returns-in-Err-NotEmpty-default-clause-wrote g c =
 pub returns-in-Err-NotEmpty-default-clause-any_moment : goal.returns-in-Err-NotEmpty-default-clause-any_moment
 returns-in-Err-NotEmpty-default-clause-any_moment g c empty =
     let d = g.D.Disk in
-    let limits = c.args.limits in
-    made_empty g.T.Mrdt.meaning g.A.Address.address c.reads_what_stands.ensures c.reads_as_no_store.ensures d.may_leave d.moment d.left_since limits (λ (l : Limits). l ≡ limits) refl c.args.disk c.in-Err-NotEmpty-default.disk
+    let terms = c.under-terms.result in
+    let under : AreUnder c.args.limits terms = record { limits_are = c.under-terms.ensures.limits; origin = c.under-terms.ensures.origin } in
+    made_empty g.T.Mrdt.meaning g.A.Address.address c.reads_what_stands.ensures c.reads_as_no_store.ensures d.may_leave d.moment d.left_since terms (AreUnder c.args.limits) under c.args.disk c.in-Err-NotEmpty-default.disk
     (c.in-Err-NotEmpty-default.ensures.any_moment_err empty)
 
 pub returns-in-Err-DiskFault-default-clause-any_moment : goal.returns-in-Err-DiskFault-default-clause-any_moment
 returns-in-Err-DiskFault-default-clause-any_moment g c empty =
     let d = g.D.Disk in
-    let limits = c.args.limits in
-    made_empty g.T.Mrdt.meaning g.A.Address.address c.reads_what_stands.ensures c.reads_as_no_store.ensures d.may_leave d.moment d.left_since limits (λ (l : Limits). l ≡ limits) refl c.args.disk c.in-Err-DiskFault-default.disk
+    let terms = c.under-terms.result in
+    let under : AreUnder c.args.limits terms = record { limits_are = c.under-terms.ensures.limits; origin = c.under-terms.ensures.origin } in
+    made_empty g.T.Mrdt.meaning g.A.Address.address c.reads_what_stands.ensures c.reads_as_no_store.ensures d.may_leave d.moment d.left_since terms (AreUnder c.args.limits) under c.args.disk c.in-Err-DiskFault-default.disk
     (c.in-Err-DiskFault-default.ensures.any_moment_err empty)
 
 pub returns-in-Err-Memory-default-clause-any_moment : goal.returns-in-Err-Memory-default-clause-any_moment
 returns-in-Err-Memory-default-clause-any_moment g c empty =
     let d = g.D.Disk in
-    let limits = c.args.limits in
-    made_empty g.T.Mrdt.meaning g.A.Address.address c.reads_what_stands.ensures c.reads_as_no_store.ensures d.may_leave d.moment d.left_since limits (λ (l : Limits). l ≡ limits) refl c.args.disk c.in-Err-Memory-default.disk
+    let terms = c.under-terms.result in
+    let under : AreUnder c.args.limits terms = record { limits_are = c.under-terms.ensures.limits; origin = c.under-terms.ensures.origin } in
+    made_empty g.T.Mrdt.meaning g.A.Address.address c.reads_what_stands.ensures c.reads_as_no_store.ensures d.may_leave d.moment d.left_since terms (AreUnder c.args.limits) under c.args.disk c.in-Err-Memory-default.disk
     (c.in-Err-Memory-default.ensures.any_moment_err empty)
 
 pub returns-in-Ok-clause-wrote : goal.returns-in-Ok-clause-wrote

@@ -22,16 +22,16 @@ returns-in-Err-Memory-clause-moments g c =
     leaves_line d.may_leave d.moment d.left_since laws.counts_now laws.only_now g.A.Address.address c.args.line.now c.args.engine.now c.tell.new.self c.tell.ensures.moments
 
 pub returns-then-not-is_empty-clause-told : goal.returns-then-not-is_empty-clause-told
-returns-then-not-is_empty-clause-told g c limits p at =
+returns-then-not-is_empty-clause-told g c terms p at =
     let d = g.D.Disk in
     let laws = g.met.D.Disk in
-    line_tells d.may_leave d.moment d.left_since laws.counts_now laws.only_now c.args.line.now c.args.engine.now c.tell.new.self (doc_fixed g.A.Address.address limits) p (c.tell.ensures.moments limits p at) None None (c.in-Ok.ensures.ok limits p at).0 tt
+    line_tells d.may_leave d.moment d.left_since laws.counts_now laws.only_now c.args.line.now c.args.engine.now c.tell.new.self (doc_fixed g.A.Address.address terms) p (c.tell.ensures.moments terms p at) None None (c.in-Ok.ensures.ok terms p at).0 tt
 
 pub returns-then-not-is_empty-clause-counted : goal.returns-then-not-is_empty-clause-counted
-returns-then-not-is_empty-clause-counted g c limits p at replies is =
-    let text = (line_told (doc_fixed g.A.Address.address limits) p c.args.line.now).text in
+returns-then-not-is_empty-clause-counted g c terms p at replies is =
+    let text = (line_told (doc_fixed g.A.Address.address terms) p c.args.line.now).text in
     let reply = c.deref.result.now in
-    let same : reply ≡ text = c.deref.ensures.value ∙ (c.in-Ok.ensures.ok limits p at).1 ∙ ap (λ xs. xs ++ text) c.clear.ensures.items in
+    let same : reply ≡ text = c.deref.ensures.value ∙ (c.in-Ok.ensures.ok terms p at).1 ∙ ap (λ xs. xs ++ text) c.clear.ensures.items in
     let said : (c.tell.new.out.len == 0) ≡ false = sym c.is_empty.ensures ∙ c.if-not-is_empty.true in
     let long : c.tell.new.out.len ≡ length reply = omega (arith, c.deref.ensures.len) in
     let full : reply ≢ [] = λ none. not_empty c.tell.new.out.len said (long ∙ ap length none) in
@@ -44,10 +44,10 @@ returns-then-not-is_empty-clause-moments g c =
     leaves_line d.may_leave d.moment d.left_since laws.counts_now laws.only_now g.A.Address.address c.args.line.now c.args.engine.now c.tell.new.self c.tell.ensures.moments
 
 pub returns-else-not-is_empty-clause-told : goal.returns-else-not-is_empty-clause-told
-returns-else-not-is_empty-clause-told g c limits p at =
+returns-else-not-is_empty-clause-told g c terms p at =
     let d = g.D.Disk in
     let laws = g.met.D.Disk in
-    line_tells d.may_leave d.moment d.left_since laws.counts_now laws.only_now c.args.line.now c.args.engine.now c.tell.new.self (doc_fixed g.A.Address.address limits) p (c.tell.ensures.moments limits p at) None None (c.in-Ok.ensures.ok limits p at).0 tt
+    line_tells d.may_leave d.moment d.left_since laws.counts_now laws.only_now c.args.line.now c.args.engine.now c.tell.new.self (doc_fixed g.A.Address.address terms) p (c.tell.ensures.moments terms p at) None None (c.in-Ok.ensures.ok terms p at).0 tt
 
 pub returns-else-not-is_empty-clause-moments : goal.returns-else-not-is_empty-clause-moments
 returns-else-not-is_empty-clause-moments g c =

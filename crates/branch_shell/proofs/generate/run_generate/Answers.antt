@@ -18,7 +18,7 @@ returns-in-Ok-clause-ran g c left =
     let address = g.A.Address.address in
     let core = c.in-Ok.core in
     let opened = c.in-Ok.ensures in
-    let found : DocStore = record { limits = core.limits; history = core.history } in
+    let found : DocStore = record { terms = core.terms; history = core.history } in
     let is : IsOpenedAs document address (d.contents c.args.disk) found = record { valid = opened.valid; reads = opened.reads; only = opened.only } in
     let work : Work = record { steps = c.args.steps; number = c.args.number } in
     let w = c.work_over.ensures.wrote in

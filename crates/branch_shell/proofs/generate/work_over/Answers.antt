@@ -1,5 +1,6 @@
 use Rattle.std.proofs.Common.{◌≡◌, ◌++◌, [], refl, ap, subst, ◌∙◌}
 use Rattle.std.proofs.KnownBytes.{Appends-nil}
+use Rattle.branch_names.specs.declared.terms.Terms.{Terms}
 use Rattle.branch_print.specs.Texts.{line_end}
 use Rattle.branch_print.specs.Reports.{report_text}
 use Rattle.branch_print.specs.Summaries.{summary_text}
@@ -15,21 +16,22 @@ use Rattle.branch_shell.proofs.generate.work_over.Goals as goal
 pub returns-in-Ok-clause-wrote : goal.returns-in-Ok-clause-wrote
 returns-in-Ok-clause-wrote g c =
     let address = g.A.Address.address in
-    let store : DocStore = record { limits = c.args.core.limits; history = c.args.core.history } in
+    let store : DocStore = record { terms = c.args.core.terms; history = c.args.core.history } in
     let work : Work = record { steps = c.args.steps; number = c.args.number } in
     let began = c.new-engine.ensures.begins c.requires in
-    let told = c.in-Ok.ensures.told store.limits (begins store.history) began in
-    let counted = c.in-Ok.ensures.counted store.limits (begins store.history) began [] refl in
+    let told = c.in-Ok.ensures.told store.terms (begins store.history) began in
+    let counted = c.in-Ok.ensures.counted store.terms (begins store.history) began [] refl in
     let shown = c.core.result.now in
-    answers_map (λ whole. whole ≡ (summary_text c.in-Ok.summary ++ line_end) ++ report_text shown.history) (λ whole. ⊥) (λ whole. whole ≡ work_text address store (drawn_lines work)) (λ whole. ⊥)
-    (work_said address store (drawn_lines work) c.in-Ok.summary shown.history counted (ap (λ k. k.history) c.core.ensures ∙ told.at.history)) (λ whole no. no)
+    answers_map (λ whole. whole ≡ (summary_text c.in-Ok.summary ++ line_end) ++ report_text shown.terms.origin shown.history) (λ whole. ⊥) (λ whole. whole ≡ work_text address store (drawn_lines work)) (λ whole. ⊥)
+    (λ whole is. work_said address store (drawn_lines work) c.in-Ok.summary shown.history counted (ap (λ k. k.history) c.core.ensures ∙ told.at.history) whole
+    (is ∙ ap (λ (l : Terms). (summary_text c.in-Ok.summary ++ line_end) ++ report_text l.origin shown.history) (ap (λ k. k.terms) c.core.ensures ∙ told.at.terms_are))) (λ whole no. no)
     c.say_work.result (g.K.Sink.given c.args.sink.now) (g.K.Sink.given c.say_work.new.sink) c.say_work.ensures.wrote
 
 pub returns-in-Ok-clause-survives : goal.returns-in-Ok-clause-survives
 returns-in-Ok-clause-survives g c =
     let d = g.D.Disk in
     let address = g.A.Address.address in
-    let store : DocStore = record { limits = c.args.core.limits; history = c.args.core.history } in
+    let store : DocStore = record { terms = c.args.core.terms; history = c.args.core.history } in
     let lines = drawn_lines (record { steps = c.args.steps; number = c.args.number }) in
     let last = c.count_drawn.new.engine in
     let all = survives_told address d.contents d.may_leave d.moment d.left_since g.met.D.Disk.counts_now store lines c.new-engine.result last c.say_work.result (c.new-engine.ensures.begins c.requires) c.in-Ok.ensures.told in
@@ -37,7 +39,7 @@ returns-in-Ok-clause-survives g c =
 
 pub returns-in-Err-clause-wrote : goal.returns-in-Err-clause-wrote
 returns-in-Err-clause-wrote g c =
-    let store : DocStore = record { limits = c.args.core.limits; history = c.args.core.history } in
+    let store : DocStore = record { terms = c.args.core.terms; history = c.args.core.history } in
     let work : Work = record { steps = c.args.steps; number = c.args.number } in
     let d = g.D.Disk in (
       [],
@@ -50,7 +52,7 @@ pub returns-in-Err-clause-survives : goal.returns-in-Err-clause-survives
 returns-in-Err-clause-survives g c =
     let d = g.D.Disk in
     let address = g.A.Address.address in
-    let store : DocStore = record { limits = c.args.core.limits; history = c.args.core.history } in
+    let store : DocStore = record { terms = c.args.core.terms; history = c.args.core.history } in
     let lines = drawn_lines (record { steps = c.args.steps; number = c.args.number }) in
     let last = c.count_drawn.new.engine in
     let undone = stopped_undone (d.faults c.new-engine.result.core.disk) (d.faults last.core.disk) c.in-Err.status c.in-Err.ensures.cause in

@@ -14,7 +14,7 @@ returns-in-Ok-clause-ran g c =
     let d = g.D.Disk in
     let laws = g.met.D.Disk in
     let address = g.A.Address.address in
-    let store : DocStore = record { limits = c.args.core.limits; history = c.args.core.history } in
+    let store : DocStore = record { terms = c.args.core.terms; history = c.args.core.history } in
     let l0 = g.S.Source.left c.args.source.now in
     let l1 = g.S.Source.left c.tell_all-outcome.new.source in
     let g0 = g.K.Sink.given c.args.sink.now in
@@ -36,7 +36,7 @@ returns-in-Ok-clause-reason g c =
     let d = g.D.Disk in
     let laws = g.met.D.Disk in
     let address = g.A.Address.address in
-    let store : DocStore = record { limits = c.args.core.limits; history = c.args.core.history } in
+    let store : DocStore = record { terms = c.args.core.terms; history = c.args.core.history } in
     let l0 = g.S.Source.left c.args.source.now in
     let l1 = g.S.Source.left c.tell_all-outcome.new.source in
     let g0 = g.K.Sink.given c.args.sink.now in
@@ -58,7 +58,7 @@ returns-in-Ok-clause-behind_source g c = λ is.
     let d = g.D.Disk in
     let laws = g.met.D.Disk in
     let address = g.A.Address.address in
-    let store : DocStore = record { limits = c.args.core.limits; history = c.args.core.history } in
+    let store : DocStore = record { terms = c.args.core.terms; history = c.args.core.history } in
     let l0 = g.S.Source.left c.args.source.now in
     let l1 = g.S.Source.left c.tell_all-outcome.new.source in
     let g0 = g.K.Sink.given c.args.sink.now in
@@ -81,7 +81,7 @@ returns-in-Ok-clause-behind_disk g c = λ is.
     let d = g.D.Disk in
     let laws = g.met.D.Disk in
     let address = g.A.Address.address in
-    let store : DocStore = record { limits = c.args.core.limits; history = c.args.core.history } in
+    let store : DocStore = record { terms = c.args.core.terms; history = c.args.core.history } in
     let l0 = g.S.Source.left c.args.source.now in
     let l1 = g.S.Source.left c.tell_all-outcome.new.source in
     let g0 = g.K.Sink.given c.args.sink.now in
@@ -104,7 +104,7 @@ returns-in-Err-clause-ran g c =
     let d = g.D.Disk in
     let laws = g.met.D.Disk in
     let address = g.A.Address.address in
-    let store : DocStore = record { limits = c.args.core.limits; history = c.args.core.history } in
+    let store : DocStore = record { terms = c.args.core.terms; history = c.args.core.history } in
     let l0 = g.S.Source.left c.args.source.now in
     let l1 = g.S.Source.left c.tell_all-outcome.new.source in
     let g0 = g.K.Sink.given c.args.sink.now in
@@ -126,7 +126,7 @@ returns-in-Err-clause-reason g c =
     let d = g.D.Disk in
     let laws = g.met.D.Disk in
     let address = g.A.Address.address in
-    let store : DocStore = record { limits = c.args.core.limits; history = c.args.core.history } in
+    let store : DocStore = record { terms = c.args.core.terms; history = c.args.core.history } in
     let l0 = g.S.Source.left c.args.source.now in
     let l1 = g.S.Source.left c.tell_all-outcome.new.source in
     let g0 = g.K.Sink.given c.args.sink.now in
@@ -148,7 +148,7 @@ returns-in-Err-clause-behind_source g c = λ is.
     let d = g.D.Disk in
     let laws = g.met.D.Disk in
     let address = g.A.Address.address in
-    let store : DocStore = record { limits = c.args.core.limits; history = c.args.core.history } in
+    let store : DocStore = record { terms = c.args.core.terms; history = c.args.core.history } in
     let l0 = g.S.Source.left c.args.source.now in
     let l1 = g.S.Source.left c.tell_all-outcome.new.source in
     let g0 = g.K.Sink.given c.args.sink.now in
@@ -171,7 +171,7 @@ returns-in-Err-clause-behind_disk g c = λ is.
     let d = g.D.Disk in
     let laws = g.met.D.Disk in
     let address = g.A.Address.address in
-    let store : DocStore = record { limits = c.args.core.limits; history = c.args.core.history } in
+    let store : DocStore = record { terms = c.args.core.terms; history = c.args.core.history } in
     let l0 = g.S.Source.left c.args.source.now in
     let l1 = g.S.Source.left c.tell_all-outcome.new.source in
     let g0 = g.K.Sink.given c.args.sink.now in

@@ -19,7 +19,7 @@ returns-in-Ok-clause-ran g c =
     let address = g.A.Address.address in
     let core = c.in-Ok.core in
     let opened = c.in-Ok.ensures in
-    let found : DocStore = record { limits = core.limits; history = core.history } in
+    let found : DocStore = record { terms = core.terms; history = core.history } in
     let is : IsOpenedAs document address (d.contents c.args.disk) found = record { valid = opened.valid; reads = opened.reads; only = opened.only } in
     let left = g.S.Source.left c.run_opened.new.source in
     let e = c.run_opened.ensures.ran in
@@ -31,7 +31,7 @@ returns-in-Ok-clause-behind_source g c fault =
     let address = g.A.Address.address in
     let core = c.in-Ok.core in
     let opened = c.in-Ok.ensures in
-    let found : DocStore = record { limits = core.limits; history = core.history } in
+    let found : DocStore = record { terms = core.terms; history = core.history } in
     let is : IsOpenedAs document address (d.contents c.args.disk) found = record { valid = opened.valid; reads = opened.reads; only = opened.only } in
     let left = g.S.Source.left c.run_opened.new.source in
     wrote_opened address d.may_leave d.moment d.left_since (d.contents c.args.disk) found is core.disk c.run_opened.result.1 (g.S.Source.left c.args.source.now) left (g.K.Sink.given c.args.sink.now) (g.K.Sink.given c.run_opened.new.sink) ReadFault
@@ -43,7 +43,7 @@ returns-in-Ok-clause-behind_disk g c fault =
     let address = g.A.Address.address in
     let core = c.in-Ok.core in
     let opened = c.in-Ok.ensures in
-    let found : DocStore = record { limits = core.limits; history = core.history } in
+    let found : DocStore = record { terms = core.terms; history = core.history } in
     let is : IsOpenedAs document address (d.contents c.args.disk) found = record { valid = opened.valid; reads = opened.reads; only = opened.only } in
     let left = g.S.Source.left c.run_opened.new.source in
     wrote_opened address d.may_leave d.moment d.left_since (d.contents c.args.disk) found is core.disk c.run_opened.result.1 (g.S.Source.left c.args.source.now) left (g.K.Sink.given c.args.sink.now) (g.K.Sink.given c.run_opened.new.sink) DiskFault

@@ -21,7 +21,7 @@ returns-in-Ok-clause-wrote g c =
     let address = g.A.Address.address in
     let core = c.in-Ok.core in
     let opened = c.in-Ok.ensures in
-    let found : DocStore = record { limits = core.limits; history = core.history } in
+    let found : DocStore = record { terms = core.terms; history = core.history } in
     let clients : Clients = record { count = c.args.work.count; work = record { steps = c.args.work.steps; number = c.args.work.number } } in
     answers_map (RanOver g.D.Disk.may_leave address found clients c.together_over.result.1) (λ whole. ⊥) (RanTogether g.D.Disk.may_leave address told clients c.together_over.result.1) (SaysRefused document address told)
     (λ whole ran. (found, record { valid = opened.valid; reads = opened.reads; only = opened.only }, ran)) (λ whole no. absurd no)
@@ -33,7 +33,7 @@ returns-in-Ok-clause-crashes g c store holds =
     let address = g.A.Address.address in
     let core = c.in-Ok.core in
     let opened = c.in-Ok.ensures in
-    let found : DocStore = record { limits = core.limits; history = core.history } in
+    let found : DocStore = record { terms = core.terms; history = core.history } in
     let clients : Clients = record { count = c.args.work.count; work = record { steps = c.args.work.steps; number = c.args.work.number } } in
     let is : IsOpenedAs document address (d.contents c.args.disk) found = record { valid = opened.valid; reads = opened.reads; only = opened.only } in
     let same = same_store address d.contents d.may_leave d.moment d.left_since (g.met.D.Disk g.world.𝓛 g.world.𝓜 g.world.𝓡 ((λ s x. x), (λ x. x), (λ x. x), λ x. x)).counts_now c.args.disk store found holds is in
@@ -42,21 +42,21 @@ returns-in-Ok-clause-crashes g c store holds =
 pub returns-in-Ok-clause-refused : goal.returns-in-Ok-clause-refused
 returns-in-Ok-clause-refused g c refused =
     let d = g.D.Disk in
-    let found : DocStore = record { limits = c.in-Ok.core.limits; history = c.in-Ok.core.history } in
+    let found : DocStore = record { terms = c.in-Ok.core.terms; history = c.in-Ok.core.history } in
     let clients : Clients = record { count = c.args.work.count; work = record { steps = c.args.work.steps; number = c.args.work.number } } in
     absurd {A = LeavesOnly d.moment d.left_since c.args.disk c.together_over.result.1 (d.may_leave c.args.disk)}
     (never_refused (RanOver g.D.Disk.may_leave g.A.Address.address found clients c.together_over.result.1) c.together_over.result.0 (g.K.Sink.given c.args.sink.now) (g.K.Sink.given c.together_over.new.sink) c.together_over.ensures.wrote refused)
 
 pub returns-in-Ok-clause-refused_only : goal.returns-in-Ok-clause-refused_only
-returns-in-Ok-clause-refused_only g c refused f told limits history reads =
-    let found : DocStore = record { limits = c.in-Ok.core.limits; history = c.in-Ok.core.history } in
+returns-in-Ok-clause-refused_only g c refused f told terms history reads =
+    let found : DocStore = record { terms = c.in-Ok.core.terms; history = c.in-Ok.core.history } in
     let clients : Clients = record { count = c.args.work.count; work = record { steps = c.args.work.steps; number = c.args.work.number } } in
     never_refused (RanOver g.D.Disk.may_leave g.A.Address.address found clients c.together_over.result.1) c.together_over.result.0 (g.K.Sink.given c.args.sink.now) (g.K.Sink.given c.together_over.new.sink) c.together_over.ensures.wrote refused
 
 pub returns-in-Ok-clause-keeps : goal.returns-in-Ok-clause-keeps
 returns-in-Ok-clause-keeps g c f told none =
     let d = g.D.Disk in
-    absurd {A = LeavesOnly d.moment d.left_since c.args.disk c.together_over.result.1 (d.may_leave c.args.disk)} (none c.in-Ok.core.limits c.in-Ok.core.history (c.in-Ok.ensures.reads f told))
+    absurd {A = LeavesOnly d.moment d.left_since c.args.disk c.together_over.result.1 (d.may_leave c.args.disk)} (none c.in-Ok.core.terms c.in-Ok.core.history (c.in-Ok.ensures.reads f told))
 
 pub returns-in-Ok-clause-reason : goal.returns-in-Ok-clause-reason
 returns-in-Ok-clause-reason g c n =

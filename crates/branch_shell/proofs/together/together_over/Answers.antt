@@ -6,7 +6,7 @@ use Rattle.branch_io.specs.Causes.{Rose}
 use Rattle.branch_doc.specs.Document.{document}
 use Rattle.branch_doc.specs.Forms.{doc_op}
 use Rattle.branch_machine.specs.Fixed.{fix}
-use Rattle.branch_names.specs.declared.limits.Limits.{Limits}
+use Rattle.branch_names.specs.declared.terms.Terms.{Terms}
 use Rattle.branch_shared.specs.Keeps.{faults_since}
 use Rattle.branch_command.specs.Work.{Clients}
 use Rattle.parallel_clients.specs.declared.outcome.Outcome.{Outcome}
@@ -24,7 +24,7 @@ returns-then-has_failed-clause-survives g c =
     let d = g.D.Disk in
     let address = g.A.Address.address in
     let core = c.args.core in
-    let store : DocStore = record { limits = core.limits; history = core.history } in
+    let store : DocStore = record { terms = core.terms; history = core.history } in
     let clients : Clients = record { count = c.args.work.count; work = record { steps = c.args.work.steps; number = c.args.work.number } } in
     let after = c.run_on-core.result.core in
     let ran = c.run_on-core.ensures in
@@ -32,7 +32,7 @@ returns-then-has_failed-clause-survives g c =
       history = after.history;
       came = came_together address store clients after.history (d.faults core.opened) (faults_since d.faults after) c.run_on-core.result.outcomes ran.grows ran.valid ran.worked ran.idle;
       reads = λ i left. reads_failed address c.reads_what_stands.ensures store after.history ran.valid i
-          (subst (λ (l : Limits). MayBeLeft (fix document l address) after.history i) ran.limits (c.moves.ensures.left i (subst (λ k. d.may_leave k i) c.close.ensures.same left)));
+          (subst (λ (l : Terms). MayBeLeft (fix document l address) after.history i) ran.terms (c.moves.ensures.left i (subst (λ k. d.may_leave k i) c.close.ensures.same left)));
     }
 
 pub say_together-requires : goal.say_together-requires
@@ -41,7 +41,7 @@ say_together-requires g c =
     let core = c.args.core in
     let work = c.args.work in
     let after = c.run_on-core.result.core in
-    let on = setting (fix document core.limits g.A.Address.address) doc_op (faults core.opened) in
+    let on = setting (fix document core.terms g.A.Address.address) doc_op (faults core.opened) in
     let since = faults_since faults after in
     let worked = subst (λ r. IfOk r (HaveWorked on core.history after.history since work.count work.steps work.number)) c.in-Ok.is c.run_on-core.ensures.worked in
     subst (AllByRecursion FindsAll) (sym c.as_slice.ensures) (finds_all on core.history after.history since work.count work.steps work.number c.in-Ok.outcomes worked)
@@ -52,17 +52,17 @@ returns-in-Ok-clause-wrote g c =
     let address = g.A.Address.address in
     let core = c.args.core in
     let work = c.args.work in
-    let store : DocStore = record { limits = core.limits; history = core.history } in
+    let store : DocStore = record { terms = core.terms; history = core.history } in
     let clients : Clients = record { count = work.count; work = record { steps = work.steps; number = work.number } } in
     let after = c.run_on-core.result.core in
     let ran = c.run_on-core.ensures in
-    let on = setting (fix document core.limits address) doc_op (d.faults core.opened) in
+    let on = setting (fix document core.terms address) doc_op (d.faults core.opened) in
     let since = faults_since d.faults after in
     let worked = subst (λ r. IfOk r (HaveWorked on core.history after.history since work.count work.steps work.number)) c.in-Ok.is ran.worked in
     let seen = c.as_slice.result.now in
     let working = sym c.has_failed.ensures ∙ c.if-has_failed.false in
-    let stands = subst (λ (l : Limits). AllStand (fix document l address) after.history (d.may_leave after.disk)) ran.limits (c.moves.ensures.stands working) in
-    answers_map (TellsClients seen after.history) (λ whole. ⊥) (RanOver d.may_leave address store clients c.close-in-Ok.result) (λ whole. ⊥)
+    let stands = subst (λ (l : Terms). AllStand (fix document l address) after.history (d.may_leave after.disk)) ran.terms (c.moves.ensures.stands working) in
+    answers_map (TellsClients after.terms.origin seen after.history) (λ whole. ⊥) (RanOver d.may_leave address store clients c.close-in-Ok.result) (λ whole. ⊥)
     (λ whole tells. record {
       history = after.history;
       told = record {
@@ -74,7 +74,7 @@ returns-in-Ok-clause-wrote g c =
           valid = ran.valid;
           worked = subst (λ (os : List Outcome). HaveWorked on core.history after.history since work.count work.steps work.number os) (sym c.as_slice.ensures) worked;
         };
-        tells = tells;
+        tells = subst (λ (l : Terms). TellsClients l.origin seen after.history whole) ran.terms tells;
       };
       reads = λ i left. reads_all address c.reads_what_stands.ensures store after.history ran.valid (d.may_leave after.disk) stands i (subst (λ k. d.may_leave k i) c.close-in-Ok.ensures.same left);
     })
@@ -85,11 +85,11 @@ returns-in-Ok-clause-survives g c =
     let d = g.D.Disk in
     let address = g.A.Address.address in
     let core = c.args.core in
-    let store : DocStore = record { limits = core.limits; history = core.history } in
+    let store : DocStore = record { terms = core.terms; history = core.history } in
     let clients : Clients = record { count = c.args.work.count; work = record { steps = c.args.work.steps; number = c.args.work.number } } in
     let after = c.run_on-core.result.core in
     let ran = c.run_on-core.ensures in
-    let stands = subst (λ (l : Limits). AllStand (fix document l address) after.history (d.may_leave after.disk)) ran.limits (c.moves.ensures.stands (sym c.has_failed.ensures ∙ c.if-has_failed.false)) in
+    let stands = subst (λ (l : Terms). AllStand (fix document l address) after.history (d.may_leave after.disk)) ran.terms (c.moves.ensures.stands (sym c.has_failed.ensures ∙ c.if-has_failed.false)) in
     record {
       history = after.history;
       came = came_together address store clients after.history (d.faults core.opened) (faults_since d.faults after) c.run_on-core.result.outcomes ran.grows ran.valid ran.worked ran.idle;
@@ -102,7 +102,7 @@ returns-in-Ok-clause-reason g c n =
     let core = c.args.core in
     let work = c.args.work in
     let after = c.run_on-core.result.core in
-    let on = setting (fix document core.limits g.A.Address.address) doc_op (faults core.opened) in
+    let on = setting (fix document core.terms g.A.Address.address) doc_op (faults core.opened) in
     let since = faults_since faults after in
     let worked = subst (λ r. IfOk r (HaveWorked on core.history after.history since work.count work.steps work.number)) c.in-Ok.is c.run_on-core.ensures.worked in
     let seen = c.as_slice.result.now in
@@ -113,7 +113,7 @@ returns-in-Ok-clause-reason g c n =
     let closed : faults c.close-in-Ok.result ≡ faults after.disk = ap faults c.close-in-Ok.ensures.same in
     let fresh : faults core.opened ≡ faults core.disk = ap faults c.requires in
     let last : faults core.opened + since ≡ faults c.close-in-Ok.result = omega (arith, quiet, opened, closed) in
-    reason_stays (TellsClients seen after.history) (λ whole. ⊥) n (g.K.Sink.faults c.args.sink.now) (g.K.Sink.faults c.say_together.new.sink) (faults core.disk) (faults c.close-in-Ok.result)
+    reason_stays (TellsClients after.terms.origin seen after.history) (λ whole. ⊥) n (g.K.Sink.faults c.args.sink.now) (g.K.Sink.faults c.say_together.new.sink) (faults core.disk) (faults c.close-in-Ok.result)
     (g.K.Sink.given c.args.sink.now) (g.K.Sink.given c.say_together.new.sink) c.say_together.result c.say_together.ensures.wrote (closed ∙ quiet ∙ opened ∙ fresh)
     (λ is.
     let rose = fault_rose on core.history after.history since work.count work.steps work.number seen own (c.say_together.ensures.fault is) in
@@ -125,11 +125,11 @@ returns-in-Err-clause-survives g c =
     let d = g.D.Disk in
     let address = g.A.Address.address in
     let core = c.args.core in
-    let store : DocStore = record { limits = core.limits; history = core.history } in
+    let store : DocStore = record { terms = core.terms; history = core.history } in
     let clients : Clients = record { count = c.args.work.count; work = record { steps = c.args.work.steps; number = c.args.work.number } } in
     let after = c.run_on-core.result.core in
     let ran = c.run_on-core.ensures in
-    let stands = subst (λ (l : Limits). AllStand (fix document l address) after.history (d.may_leave after.disk)) ran.limits (c.moves.ensures.stands (sym c.has_failed.ensures ∙ c.if-has_failed.false)) in
+    let stands = subst (λ (l : Terms). AllStand (fix document l address) after.history (d.may_leave after.disk)) ran.terms (c.moves.ensures.stands (sym c.has_failed.ensures ∙ c.if-has_failed.false)) in
     record {
       history = after.history;
       came = came_together address store clients after.history (d.faults core.opened) (faults_since d.faults after) c.run_on-core.result.outcomes ran.grows ran.valid ran.worked ran.idle;

@@ -4,13 +4,13 @@ use Rattle.branch_history.specs.declared.moves.Move.{Move}
 use Rattle.branch_machine.specs.Fixed.{fix}
 use Rattle.branch_machine.specs.Validity.{IsFullyValid}
 use Rattle.branch_script.specs.declared.step.Step.{Step}
-use Rattle.branch_shared.specs.Keeps.{faults_since}
+use Rattle.branch_shared.specs.Keeps.{DropsNone, faults_since}
 use Rattle.branch_shared.specs.Names.{BlankView}
 use Rattle.store_core.specs.Views.{StoreView}
 use Rattle.parallel_clients.specs.Outcomes.{setting}
 use Rattle.client_runs.specs.Scripts.{scripts_of}
 use Rattle.client_runs.specs.Worked.{HaveRun, HaveWorked}
-use Rattle.client_runs.proofs.Known.{first-within}
+use Rattle.client_runs.proofs.Known.{first-within, first-main}
 use Rattle.client_runs.proofs.Runs.{answer-says, length-scripts_of, have-worked}
 use Rattle.client_runs.proofs.run.run_on.Goals as goal
 
@@ -35,14 +35,16 @@ returns-in-Ok-new-clause-worked g c =
     let op_of = g.T.Plain.op_of in
     let history = c.share.result.core.history in
     let faults = faults_since g.D.Disk.faults c.share.result.core in
-    let on = setting (fix meaning core.limits address) op_of (g.D.Disk.faults core.opened) in
+    let on = setting (fix meaning core.terms address) op_of (g.D.Disk.faults core.opened) in
     let scripts = c.deref.result.now in
     let drawn : scripts ≡ scripts_of work.count work.steps work.number = c.deref.ensures.value ∙ c.in-Ok.ensures in
-    let valid : IsFullyValid (fix meaning core.limits address) history = subst (λ (b : BlankView (Move _ _) _). IsFullyValid (fix meaning b.core.limits address) history) made c.share.ensures.valid in
-    let within = first-within meaning core.limits address c.keeps_limits.ensures c.makes_fewer_moves.ensures c.has_fully_valid_prefixes.ensures history valid in
-    answer-says (HaveRun (setting (fix meaning blank.core.limits address) op_of blank.opened) blank.core.history history faults scripts) (HaveWorked on core.history history faults work.count work.steps work.number) c.share.result.outcomes
+    let valid : IsFullyValid (fix meaning core.terms address) history = subst (λ (b : BlankView (Move _ _) _). IsFullyValid (fix meaning b.core.terms address) history) made c.share.ensures.valid in
+    let within = first-within meaning core.terms address c.keeps_limits.ensures c.makes_fewer_moves.ensures c.has_fully_valid_prefixes.ensures history valid in
+    let main = first-main meaning core.terms address c.keeps_order.ensures c.makes_fewer_moves.ensures c.has_fully_valid_prefixes.ensures history valid in
+    let drops : DropsNone core.history history = subst (λ (b : BlankView (Move _ _) _). DropsNone b.core.history history) made c.share.ensures.drops_none in
+    answer-says (HaveRun (setting (fix meaning blank.core.terms address) op_of blank.opened) blank.core.history history faults scripts) (HaveWorked on core.history history faults work.count work.steps work.number) c.share.result.outcomes
     (λ outcomes run.
-    let own = subst (λ (b : BlankView (Move _ _) _). HaveRun (setting (fix meaning b.core.limits address) op_of b.opened) b.core.history history faults scripts outcomes) made run in
-    have-worked on core.history history within faults work.count work.steps work.number outcomes
+    let own = subst (λ (b : BlankView (Move _ _) _). HaveRun (setting (fix meaning b.core.terms address) op_of b.opened) b.core.history history faults scripts outcomes) made run in
+    have-worked on core.history history drops within main faults work.count work.steps work.number outcomes
     (subst (λ (xs : List (List Step)). HaveRun on core.history history faults xs outcomes) drawn own))
     c.share.ensures.ran

@@ -2,4 +2,4 @@
 use Rattle.client_runs.proofs.run.run_on.Given as goal
 
 abbrev pub ghosts-share : goal.ghosts-share
-ghosts-share g a = record { table = a.blank.table; begun = a.blank.core.history; limits = a.blank.core.limits; parts = a.blank.parts; opened = a.blank.opened }
+ghosts-share g a = record { table = a.blank.table; begun = a.blank.core.history; terms = a.blank.core.terms; parts = a.blank.parts; opened = a.blank.opened }

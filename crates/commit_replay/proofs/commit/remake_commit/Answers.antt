@@ -13,20 +13,20 @@ use Rattle.commit_replay.proofs.commit.remake_commit.Goals as goal
 pub returns-in-Err-clause-not : goal.returns-in-Err-clause-not
 returns-in-Err-clause-not g c =
     let r = c.args.recorded.now in
-    let fixed = fix g.T.Mrdt.meaning r.limits g.A.Address.address in
+    let fixed = fix g.T.Mrdt.meaning r.terms g.A.Address.address in
     subst (NotRemadeAs fixed r.written c.args.next.now c.args.bytes.now) (sym c.unread.ensures)
     (why-unread fixed r.written c.args.next.now c.args.bytes.now c.in-Err.why (λ is. not-parted fixed c.args.next.now c.args.bytes.now (c.in-Err.ensures.none (ap Err is))))
 
 pub returns-in-Err-planned-clause-not : goal.returns-in-Err-planned-clause-not
 returns-in-Err-planned-clause-not g c =
     let r = c.args.recorded.now in
-    let fixed = fix g.T.Mrdt.meaning r.limits g.A.Address.address in
+    let fixed = fix g.T.Mrdt.meaning r.terms g.A.Address.address in
     let parts = c.in-Ok.ensures.parts in
     subst (NotRemadeAs fixed r.written c.args.next.now c.args.bytes.now) (sym c.unread-in-Err-planned.ensures)
     (why-unread fixed r.written c.args.next.now c.args.bytes.now c.in-Err-planned.why
     (λ is.
     not-done fixed c.args.next.now c.args.bytes.now c.in-Ok.parts.value parts.commit parts.are
-    (λ does. c.in-Err-planned.ensures.other (ap Err is) r.limits g.A.Address.address (subst (Does fixed c.args.next.now) parts.does does))))
+    (λ does. c.in-Err-planned.ensures.other (ap Err is) r.terms g.A.Address.address (subst (Does fixed c.args.next.now) parts.does does))))
 
 pub returns-in-Ok-false-clause-not : goal.returns-in-Ok-false-clause-not
 returns-in-Ok-false-clause-not g c =
@@ -34,10 +34,10 @@ returns-in-Ok-false-clause-not g c =
     let next = c.args.next.now in
     let bytes = c.args.bytes.now in
     let address = g.A.Address.address in
-    let fixed = fix g.T.Mrdt.meaning r.limits address in
+    let fixed = fix g.T.Mrdt.meaning r.terms address in
     let laws = (g.met.T.Mrdt g.world.𝓛 g.world.𝓜 g.world.𝓡 ((λ s x. x), (λ x. x), (λ x. x), λ x. x)).laws in
     let valid = subst (IsFullyValid fixed) (settled-moves r.written r.pending c.requires.settled) c.moves-moves.ensures.valid in
     let parts = c.in-Ok.ensures.parts in
-    let not = subst (Remade fixed r c.remake.new.recorded (step_for r.written c.in-Ok-planned.plan) next bytes) c.in-Ok-false.field-0-test c.in-Ok-false.ensures.remade in
-    why-refused fixed r.written next bytes laws g.met.A.Address.size valid c.requires.fits c.requires.may c.requires.long
-    c.in-Ok-planned.plan c.in-Ok.parts.value parts.commit c.in-Ok.parts.action c.in-Ok-planned.ensures.plan parts.are parts.does (c.in-Ok-planned.ensures.does r.limits address) not.1 c.why_not.result c.why_not.ensures
+    let not = subst (Remade fixed r c.remake.new.recorded (step_for r.terms r.written c.in-Ok-planned.plan) next bytes) c.in-Ok-false.field-0-test c.in-Ok-false.ensures.remade in
+    why-refused fixed r.written next bytes laws g.met.A.Address.size valid c.requires.known c.requires.fits c.requires.may c.requires.long
+    c.in-Ok-planned.plan c.in-Ok.parts.value parts.commit c.in-Ok.parts.action c.in-Ok-planned.ensures.plan parts.are parts.does (c.in-Ok-planned.ensures.does r.terms address) not.1 c.why_not.result c.why_not.ensures

@@ -10,7 +10,7 @@ unreachable-requires g c =
     let r = c.args.recorded.now in
     let name = c.branch_at-name.result.0 in
     let refused = subst (LookRefusedAs g.T.Mrdt.meaning (core_of r) name) c.in-Err-UnknownBranch.field-0-is c.in-Err-UnknownBranch.ensures.refused in
-    let none = look-unseen g.T.Mrdt.meaning r.limits r.written name name refused.1 in
+    let none = look-unseen g.T.Mrdt.meaning r.terms r.written name name refused.1 in
     let e : Some c.args.branch ≡ None = sym c.branch_at-name.ensures.named ∙ none in
     cc e
 
@@ -18,4 +18,4 @@ pub returns-in-Ok : goal.returns-in-Ok
 returns-in-Ok g c =
     let r = c.args.recorded.now in
     let on = c.in-Ok.ensures.on in
-    looks-at g.T.Mrdt.meaning r.limits r.written c.branch_at-name.result.0 c.args.branch c.in-Ok.seen c.branch_at-name.ensures.named on.0 on.1 c.in-Ok.ensures.sees
+    looks-at g.T.Mrdt.meaning r.terms r.written c.branch_at-name.result.0 c.args.branch c.in-Ok.seen c.branch_at-name.ensures.named on.0 on.1 c.in-Ok.ensures.sees

@@ -9,17 +9,17 @@ use Rattle.commit_replay.proofs.rules.may_come.Goals as goal
 pub returns-in-Operation : goal.returns-in-Operation
 returns-in-Operation g c =
     let r = c.args.recorded.now in
-    let fixed = fix g.T.Mrdt.meaning r.limits g.A.Address.address in
+    let fixed = fix g.T.Mrdt.meaning r.terms g.A.Address.address in
     let now = c.standing_of-now.ensures in
-    let room : length r.written < r.limits.moves = omega (arith, now.moves, ap (λ l. l.moves) now.limits, c.if-now.false) in
+    let room : length r.written < r.terms.limits.moves = omega (arith, now.moves, ap (λ l. l.limits.moves) now.terms, c.if-now.false) in
     IfOk-weaker c.may_operate.result _ _
-    (λ may suits. may-by fixed r.written (entry.Operation c.in-Operation.branch c.in-Operation.address c.in-Operation.end) c.args.next.now may c.in-Operation.is room (suits c.in-Operation.address)) c.may_operate.ensures
+    (λ may suits. may-by fixed r.written (entry.Operation c.in-Operation.branch c.in-Operation.address c.in-Operation.end) c.args.next.now may c.in-Operation.is room (omega arith) (suits c.in-Operation.address)) c.may_operate.ensures
 
 pub returns-in-Merge : goal.returns-in-Merge
 returns-in-Merge g c =
     let r = c.args.recorded.now in
-    let fixed = fix g.T.Mrdt.meaning r.limits g.A.Address.address in
+    let fixed = fix g.T.Mrdt.meaning r.terms g.A.Address.address in
     let now = c.standing_of-now.ensures in
-    let room : length r.written < r.limits.moves = omega (arith, now.moves, ap (λ l. l.moves) now.limits, c.if-now.false) in
+    let room : length r.written < r.terms.limits.moves = omega (arith, now.moves, ap (λ l. l.limits.moves) now.terms, c.if-now.false) in
     IfOk-weaker c.may_merge.result _ _
-    (λ may suits. may-by fixed r.written (entry.Merge c.in-Merge.branch c.in-Merge.from c.in-Merge.address c.in-Merge.end) c.args.next.now may c.in-Merge.is room (suits c.in-Merge.address)) c.may_merge.ensures
+    (λ may suits. may-by fixed r.written (entry.Merge c.in-Merge.branch c.in-Merge.from c.in-Merge.address c.in-Merge.end) c.args.next.now may c.in-Merge.is room (omega arith) (suits c.in-Merge.address)) c.may_merge.ensures

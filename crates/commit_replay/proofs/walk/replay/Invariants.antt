@@ -3,4 +3,4 @@ use Rattle.commit_replay.specs.Walk.{IsWalked}
 use Rattle.commit_replay.proofs.walk.replay.Given as goal
 
 abbrev pub invariant-loop-next : goal.invariant-loop-next
-invariant-loop-next g l = IsWalked (fix g.T.Mrdt.meaning l.fn.limits g.A.Address.address) l.recorded l.next-index l.records l.objects
+invariant-loop-next g l = IsWalked (fix g.T.Mrdt.meaning l.fn.terms g.A.Address.address) l.recorded l.next-index l.records l.objects

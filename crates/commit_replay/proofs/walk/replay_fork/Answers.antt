@@ -15,7 +15,7 @@ pub unreachable-requires : goal.unreachable-requires
 unreachable-requires g c =
     let r = c.args.recorded.now in
     let next = c.args.next.now in
-    let fixed = fix g.T.Mrdt.meaning r.limits g.A.Address.address in
+    let fixed = fix g.T.Mrdt.meaning r.terms g.A.Address.address in
     let laws = (g.met.T.Mrdt g.world.𝓛 g.world.𝓜 g.world.𝓡 ((λ s x. x), (λ x. x), (λ x. x), λ x. x)).laws in
     let valid = subst (IsFullyValid fixed) (settled-moves r.written r.pending c.requires.settled) c.moves-moves.ensures.valid in
     let is = c.requires.is.2 in
@@ -23,4 +23,4 @@ unreachable-requires g c =
     let long : end_of fixed r.written + length {A = ℕ} [] ≡ end_at next = omega (arith, end) in
     let made = c.in_ok-fork.ensures in
     let not = subst (Remade fixed r c.fork.new.recorded (machine.Fork c.args.name made.0) next []) c.if-branch.false made.2 in
-    not.1 (fork-remade fixed r.written next [] laws g.met.A.Address.size valid c.requires.fits c.requires.may long c.args.name made.0 c.requires.is.0 c.args.from c.requires.is.1 is made.1)
+    not.1 (fork-remade fixed r.written next [] laws g.met.A.Address.size valid c.requires.known c.requires.fits c.requires.may long c.args.name made.0 c.requires.is.0 c.args.from c.requires.is.1 is made.1)

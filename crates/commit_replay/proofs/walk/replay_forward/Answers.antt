@@ -16,11 +16,11 @@ pub unreachable-requires : goal.unreachable-requires
 unreachable-requires g c =
     let r = c.args.recorded.now in
     let next = c.args.next.now in
-    let fixed = fix g.T.Mrdt.meaning r.limits g.A.Address.address in
+    let fixed = fix g.T.Mrdt.meaning r.terms g.A.Address.address in
     let laws = (g.met.T.Mrdt g.world.𝓛 g.world.𝓜 g.world.𝓡 ((λ s x. x), (λ x. x), (λ x. x), λ x. x)).laws in
     let valid = subst (IsFullyValid fixed) (settled-moves r.written r.pending c.requires.settled) c.moves-moves.ensures.valid in
     let is = c.requires.is.1 in
     let end = no-bytes fixed r.written next (subst (λ (q : Record). MakesCommit q → ⊥) (sym is) (λ none. none)) c.requires.may.suits in
     let long : end_of fixed r.written + length {A = ℕ} [] ≡ end_at next = omega (arith, end) in
-    let not = subst (Remade fixed r c.remake.new.recorded (step_for r.written (Merge c.args.branch c.args.to)) next []) c.if-branch.false c.in_ok-remake.ensures.remade in
-    not.1 (forward-remade fixed r.written next [] laws g.met.A.Address.size valid c.requires.fits c.requires.may long c.args.branch c.args.to c.requires.is.0 is)
+    let not = subst (Remade fixed r c.remake.new.recorded (step_for r.terms r.written (Merge c.args.branch c.args.to)) next []) c.if-branch.false c.in_ok-remake.ensures.remade in
+    not.1 (forward-remade fixed r.written next [] laws g.met.A.Address.size valid c.requires.known c.requires.fits c.requires.may long c.args.branch c.args.to c.requires.is.0 is)

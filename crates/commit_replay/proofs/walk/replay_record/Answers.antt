@@ -8,4 +8,4 @@ pub overflow_add-result : goal.overflow_add-result
 overflow_add-result g c =
     let r = c.args.recorded.now in
     let laws = (g.met.T.Mrdt g.world.𝓛 g.world.𝓜 g.world.𝓡 ((λ s x. x), (λ x. x), (λ x. x), λ x. x)).laws in
-    omega (arith, c.moves.ensures.moves, few-moves (fix g.T.Mrdt.meaning r.limits g.A.Address.address) laws (r.written ++ r.pending) c.moves.ensures.valid)
+    omega (arith, c.moves.ensures.moves, few-moves (fix g.T.Mrdt.meaning r.terms g.A.Address.address) laws (r.written ++ r.pending) c.moves.ensures.valid)

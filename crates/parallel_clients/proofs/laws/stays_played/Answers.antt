@@ -3,4 +3,4 @@ use Rattle.parallel_clients.proofs.Grown.{played-later}
 use Rattle.parallel_clients.proofs.laws.stays_played.Goals as goal
 
 pub returns : goal.returns
-returns g c moves later begun steps places grows is = played-later g.T.Plain.op_of moves later grows begun steps places is
+returns g c origin moves later begun steps places grows is = played-later g.T.Plain.op_of origin moves later grows begun steps places is

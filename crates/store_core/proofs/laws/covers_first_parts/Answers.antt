@@ -4,4 +4,4 @@ use Rattle.store_core.proofs.Covers.{covers}
 use Rattle.store_core.proofs.laws.covers_first_parts.Goals as goal
 
 pub returns : goal.returns
-returns g c = λ limits address first second old. covers (fix g.T.Mrdt.meaning limits address) first second old
+returns g c = λ terms address first second old. covers (fix g.T.Mrdt.meaning terms address) first second old

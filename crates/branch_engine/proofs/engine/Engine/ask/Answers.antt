@@ -19,7 +19,7 @@ returns-in-Err-UnknownBranch g c =
     let core = c.self.inside.core in let sessions = c.self.inside.sessions.entries in let old = c.args.self.now in
     let branch = c.args.branch.now in
     let refusal = machine.UnknownBranch branch in
-    let is = full-so address core sessions old c.self.view_is (machine.Look branch) (machine.Refused refusal) (rw c.in-Err-UnknownBranch.field-0-is at c.in-Err-UnknownBranch.ensures.refused).1 in
+    let is = full-so address core sessions old c.self.view_is (machine.Look branch) (machine.Refused refusal) refl (rw c.in-Err-UnknownBranch.field-0-is at c.in-Err-UnknownBranch.ensures.refused).1 in
     stays_so m address (ask_telling branch c.args.query) old old c.args.out.now.items c.put_unknown.new.out.items (refusal_text branch refusal ++ line_end) c.put_unknown.result c.replied.result c.replied.ensures.ok c.replied.ensures.err
     c.requires refl (ask_refused m address old branch c.args.query refusal is) c.put_unknown.ensures.ok c.put_unknown.ensures.err
 
@@ -44,11 +44,11 @@ returns g c =
     let core = c.self.inside.core in let sessions = c.self.inside.sessions.entries in let old = c.args.self.now in
     let seen = c.in-Ok.seen in let branch = c.args.branch.now in let query = c.args.query in let answer = c.in_ok-answer.answer in
     let out = c.args.out.now.items in let out' = c.put_answer.new.out.items in
-    let looks = full-so address core sessions old c.self.view_is (machine.Look branch) (machine.Sees seen.branch seen.head) c.in-Ok.ensures.sees in
-    let asks : turn document seen.limits core.history (machine.Ask seen.head c.query.result) ≡ answers (machine.Answered answer) = c.in_ok-answer.ensures core.history (subst (λ h. IsPrefix h core.history) (sym c.in-Ok.ensures.on.0) (prefix-self core.history)) in
-    let plain = subst (λ q. turn document seen.limits core.history (machine.Ask seen.head q) ≡ answers (machine.Answered answer)) c.query.ensures asks in
+    let looks = full-so address core sessions old c.self.view_is (machine.Look branch) (machine.Sees seen.branch seen.head) refl c.in-Ok.ensures.sees in
+    let asks : turn document seen.terms core.history (machine.Ask seen.head c.query.result) ≡ answers (machine.Answered answer) = c.in_ok-answer.ensures core.history (subst (λ h. IsPrefix h core.history) (sym c.in-Ok.ensures.on.0) (prefix-self core.history)) in
+    let plain = subst (λ q. turn document seen.terms core.history (machine.Ask seen.head q) ≡ answers (machine.Answered answer)) c.query.ensures asks in
     let here = subst (λ l. turn document l core.history (machine.Ask seen.head (doc_query query)) ≡ answers (machine.Answered answer)) c.in-Ok.ensures.on.1 plain in
-    let is = full-so address core sessions old c.self.view_is (machine.Ask seen.head (doc_query query)) (machine.Answered answer) here in
+    let is = full-so address core sessions old c.self.view_is (machine.Ask seen.head (doc_query query)) (machine.Answered answer) refl here in
     stays_so m address (ask_telling branch query) old old out out' (answer_text (plain_answer answer) ++ line_end) c.put_answer.result c.replied-2.result c.replied-2.ensures.ok c.replied-2.ensures.err
     c.requires refl (asked m address old branch query seen.branch seen.head answer looks is)
     (subst (λ a. OnOk c.put_answer.result (out' ≡ out ++ (answer_text a ++ line_end))) c.answer.ensures c.put_answer.ensures.ok)

@@ -3,6 +3,7 @@ use Rattle.std.specs.Prelude.{Result, Ok, Err, OnOk, OnErr}
 use mathlib.Core.List.{IsPrefix}
 use Rattle.mrdt_model.specs.declared.errors.Memory.{Memory}
 use Rattle.mrdt_model.specs.Spelled.{AppendsPart}
+use Rattle.branch_names.specs.declared.terms.Terms.{Terms}
 use Rattle.branch_names.specs.Heads.{name_of}
 use Rattle.branch_history.specs.History.{store_of}
 use Rattle.branch_history.specs.Steps as machine
@@ -26,17 +27,17 @@ use Rattle.branch_engine.proofs.engine.Engine.land.Goals as goal
 refused : {D : Type 0} (m : Members D) (address : List ℕ → List ℕ) (old : EngineView D) (out out' session : List ℕ) (op : PlainOp) (made : DocOp) (seen : Seen) (w : Result (Unit {0}) Memory) (r : Result (Unit {0}) TellRefused)
     → OnOk w (r ≡ Ok tt) → OnErr w (r ≡ Err refusal.Memory) → (why : machine.Refusal) → old.core.failed ≡ false
     → AreLooksAt (held old.core) old.sessions → session_named old.sessions session ≡ Some seen → made ≡ doc_op op
-    → FromOn document seen.limits seen.history (λ later. turn document seen.limits later (machine.Land seen.branch seen.head made) ≡ answers {A = DocAnswer} (machine.Refused why))
+    → FromOn document seen.terms seen.history (λ later. turn document seen.terms later (machine.Land seen.branch seen.head made) ≡ answers {A = DocAnswer} (machine.Refused why))
     → OnOk w (out' ≡ out ++ (refusal_text [] why ++ line_end)) → OnErr w (AppendsPart out out' (refusal_text [] why ++ line_end))
-    → refusal_text [] why ≡ refusal_text (name_of (store_of old.core.history).branches seen.branch) why
+    → refusal_text [] why ≡ refusal_text (name_of (store_of old.core.terms.origin old.core.history).branches seen.branch) why
     → DoesSo m address (do_telling session op) old old out out' r
 refused m address old out out' session op made seen w r through short why worked looks found is later ok err text =
     let look = looks session seen found in
     let step = machine.Land seen.branch seen.head (doc_op op) in
-    let plain = subst (λ o. turn document seen.limits old.core.history (machine.Land seen.branch seen.head o) ≡ answers {A = DocAnswer} (machine.Refused why)) is (later old.core.history look.0) in
+    let plain = subst (λ o. turn document seen.terms old.core.history (machine.Land seen.branch seen.head o) ≡ answers {A = DocAnswer} (machine.Refused why)) is (later old.core.history look.0) in
     let here = subst (λ l. turn document l old.core.history step ≡ answers {A = DocAnswer} (machine.Refused why)) look.1 plain in
-    let full = full-so address old.core old.sessions old refl step (machine.Refused why) here in
-    let words = refusal_text (name_of (store_of old.core.history).branches seen.branch) why ++ line_end in
+    let full = full-so address old.core old.sessions old refl step (machine.Refused why) refl here in
+    let words = refusal_text (name_of (store_of old.core.terms.origin old.core.history).branches seen.branch) why ++ line_end in
     does_as m address (do_telling session op) (turn_telling session seen.branch step) old old out out' (do_as m address old session seen found op) r
     (stays_so m address (turn_telling session seen.branch step) old old out out' words w r through short worked refl (turn_stays m address old session seen.branch step (machine.Refused why) full refl)
     (subst (λ t. OnOk w (out' ≡ out ++ (t ++ line_end))) text ok) (subst (λ t. OnErr w (AppendsPart out out' (t ++ line_end))) text err))
@@ -89,13 +90,13 @@ move_on-requires-clause-history g c =
     subst (λ (v : EngineView g.row.D.Denot). IsPrefix c.in-Ok.prepared.seen.history v.core.history) c.self.view_is
     (subst (λ (p : PreparedView DocOp DocReply). IsPrefix p.seen.history core.history) (sym c.in-Ok.ensures.prepared) look.0)
 
-pub move_on-requires-clause-limits : goal.move_on-requires-clause-limits
-move_on-requires-clause-limits g c =
+pub move_on-requires-clause-terms : goal.move_on-requires-clause-terms
+move_on-requires-clause-terms g c =
     let core = c.self.inside.core in let session = c.args.session.now in let seen = c.in-Some.seen.now in
     let found : session_named c.self.inside.sessions.entries session ≡ Some seen = sym c.in-Some.ensures.value in
     let look = c.self.invariant session seen found in
-    subst (λ (v : EngineView g.row.D.Denot). c.in-Ok.prepared.seen.limits ≡ v.core.limits) c.self.view_is
-    (subst (λ (p : PreparedView DocOp DocReply). p.seen.limits ≡ core.limits) (sym c.in-Ok.ensures.prepared) look.1)
+    subst (λ (v : EngineView g.row.D.Denot). c.in-Ok.prepared.seen.terms ≡ v.core.terms) c.self.view_is
+    (subst (λ (p : PreparedView DocOp DocReply). p.seen.terms ≡ core.terms) (sym c.in-Ok.ensures.prepared) look.1)
 
 pub move_on-requires-clause-branch : goal.move_on-requires-clause-branch
 move_on-requires-clause-branch g c =
@@ -106,8 +107,8 @@ move_on-requires-clause-within g c =
     let core = c.self.inside.core in let session = c.args.session.now in let seen = c.in-Some.seen.now in
     let found : session_named c.self.inside.sessions.entries session ≡ Some seen = sym c.in-Some.ensures.value in
     let look = c.self.invariant session seen found in
-    let here = branch-stays seen.history core.history seen.branch look.0 c.branch-branch.ensures.within in
-    rw c.branch-branch.ensures.branch (subst (λ (v : EngineView g.row.D.Denot). seen.branch < length (store_of v.core.history).branches) c.self.view_is here)
+    let here = branch-stays core.terms.origin seen.history core.history seen.branch look.0 (subst (λ (l : Terms). seen.branch < length (store_of l.origin seen.history).branches) look.1 c.branch-branch.ensures.within) in
+    rw c.branch-branch.ensures.branch (subst (λ (v : EngineView g.row.D.Denot). seen.branch < length (store_of v.core.terms.origin v.core.history).branches) c.self.view_is here)
 
 pub returns-in-Ok : goal.returns-in-Ok
 returns-in-Ok g c =

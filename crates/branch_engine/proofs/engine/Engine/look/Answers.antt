@@ -14,7 +14,7 @@ returns-in_err-put_sees-in-Ok g c =
     let core = c.self.inside.core in let sessions = c.self.inside.sessions.entries in let old = c.args.self.now in
     let seen = c.in-Ok.seen in let branch = c.args.branch.now in let session = c.args.session.now in let out = c.args.out.now.items in
     let telling = look_telling session branch in let words = sees_text session branch seen.head ++ line_end in
-    let is = full-so address core sessions old c.self.view_is (machine.Look branch) (machine.Sees seen.branch seen.head) c.in-Ok.ensures.sees in
+    let is = full-so address core sessions old c.self.view_is (machine.Look branch) (machine.Sees seen.branch seen.head) refl c.in-Ok.ensures.sees in
     let part : AppendsPart out c.put_sees.new.out.items (sees_text session branch c.head.result ++ line_end) = c.in_err-put_sees-in-Ok.ensures.err in
     part_written m address telling old old out c.put_sees.new.out.items words c.from_residual.result (short-of c.from_residual.result c.from_residual.ensures.1) (works-still m address telling old old c.requires refl)
     (looked_half m address old session branch seen is old refl (λ name. refl)) (subst (λ n. AppendsPart out c.put_sees.new.out.items (sees_text session branch n ++ line_end)) c.head.ensures part)
@@ -26,7 +26,7 @@ returns-in_ok-put_sees-in-Ok g c =
     let core = c.self.inside.core in let sessions = c.self.inside.sessions.entries in let old = c.args.self.now in
     let seen = c.in-Ok.seen in let branch = c.args.branch.now in let session = c.args.session.now in let out = c.args.out.now.items in
     let telling = look_telling session branch in let words = sees_text session branch seen.head ++ line_end in
-    let is = full-so address core sessions old c.self.view_is (machine.Look branch) (machine.Sees seen.branch seen.head) c.in-Ok.ensures.sees in
+    let is = full-so address core sessions old c.self.view_is (machine.Look branch) (machine.Sees seen.branch seen.head) refl c.in-Ok.ensures.sees in
     let new = c.sees.new.self in
     sees_so m address telling old new out c.put_sees.new.out.items words c.sees.result c.replied.result c.replied.ensures.ok c.replied.ensures.err (works-still m address telling old new c.requires c.sees.ensures.core)
     (Puts old.sessions new.sessions session seen) (KeepsLooks old.sessions new.sessions)
@@ -40,7 +40,7 @@ returns-in-Err-UnknownBranch g c =
     let core = c.self.inside.core in let sessions = c.self.inside.sessions.entries in let old = c.args.self.now in
     let branch = c.args.branch.now in let session = c.args.session.now in
     let refusal = machine.UnknownBranch branch in
-    let is = full-so address core sessions old c.self.view_is (machine.Look branch) (machine.Refused refusal) (rw c.in-Err-UnknownBranch.field-0-is at c.in-Err-UnknownBranch.ensures.refused).1 in
+    let is = full-so address core sessions old c.self.view_is (machine.Look branch) (machine.Refused refusal) refl (rw c.in-Err-UnknownBranch.field-0-is at c.in-Err-UnknownBranch.ensures.refused).1 in
     stays_so m address (look_telling session branch) old old c.args.out.now.items c.put_unknown.new.out.items (refusal_text branch refusal ++ line_end) c.put_unknown.result c.replied-in-Err-UnknownBranch.result c.replied-in-Err-UnknownBranch.ensures.ok c.replied-in-Err-UnknownBranch.ensures.err
     c.requires refl (look_refused m address old session branch refusal is) c.put_unknown.ensures.ok c.put_unknown.ensures.err
 

@@ -3,6 +3,7 @@ use Rattle.std.specs.Prelude.{Result, Ok, Err, OnOk, OnErr}
 use mathlib.Core.List.{IsPrefix}
 use Rattle.mrdt_model.specs.declared.errors.Memory.{Memory}
 use Rattle.mrdt_model.specs.Spelled.{AppendsPart}
+use Rattle.branch_names.specs.declared.terms.Terms.{Terms}
 use Rattle.branch_names.specs.Heads.{name_of}
 use Rattle.branch_history.specs.History.{store_of}
 use Rattle.branch_history.specs.Steps as machine
@@ -17,7 +18,7 @@ use Rattle.branch_engine.specs.declared.refused.TellRefused.TheVariants as refus
 use Rattle.branch_engine.specs.Play.{sight_after}
 use Rattle.branch_engine.specs.Engines.{EngineView, Seen, session_named}
 use Rattle.branch_engine.proofs.Played.{branch-stays, prefix-self}
-use Rattle.branch_engine.proofs.Merges.{Pair, merge_of, pair-history, pair-limits, pair-branch, pair-turn, pair-work}
+use Rattle.branch_engine.proofs.Merges.{Pair, merge_of, pair-history, pair-terms, pair-branch, pair-turn, pair-work}
 use Rattle.branch_engine.proofs.Does.{Members, members, DoesSo, nothing_done, stays_so, does_as}
 use Rattle.branch_engine.proofs.Replies.{view_of, full-so, merge_telling, turn_telling, unmerged, merge_unknown, merge_as, turn_stays}
 use Rattle.branch_engine.proofs.engine.Engine.merge.Goals as goal
@@ -27,13 +28,13 @@ unmoved : {D : Type 0} (m : Members D) (address : List ℕ → List ℕ) (old : 
     (r : Result (Unit {0}) TellRefused) → OnOk w (r ≡ Ok tt) → OnErr w (r ≡ Err refusal.Memory) → (outcome : machine.Outcome DocAnswer DocReply) (words : List ℕ) → old.core.failed ≡ false
     → session_named old.sessions session ≡ Some seen → MergesAs document pair outcome → sight_after seen.branch outcome ≡ None
     → OnOk w (out' ≡ out ++ (words ++ line_end)) → OnErr w (AppendsPart out out' (words ++ line_end))
-    → words ≡ outcome_text session (name_of (store_of old.core.history).branches seen.branch) outcome
+    → words ≡ outcome_text session (name_of (store_of old.core.terms.origin old.core.history).branches seen.branch) outcome
     → DoesSo m address (merge_telling session from) old old out out' r
 unmoved m address old out out' session from seen pair paired w r through short outcome words worked found merges none ok err text =
     let step = merge_of seen.branch seen.head pair.other in
-    let looks = full-so address old.core old.sessions old refl (machine.Look from) (machine.Sees paired.source pair.other) paired.other in
+    let looks = full-so address old.core old.sessions old refl (machine.Look from) (machine.Sees paired.source pair.other) refl paired.other in
     does_as m address (merge_telling session from) (turn_telling session seen.branch step) old old out out' (merge_as m address old session seen found from paired.source pair.other looks) r
-    (stays_so m address (turn_telling session seen.branch step) old old out out' (outcome_text session (name_of (store_of old.core.history).branches seen.branch) outcome ++ line_end) w r through short worked refl
+    (stays_so m address (turn_telling session seen.branch step) old old out out' (outcome_text session (name_of (store_of old.core.terms.origin old.core.history).branches seen.branch) outcome ++ line_end) w r through short worked refl
     (turn_stays m address old session seen.branch step outcome (pair-turn (held old.core) seen from pair paired address outcome merges) none)
     (subst (λ t. OnOk w (out' ≡ out ++ (t ++ line_end))) text ok) (subst (λ t. OnErr w (AppendsPart out out' (t ++ line_end))) text err))
 
@@ -52,8 +53,8 @@ pub pair-requires-clause-history : goal.pair-requires-clause-history
 pair-requires-clause-history g c =
     λ _ _. (c.self.invariant c.args.session.now c.in-Some.seen.now (sym c.in-Some.ensures.value)).0
 
-pub pair-requires-clause-limits : goal.pair-requires-clause-limits
-pair-requires-clause-limits g c =
+pub pair-requires-clause-terms : goal.pair-requires-clause-terms
+pair-requires-clause-terms g c =
     λ _ _. (c.self.invariant c.args.session.now c.in-Some.seen.now (sym c.in-Some.ensures.value)).1
 
 pub returns-in-Err-UnknownBranch : goal.returns-in-Err-UnknownBranch
@@ -65,7 +66,7 @@ returns-in-Err-UnknownBranch g c =
     let why = machine.UnknownBranch from in
     let found : session_named sessions session ≡ Some seen = sym c.in-Some.ensures.value in
     let there = subst (λ (v : EngineView g.row.D.Denot). session_named v.sessions session ≡ Some seen) c.self.view_is found in
-    let is = full-so address core sessions old c.self.view_is (machine.Look from) (machine.Refused why) (rw c.in-Err-UnknownBranch.field-0-is at c.in-Err-UnknownBranch.ensures.refused).1 in
+    let is = full-so address core sessions old c.self.view_is (machine.Look from) (machine.Refused why) refl (rw c.in-Err-UnknownBranch.field-0-is at c.in-Err-UnknownBranch.ensures.refused).1 in
     stays_so m address (merge_telling session from) old old c.args.out.now.items c.put_unknown.new.out.items (refusal_text from why ++ line_end) c.put_unknown.result c.replied-in-Err-UnknownBranch.result c.replied-in-Err-UnknownBranch.ensures.ok c.replied-in-Err-UnknownBranch.ensures.err c.requires refl
     (merge_unknown m address old session seen there from why is) c.put_unknown.ensures.ok c.put_unknown.ensures.err
 
@@ -112,12 +113,12 @@ move_on-requires-clause-history g c =
     let at : made.seen.history ≡ core.history = ap (λ (s : Seen). s.history) does.0 ∙ pair-history (held core) seen c.args.from.now c.in-Ok.pair c.in-Ok.ensures.paired in
     subst (λ (v : EngineView g.row.D.Denot). IsPrefix made.seen.history v.core.history) c.self.view_is (subst (λ h. IsPrefix h core.history) (sym at) (prefix-self core.history))
 
-pub move_on-requires-clause-limits : goal.move_on-requires-clause-limits
-move_on-requires-clause-limits g c =
+pub move_on-requires-clause-terms : goal.move_on-requires-clause-terms
+move_on-requires-clause-terms g c =
     let core = c.self.inside.core in let seen = c.in-Some.seen.now in let made = c.in-Ok-Land.prepared in
     let does = rw c.in-Ok-Land.field-0-is at c.in-Ok-Land.ensures.step in
-    subst (λ (v : EngineView g.row.D.Denot). made.seen.limits ≡ v.core.limits) c.self.view_is
-    (ap (λ (s : Seen). s.limits) does.0 ∙ pair-limits (held core) seen c.args.from.now c.in-Ok.pair c.in-Ok.ensures.paired)
+    subst (λ (v : EngineView g.row.D.Denot). made.seen.terms ≡ v.core.terms) c.self.view_is
+    (ap (λ (s : Seen). s.terms) does.0 ∙ pair-terms (held core) seen c.args.from.now c.in-Ok.pair c.in-Ok.ensures.paired)
 
 pub move_on-requires-clause-branch : goal.move_on-requires-clause-branch
 move_on-requires-clause-branch g c =
@@ -129,8 +130,8 @@ pub move_on-requires-clause-within : goal.move_on-requires-clause-within
 move_on-requires-clause-within g c =
     let core = c.self.inside.core in let seen = c.in-Some.seen.now in
     let look = c.self.invariant c.args.session.now seen (sym c.in-Some.ensures.value) in
-    let here = branch-stays seen.history core.history seen.branch look.0 c.branch-branch.ensures.within in
-    rw c.branch-branch.ensures.branch (subst (λ (v : EngineView g.row.D.Denot). seen.branch < length (store_of v.core.history).branches) c.self.view_is here)
+    let here = branch-stays core.terms.origin seen.history core.history seen.branch look.0 (subst (λ (l : Terms). seen.branch < length (store_of l.origin seen.history).branches) look.1 c.branch-branch.ensures.within) in
+    rw c.branch-branch.ensures.branch (subst (λ (v : EngineView g.row.D.Denot). seen.branch < length (store_of v.core.terms.origin v.core.history).branches) c.self.view_is here)
 
 pub returns-in-Ok-Land : goal.returns-in-Ok-Land
 returns-in-Ok-Land g c =
@@ -144,7 +145,7 @@ returns-in-Ok-Land g c =
     let there = subst (λ (v : EngineView g.row.D.Denot). session_named v.sessions session ≡ Some seen) c.self.view_is found in
     let does = rw c.in-Ok-Land.field-0-is at c.in-Ok-Land.ensures.step in
     let work = pair-work (held core) seen from pair paired made does.0 does.1 in
-    let looks = full-so address core sessions old c.self.view_is (machine.Look from) (machine.Sees paired.source pair.other) paired.other in
+    let looks = full-so address core sessions old c.self.view_is (machine.Look from) (machine.Sees paired.source pair.other) refl paired.other in
     let step = merge_of seen.branch seen.head pair.other in
     does_as m address (merge_telling session from) (turn_telling session seen.branch step) old new out out' (merge_as m address old session seen there from paired.source pair.other looks) result
     (subst (λ b. DoesSo m address (turn_telling session b step) old new out out' result) c.branch-branch.ensures.branch

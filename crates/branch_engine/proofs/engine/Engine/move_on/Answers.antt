@@ -3,7 +3,8 @@ use Rattle.std.specs.Prelude.{Result, Ok, Err, OnOk, OnErr}
 use mathlib.Core.List.{IsPrefix}
 use Rattle.mrdt_model.specs.declared.errors.Memory.{Memory}
 use Rattle.mrdt_model.specs.Spelled.{AppendsPart}
-use Rattle.branch_names.specs.Heads.{name_of, head_of}
+use Rattle.branch_names.specs.declared.terms.Terms.{Terms}
+use Rattle.branch_names.specs.Heads.{name_of, head_of, is_dropped}
 use Rattle.branch_history.specs.History.{store_of}
 use Rattle.branch_history.specs.Steps as machine
 use Rattle.store_seen.specs.Turns.{step_of, move_of, outcome_of}
@@ -25,14 +26,18 @@ invariant_of-self g c =
     let made = c.args.prepared in
     let history = c.in-Ok.ensures.landed.history in
     looks-grow (held c.self.inside.core) (held c.land.new.self) c.self.inside.sessions.entries (move_of made.seen.branch made.work ∷ []) c.self.invariant
-    (ap (λ (k : Store g.row.D.Denot). k.limits) history) (ap (λ (k : Store g.row.D.Denot). k.history) history)
+    (ap (λ (k : Store g.row.D.Denot). k.terms) history) (ap (λ (k : Store g.row.D.Denot). k.history) history)
 
 pub invariant_of-self-in-Ok : goal.invariant_of-self-in-Ok
 invariant_of-self-in-Ok g c =
     let made = c.args.prepared in
     let history = c.in-Ok.ensures.landed.history in
     looks-grow (held c.self.inside.core) (held c.land.new.self) c.self.inside.sessions.entries (move_of made.seen.branch made.work ∷ []) c.self.invariant
-    (ap (λ (k : Store g.row.D.Denot). k.limits) history) (ap (λ (k : Store g.row.D.Denot). k.history) history)
+    (ap (λ (k : Store g.row.D.Denot). k.terms) history) (ap (λ (k : Store g.row.D.Denot). k.history) history)
+
+pub invariant_of-self-in-Err-Dropped : goal.invariant_of-self-in-Err-Dropped
+invariant_of-self-in-Err-Dropped g c =
+    subst (λ (k : Store g.row.D.Denot). AreLooksAt (held k) c.self.inside.sessions.entries) (sym (rw c.in-Err-Dropped.field-0-is at c.in-Err-Dropped.ensures.kept)) c.self.invariant
 
 pub invariant_of-self-in-Err-Stale : goal.invariant_of-self-in-Err-Stale
 invariant_of-self-in-Err-Stale g c =
@@ -60,27 +65,32 @@ invariant_of-self-in-Err-Memory g c =
 
 pub sees_head-requires : goal.sees_head-requires
 sees_head-requires g c =
-    let core = c.self.inside.core in let made = c.args.prepared in let branch = c.args.branch in
-    let here = subst (λ (v : EngineView g.row.D.Denot). branch < length (store_of v.core.history).branches) (sym c.self.view_is) c.requires.within in
-    let grown : IsPrefix core.history c.land.new.self.history = (move_of made.seen.branch made.work ∷ [], sym (ap (λ (k : Store g.row.D.Denot). k.history) c.in-Ok.ensures.landed.history)) in
-    branch-stays core.history c.land.new.self.history branch grown here
+    let core = c.self.inside.core in let made = c.args.prepared in let branch = c.args.branch in let k = c.land.new.self in
+    let does = c.in-Ok.ensures.landed in
+    let here = subst (λ (v : EngineView g.row.D.Denot). branch < length (store_of v.core.terms.origin v.core.history).branches) (sym c.self.view_is) c.requires.within in
+    let there = subst (λ b. b < length (store_of core.terms.origin core.history).branches) (sym c.requires.branch) here in
+    let sees = lands-sees g.A.Address.address core k made.seen made.work c.in-Ok.landed.kind c.in-Ok.landed.moves there does in
+    let grown : IsPrefix core.history k.history = (move_of made.seen.branch made.work ∷ [], sym (ap (λ (s : Store g.row.D.Denot). s.history) does.history)) in (
+      subst (λ (l : Terms). branch < length (store_of l.origin k.history).branches) (sym (ap (λ (s : Store g.row.D.Denot). s.terms) does.history)) (branch-stays core.terms.origin core.history k.history branch grown here),
+      subst (λ b. is_dropped (store_of k.terms.origin k.history).branches b ≡ false) c.requires.branch sees.1,
+    )
 
 pub stale-requires : goal.stale-requires
 stale-requires g c =
     let branch = c.args.branch in
-    let here = subst (λ (v : EngineView g.row.D.Denot). branch < length (store_of v.core.history).branches) (sym c.self.view_is) c.requires.within in
-    subst (λ (k : Store g.row.D.Denot). branch < length (store_of k.history).branches) (sym (rw c.in-Err-Stale.field-0-is at c.in-Err-Stale.ensures.kept)) here
+    let here = subst (λ (v : EngineView g.row.D.Denot). branch < length (store_of v.core.terms.origin v.core.history).branches) (sym c.self.view_is) c.requires.within in
+    subst (λ (k : Store g.row.D.Denot). branch < length (store_of k.terms.origin k.history).branches) (sym (rw c.in-Err-Stale.field-0-is at c.in-Err-Stale.ensures.kept)) here
 
 -- a landing that is refused, of an engine whose view this is
 refused : {D : Type 0} (m : Members D) (address : List ℕ → List ℕ) (old : EngineView D) (core new_core : Store D) (sessions : List (List ℕ × Seen)) (out out' session : List ℕ) (branch : ℕ) (step : machine.Step DocOp DocQuery)
     (w : Result (Unit {0}) Memory) (r : Result (Unit {0}) TellRefused) → OnOk w (r ≡ Ok tt) → OnErr w (r ≡ Err refusal.Memory) → (why : machine.Refusal) (words : List ℕ)
     → view_of core sessions ≡ old → new_core ≡ core → core.failed ≡ false → Refuses m address (view_of core sessions) step why
     → OnOk w (out' ≡ out ++ (words ++ line_end)) → OnErr w (AppendsPart out out' (words ++ line_end))
-    → words ≡ refusal_text (name_of (store_of core.history).branches branch) why
+    → words ≡ refusal_text (name_of (store_of core.terms.origin core.history).branches branch) why
     → DoesSo m address (turn_telling session branch step) old (view_of new_core sessions) out out' r
 refused {D} m address old core new_core sessions out out' session branch step w r through short why words view kept worked is ok err text =
     subst (λ (v : EngineView D). DoesSo m address (turn_telling session branch step) v (view_of new_core sessions) out out' r) view
-    (stays_so m address (turn_telling session branch step) (view_of core sessions) (view_of new_core sessions) out out' (refusal_text (name_of (store_of core.history).branches branch) why ++ line_end) w r through short worked
+    (stays_so m address (turn_telling session branch step) (view_of core sessions) (view_of new_core sessions) out out' (refusal_text (name_of (store_of core.terms.origin core.history).branches branch) why ++ line_end) w r through short worked
     (ap (λ (k : Store D). view_of k sessions) kept)
     (turn_stays m address (view_of core sessions) session branch step (machine.Refused why) is refl)
     (subst (λ t. OnOk w (out' ≡ out ++ (t ++ line_end))) text ok) (subst (λ t. OnErr w (AppendsPart out out' (t ++ line_end))) text err))
@@ -116,10 +126,10 @@ returns-in-Ok g c =
     let whole = whole-so d.may_leave address c.reads_what_stands.ensures k c.moves-in-Ok.ensures.valid (c.moves-in-Ok.ensures.stands (ap (λ (s : Store g.row.D.Denot). s.failed) does.history ∙ does.worked)) in
     let same = c.in-Ok.ensures.cause.others (λ e. absurd (cc)) in
     let new = c.sees_head.new.self in
-    let within = subst (λ (v : EngineView g.row.D.Denot). branch < length (store_of v.core.history).branches) (sym c.self.view_is) c.requires.within in
-    let there = subst (λ b. b < length (store_of core.history).branches) (sym c.requires.branch) within in
+    let within = subst (λ (v : EngineView g.row.D.Denot). branch < length (store_of v.core.terms.origin v.core.history).branches) (sym c.self.view_is) c.requires.within in
+    let there = subst (λ b. b < length (store_of core.terms.origin core.history).branches) (sym c.requires.branch) within in
     let sees = lands-sees address core k made.seen made.work kind moves there does in
-    let at_branch = subst (λ b. sight_after b (outcome_of kind) ≡ Some (sight_at b (head_of (store_of k.history).branches b))) c.requires.branch sees in
+    let at_branch = subst (λ b. sight_after b (outcome_of kind) ≡ Some (sight_at b (head_of (store_of k.terms.origin k.history).branches b))) c.requires.branch sees.0 in
     subst (λ (v : EngineView g.row.D.Denot). DoesSo m address telling v new out out' c.replied.result) c.self.view_is
     (sees_so m address telling here new out out' (kind_text kind ++ line_end) c.sees_head.result c.replied.result c.replied.ensures.ok c.replied.ensures.err
     (works_moved m address here telling step (turn_takes m address here session branch step) c.reads_what_stands.ensures k made_move _ moves does c.moves.ensures.valid c.moves-in-Ok.ensures.valid (c.in-Ok.ensures.any_moment does.worked) same new c.sees_head.ensures.core)
@@ -128,6 +138,18 @@ returns-in-Ok g c =
     (at_branch ∙ ap (λ h. Some (sight_at branch h)) (sym s.2.head_is) ∙ ap (λ b. Some (sight_at b s.0.head)) (sym s.2.branch_is)) c.sees_head.ensures.core s.1)
     (landed_half m address here session branch step k made_move kind moves does whole new c.sees_head.ensures.core)
     c.sees_head.ensures.sees c.sees_head.ensures.kept c.in_ok-put_kind-in-Ok.ensures.ok)
+
+pub returns-in-Err-Dropped : goal.returns-in-Err-Dropped
+returns-in-Err-Dropped g c =
+    let d = g.D.Disk in let laws = g.met.D.Disk in
+    let m = members d.may_leave d.moment d.left_since d.faults laws.only_now in let address = g.A.Address.address in
+    let core = c.self.inside.core in let sessions = c.self.inside.sessions.entries in let old = c.args.self.now in
+    let session = c.args.session.now in let branch = c.args.branch in let made = c.args.prepared in let out = c.args.out.now.items in
+    let step = step_of {Q = DocQuery} made.seen made.work in let k = c.land.new.self in
+    let why = machine.Dropped c.in-Err-Dropped.branch in
+    let is = rw c.in-Err-Dropped.field-0-is at c.in-Err-Dropped.ensures.refused in
+    refused m address old core k sessions out c.put_dropped.new.out.items session branch step c.put_dropped.result c.replied-in-Err-Dropped.result c.replied-in-Err-Dropped.ensures.ok c.replied-in-Err-Dropped.ensures.err why (refusal_text [] why)
+    c.self.view_is (rw c.in-Err-Dropped.field-0-is at c.in-Err-Dropped.ensures.kept) is.0 is.1 c.put_dropped.ensures.ok c.put_dropped.ensures.err refl
 
 pub returns-in-Err-Stale : goal.returns-in-Err-Stale
 returns-in-Err-Stale g c =
@@ -138,7 +160,7 @@ returns-in-Err-Stale g c =
     let step = step_of {Q = DocQuery} made.seen made.work in let k = c.land.new.self in
     let why = machine.Stale c.in-Err-Stale.newest in
     let is = (rw c.in-Err-Stale.field-0-is at c.in-Err-Stale.ensures.refused).0 in let kept = rw c.in-Err-Stale.field-0-is at c.in-Err-Stale.ensures.kept in
-    let name = λ (s : Store g.row.D.Denot). refusal_text (name_of (store_of s.history).branches branch) why in
+    let name = λ (s : Store g.row.D.Denot). refusal_text (name_of (store_of s.terms.origin s.history).branches branch) why in
     refused m address old core k sessions out c.stale.new.out.items session branch step c.stale.result c.replied-in-Err-Stale.result c.replied-in-Err-Stale.ensures.ok c.replied-in-Err-Stale.ensures.err why (name k)
     c.self.view_is kept is.0 is.1 c.stale.ensures.ok c.stale.ensures.err (ap name kept)
 

@@ -20,7 +20,7 @@ returns-in-Ok-Some g c =
     let line = c.args.line.now in
     let is : step_of line ≡ Ok (Some c.in-Ok-Some.step) = rw c.in-Ok-Some.field-0-is at c.in-Ok-Some.ensures.ok in
     does_as m address (line_telling line) (λ fixed p. step_told fixed p c.in-Ok-Some.step) old c.step.new.self c.args.out.now.items c.step.new.out.items
-    (λ limits p at. ap (read_told (doc_fixed address limits) p) is) c.step.result c.step.ensures
+    (λ terms p at. ap (read_told (doc_fixed address terms) p) is) c.step.result c.step.ensures
 
 -- a line that is no step, where memory was not short
 refused : (line : List ℕ) (refusal : LineRefused) → (refusal ≡ refused_as.Memory → ⊥) → IsLineRefusedAs line refusal → step_of line ≡ Err refusal
@@ -38,6 +38,6 @@ returns g c =
     let refused_so : IsLineRefusedAs line refusal = c.in-Err.ensures.err in
     let is : step_of line ≡ Err refusal = refused line refusal c.in_default.not-Memory refused_so in
     let told : IsTold m address (line_telling line) old old (line_refusal_text refusal ++ line_end) =
-    λ limits p at. told-by m address limits old (line_told (doc_fixed address limits) p line) (read_told (doc_fixed address limits) p (Err refusal)) (line_refusal_text refusal ++ line_end) (ap (read_told (doc_fixed address limits) p) is) at refl in
+    λ terms p at. told-by m address terms old (line_told (doc_fixed address terms) p line) (read_told (doc_fixed address terms) p (Err refusal)) (line_refusal_text refusal ++ line_end) (ap (read_told (doc_fixed address terms) p) is) at refl in
     stays_so m address (line_telling line) old old c.args.out.now.items c.put_line_refusal.new.out.items (line_refusal_text refusal ++ line_end) c.put_line_refusal.result c.replied.result c.replied.ensures.ok c.replied.ensures.err c.requires refl told
     c.put_line_refusal.ensures.ok c.put_line_refusal.ensures.err

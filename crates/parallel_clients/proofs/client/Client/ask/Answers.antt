@@ -11,12 +11,12 @@ use Rattle.parallel_clients.proofs.client.Client.ask.Goals as goal
 
 pub returns-in-Ok-ask-clause-plays : goal.returns-in-Ok-ask-clause-plays
 returns-in-Ok-ask-clause-plays g c = λ places.
-    plays-asked g.T.Plain.op_of (stage_of c.args.pass.now c.args.sessions.now.entries places) (stage_of c.look.new.pass c.args.sessions.now.entries places)
+    plays-asked g.T.Plain.op_of g.N.Named.terms.origin (stage_of c.args.pass.now c.args.sessions.now.entries places) (stage_of c.look.new.pass c.args.sessions.now.entries places)
     c.args.pass.now c.look.new.pass (prefix_self c.args.pass.now.moves) (prefix_self c.look.new.pass.moves) places places refl refl c.look.ensures.prefix refl refl c.args.branch.now c.args.query.now
-    (look-there g.T.Mrdt.meaning g.N.Named.limits c.look.new.pass.moves c.args.branch.now c.in-Ok.seen.branch c.in-Ok.seen.head c.in-Ok.ensures.sees)
+    (look-there g.T.Mrdt.meaning g.N.Named.terms c.look.new.pass.moves c.args.branch.now c.in-Ok.seen.branch c.in-Ok.seen.head c.in-Ok.ensures.sees)
 
 pub returns-in-Err-UnknownBranch-clause-stopped : goal.returns-in-Err-UnknownBranch-clause-stopped
 returns-in-Err-UnknownBranch-clause-stopped g c =
     let branch = c.args.branch.now in
     let refused = rw c.in-Err-UnknownBranch.field-0-is at c.in-Err-UnknownBranch.ensures.refused in
-    full-answers (fix g.T.Mrdt.meaning g.N.Named.limits g.A.Address.address) c.look.new.pass.moves (machine.Look branch) (machine.Refused (machine.UnknownBranch branch)) refused.1
+    full-answers (fix g.T.Mrdt.meaning g.N.Named.terms g.A.Address.address) c.look.new.pass.moves (machine.Look branch) (machine.Refused (machine.UnknownBranch branch)) refl refused.1

@@ -4,27 +4,27 @@ use Rattle.parallel_clients.proofs.Turned.{look-there}
 use Rattle.parallel_clients.proofs.client.Client.look_at.Goals as goal
 
 pub returns-in_err-seen-clause-sessions : goal.returns-in_err-seen-clause-sessions
-returns-in_err-seen-clause-sessions g c = sessions_later g.N.Named.limits c.args.pass.now.moves c.look.new.pass.moves c.args.sessions.now.entries c.look.ensures.prefix c.requires
+returns-in_err-seen-clause-sessions g c = sessions_later g.N.Named.terms c.args.pass.now.moves c.look.new.pass.moves c.args.sessions.now.entries c.look.ensures.prefix c.requires
 
 pub returns-in-Ok-clause-sessions : goal.returns-in-Ok-clause-sessions
 returns-in-Ok-clause-sessions g c =
-    let limits = g.N.Named.limits in
+    let terms = g.N.Named.terms in
     let moves = c.look.new.pass.moves in
     let old = c.args.sessions.now.entries in
-    let are = sessions_later limits c.args.pass.now.moves moves old c.look.ensures.prefix c.requires in
-    let is = session-looked limits g.T.Mrdt.meaning moves (record { branch = c.args.branch.now; seen = c.in_ok-seen.seen }) c.in_ok-seen.ensures.on.0 c.in_ok-seen.ensures.on.1 c.in_ok-seen.ensures.sees in
-    sessions-put limits moves old c.set_session.new.sessions.entries c.args.session.now (record { branch = c.args.branch.now; seen = c.in_ok-seen.seen }) c.in-Ok.ensures.put is are
+    let are = sessions_later terms c.args.pass.now.moves moves old c.look.ensures.prefix c.requires in
+    let is = session-looked terms g.T.Mrdt.meaning moves (record { branch = c.args.branch.now; seen = c.in_ok-seen.seen }) c.in_ok-seen.ensures.on.0 c.in_ok-seen.ensures.on.1 c.in_ok-seen.ensures.sees in
+    sessions-put terms moves old c.set_session.new.sessions.entries c.args.session.now (record { branch = c.args.branch.now; seen = c.in_ok-seen.seen }) c.in-Ok.ensures.put is are
 
 pub returns-in-Ok-clause-sees : goal.returns-in-Ok-clause-sees
 returns-in-Ok-clause-sees g c = sights-put c.args.sessions.now.entries c.set_session.new.sessions.entries c.args.session.now (record { branch = c.args.branch.now; seen = c.in_ok-seen.seen }) c.in-Ok.ensures.put
 
 pub returns-in-Ok-clause-there : goal.returns-in-Ok-clause-there
-returns-in-Ok-clause-there g c = look-there g.T.Mrdt.meaning g.N.Named.limits c.look.new.pass.moves c.args.branch.now c.in_ok-seen.seen.branch c.in_ok-seen.seen.head c.in_ok-seen.ensures.sees
+returns-in-Ok-clause-there g c = look-there g.T.Mrdt.meaning g.N.Named.terms c.look.new.pass.moves c.args.branch.now c.in_ok-seen.seen.branch c.in_ok-seen.seen.head c.in_ok-seen.ensures.sees
 
 pub returns-in-Err-clause-sessions : goal.returns-in-Err-clause-sessions
 returns-in-Err-clause-sessions g c =
-    let limits = g.N.Named.limits in
+    let terms = g.N.Named.terms in
     let moves = c.look.new.pass.moves in
     let old = c.args.sessions.now.entries in
-    let are = sessions_later limits c.args.pass.now.moves moves old c.look.ensures.prefix c.requires in
-    sessions-kept limits moves old c.set_session.new.sessions.entries c.in-Err.ensures.kept are
+    let are = sessions_later terms c.args.pass.now.moves moves old c.look.ensures.prefix c.requires in
+    sessions-kept terms moves old c.set_session.new.sessions.entries c.in-Err.ensures.kept are

@@ -9,15 +9,15 @@ use Rattle.parallel_clients.proofs.client.Client.merge.Goals as goal
 
 pub look_again-requires-clause-sessions : goal.look_again-requires-clause-sessions
 look_again-requires-clause-sessions g c κs within =
-    sessions_later g.N.Named.limits c.loop.pass.moves c.try_merge.new.pass.moves c.loop.sessions.entries c.try_merge.ensures.prefix c.loop.invariant.2.sessions_are
+    sessions_later g.N.Named.terms c.loop.pass.moves c.try_merge.new.pass.moves c.loop.sessions.entries c.try_merge.ensures.prefix c.loop.invariant.2.sessions_are
 
 pub look_again-requires-in-Stale-clause-sessions : goal.look_again-requires-in-Stale-clause-sessions
 look_again-requires-in-Stale-clause-sessions g c κs within =
-    sessions_later g.N.Named.limits c.loop.pass.moves c.try_merge.new.pass.moves c.loop.sessions.entries c.try_merge.ensures.prefix c.loop.invariant.2.sessions_are
+    sessions_later g.N.Named.terms c.loop.pass.moves c.try_merge.new.pass.moves c.loop.sessions.entries c.try_merge.ensures.prefix c.loop.invariant.2.sessions_are
 
 pub returns-in-Same-clause-sessions : goal.returns-in-Same-clause-sessions
 returns-in-Same-clause-sessions g c =
-    sessions_later g.N.Named.limits c.loop.pass.moves c.try_merge.new.pass.moves c.loop.sessions.entries c.try_merge.ensures.prefix c.loop.invariant.2.sessions_are
+    sessions_later g.N.Named.terms c.loop.pass.moves c.try_merge.new.pass.moves c.loop.sessions.entries c.try_merge.ensures.prefix c.loop.invariant.2.sessions_are
 
 pub returns-in-Moved-clause-plays : goal.returns-in-Moved-clause-plays
 returns-in-Moved-clause-plays g c =
@@ -28,23 +28,23 @@ returns-in-Moved-clause-plays g c =
     let places = c.loop.places.items in
     let noted = c.try_merge.new.places.items in
     let tried = rw c.in-Moved.is at c.in_ok-try_merge.ensures.tried in
-    let done : HasMerged (sights_of c.args.sessions.now.entries session) c.args.from.now mid after places noted =
-    subst (λ sights. HasMerged (sights session) c.args.from.now mid after places noted) wait.sights tried in
-    plays-merged g.T.Plain.op_of (stage_of c.args.pass.now c.args.sessions.now.entries c.args.places.now.items) (stage_of c.look_again.new.pass c.look_again.new.sessions.entries noted)
+    let done : HasMerged g.N.Named.terms.origin (sights_of c.args.sessions.now.entries session) c.args.from.now mid after places noted =
+    subst (λ sights. HasMerged g.N.Named.terms.origin (sights session) c.args.from.now mid after places noted) wait.sights tried in
+    plays-merged g.T.Plain.op_of g.N.Named.terms.origin (stage_of c.args.pass.now c.args.sessions.now.entries c.args.places.now.items) (stage_of c.look_again.new.pass c.look_again.new.sessions.entries noted)
     mid after wait.seen c.look_again.ensures.prefix places noted (sym wait.noted) refl (c.look_again.ensures.sights ∙ wait.sights) session c.args.from.now done
 
 pub returns-in-Moved-clause-advances : goal.returns-in-Moved-clause-advances
 returns-in-Moved-clause-advances g c =
     let wait = c.loop.invariant.2 in
     let tried = rw c.in-Moved.is at c.in_ok-try_merge.ensures.tried in
-    merged-advances g.N.Named.limits c.args.pass.now c.loop.pass c.try_merge.new.pass c.args.sessions.now.entries c.loop.sessions.entries c.args.places.now.items c.loop.places.items c.try_merge.new.places.items wait
+    merged-advances g.N.Named.terms c.args.pass.now c.loop.pass c.try_merge.new.pass c.args.sessions.now.entries c.loop.sessions.entries c.args.places.now.items c.loop.places.items c.try_merge.new.places.items wait
     c.look_again.new.pass c.try_merge.ensures.prefix c.try_merge.ensures.faults c.look_again.ensures.prefix c.look_again.ensures.faults c.look_again.ensures.rest (sights_of c.loop.sessions.entries c.args.session.now) c.args.from.now tried
 
 pub returns-in-Moved-clause-few : goal.returns-in-Moved-clause-few
 returns-in-Moved-clause-few g c =
     let wait = c.loop.invariant.2 in
     let tried = rw c.in-Moved.is at c.in_ok-try_merge.ensures.tried in
-    merged-few g.N.Named.limits c.args.pass.now c.loop.pass c.try_merge.new.pass c.args.sessions.now.entries c.loop.sessions.entries c.args.places.now.items c.loop.places.items c.try_merge.new.places.items wait
+    merged-few g.N.Named.terms c.args.pass.now c.loop.pass c.try_merge.new.pass c.args.sessions.now.entries c.loop.sessions.entries c.args.places.now.items c.loop.places.items c.try_merge.new.places.items wait
     (sights_of c.loop.sessions.entries c.args.session.now) c.args.from.now tried
 
 pub returns-in-Same-clause-plays : goal.returns-in-Same-clause-plays
@@ -56,7 +56,7 @@ returns-in-Same-clause-plays g c =
     let places = c.loop.places.items in
     let noted = c.try_merge.new.places.items in
     let tried = rw c.in-Same.is at c.in_ok-try_merge.ensures.tried in
-    let done : HasSame (sights_of c.args.sessions.now.entries session) c.args.from.now mid after places noted =
-    subst (λ sights. HasSame (sights session) c.args.from.now mid after places noted) wait.sights tried in
-    plays-same g.T.Plain.op_of (stage_of c.args.pass.now c.args.sessions.now.entries c.args.places.now.items) (stage_of after c.loop.sessions.entries noted)
+    let done : HasSame g.N.Named.terms.origin (sights_of c.args.sessions.now.entries session) c.args.from.now mid after places noted =
+    subst (λ sights. HasSame g.N.Named.terms.origin (sights session) c.args.from.now mid after places noted) wait.sights tried in
+    plays-same g.T.Plain.op_of g.N.Named.terms.origin (stage_of c.args.pass.now c.args.sessions.now.entries c.args.places.now.items) (stage_of after c.loop.sessions.entries noted)
     mid after wait.seen (prefix_self after.moves) places noted (sym wait.noted) refl c.try_merge.ensures.prefix done.stayed.noted wait.sights session c.args.from.now done.branch done.sees done.reached

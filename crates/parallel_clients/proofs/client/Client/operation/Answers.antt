@@ -7,7 +7,7 @@ use Rattle.parallel_clients.proofs.client.Client.operation.Goals as goal
 
 pub look_again-requires-clause-sessions : goal.look_again-requires-clause-sessions
 look_again-requires-clause-sessions g c κs within =
-    sessions_later g.N.Named.limits c.loop.pass.moves c.try_operation.new.pass.moves c.loop.sessions.entries c.try_operation.ensures.prefix c.loop.invariant.2.sessions_are
+    sessions_later g.N.Named.terms c.loop.pass.moves c.try_operation.new.pass.moves c.loop.sessions.entries c.try_operation.ensures.prefix c.loop.invariant.2.sessions_are
 
 pub returns-in-Moved-clause-plays : goal.returns-in-Moved-clause-plays
 returns-in-Moved-clause-plays g c =
@@ -18,11 +18,11 @@ returns-in-Moved-clause-plays g c =
     let places = c.loop.places.items in
     let noted = c.try_operation.new.places.items in
     let tried = rw c.in-Moved.is at c.in_ok-try_operation.ensures.tried in
-    let done : HasDone (sights_of c.args.sessions.now.entries session) (g.T.Plain.op_of c.args.op.now) mid after places noted =
-    subst (λ sights. HasDone (sights session) (g.T.Plain.op_of c.args.op.now) mid after places noted) wait.sights tried in
-    plays-done g.T.Plain.op_of (stage_of c.args.pass.now c.args.sessions.now.entries c.args.places.now.items) (stage_of c.look_again.new.pass c.look_again.new.sessions.entries noted)
+    let done : HasDone g.N.Named.terms.origin (sights_of c.args.sessions.now.entries session) (g.T.Plain.op_of c.args.op.now) mid after places noted =
+    subst (λ sights. HasDone g.N.Named.terms.origin (sights session) (g.T.Plain.op_of c.args.op.now) mid after places noted) wait.sights tried in
+    plays-done g.T.Plain.op_of g.N.Named.terms.origin (stage_of c.args.pass.now c.args.sessions.now.entries c.args.places.now.items) (stage_of c.look_again.new.pass c.look_again.new.sessions.entries noted)
     mid after wait.seen c.look_again.ensures.prefix places noted (sym wait.noted) refl (c.look_again.ensures.sights ∙ wait.sights) session c.args.op.now done
 
 pub look_again-requires-in-Stale-clause-sessions : goal.look_again-requires-in-Stale-clause-sessions
 look_again-requires-in-Stale-clause-sessions g c κs within =
-    sessions_later g.N.Named.limits c.loop.pass.moves c.try_operation.new.pass.moves c.loop.sessions.entries c.try_operation.ensures.prefix c.loop.invariant.2.sessions_are
+    sessions_later g.N.Named.terms c.loop.pass.moves c.try_operation.new.pass.moves c.loop.sessions.entries c.try_operation.ensures.prefix c.loop.invariant.2.sessions_are

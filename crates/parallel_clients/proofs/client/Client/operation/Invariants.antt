@@ -8,7 +8,7 @@ use Rattle.parallel_clients.proofs.client.Client.operation.Given as goal
 abbrev pub invariant-loop : goal.invariant-loop
 invariant-loop g l =
     (goal.iterator-loop g).can_next l.iterator' × (goal.iterator-loop g).is_finite l.iterator'
-    × IsWaiting g.N.Named.limits l.initial.pass l.pass l.initial.sessions.entries l.sessions.entries l.initial.places.items l.places.items
+    × IsWaiting g.N.Named.terms l.initial.pass l.pass l.initial.sessions.entries l.sessions.entries l.initial.places.items l.places.items
     × (length l.places.items < vec_capacity l.places)
     × (vec_capacity l.initial.places ≤ vec_capacity l.places)
-    × KeepsValid (fix g.T.Mrdt.meaning g.N.Named.limits g.A.Address.address) l.initial.pass l.pass
+    × KeepsValid (fix g.T.Mrdt.meaning g.N.Named.terms g.A.Address.address) l.initial.pass l.pass

@@ -7,7 +7,7 @@ use Rattle.parallel_clients.proofs.client.Client.run.Given as goal
 
 abbrev pub invariant-loop-number : goal.invariant-loop-number
 invariant-loop-number g l =
-    IsPlaying g.T.Plain.op_of g.N.Named.limits (take l.number l.steps) l.initial.pass l.pass l.sessions.entries l.places.items
+    IsPlaying g.T.Plain.op_of g.N.Named.terms (take l.number l.steps) l.initial.pass l.pass l.sessions.entries l.places.items
     × (length l.places.items ≤ l.number)
     × (length l.steps ≤ vec_capacity l.places)
-    × KeepsValid (fix g.T.Mrdt.meaning g.N.Named.limits g.A.Address.address) l.initial.pass l.pass
+    × KeepsValid (fix g.T.Mrdt.meaning g.N.Named.terms g.A.Address.address) l.initial.pass l.pass

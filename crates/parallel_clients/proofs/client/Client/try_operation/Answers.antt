@@ -18,7 +18,7 @@ returns-in-Err-Exhausted-clause-stopped g c =
     let found : session_named sessions c.args.session.now ≡ Some s = sym c.in-Some.ensures.value in
     let is = c.requires.sessions.each c.args.session.now s found in
     let refused = rw c.in-Err-Exhausted.field-0-is at c.in-Err-Exhausted.ensures.refused in
-    record { why = do-unprepared (setting (fix g.T.Mrdt.meaning g.N.Named.limits g.A.Address.address) g.T.Plain.op_of g.N.Named.opened) moves s is (sights_of sessions) c.args.session.now (sight-found sessions c.args.session.now s found) c.args.op.now c.in-Ok.op c.in-Ok.ensures (machine.Exhausted c.in-Err-Exhausted.clock) refused; stayed = record { rest = refl; noted = refl } }
+    record { why = do-unprepared (setting (fix g.T.Mrdt.meaning g.N.Named.terms g.A.Address.address) g.T.Plain.op_of g.N.Named.opened) moves s is (sights_of sessions) c.args.session.now (sight-found sessions c.args.session.now s found) c.args.op.now c.in-Ok.op c.in-Ok.ensures (machine.Exhausted c.in-Err-Exhausted.clock) refused; stayed = record { rest = refl; noted = refl } }
 
 pub returns-in-Err-ValueTooLarge-clause-stopped : goal.returns-in-Err-ValueTooLarge-clause-stopped
 returns-in-Err-ValueTooLarge-clause-stopped g c =
@@ -28,14 +28,14 @@ returns-in-Err-ValueTooLarge-clause-stopped g c =
     let found : session_named sessions c.args.session.now ≡ Some s = sym c.in-Some.ensures.value in
     let is = c.requires.sessions.each c.args.session.now s found in
     let refused = rw c.in-Err-ValueTooLarge.field-0-is at c.in-Err-ValueTooLarge.ensures.refused in
-    record { why = do-unprepared (setting (fix g.T.Mrdt.meaning g.N.Named.limits g.A.Address.address) g.T.Plain.op_of g.N.Named.opened) moves s is (sights_of sessions) c.args.session.now (sight-found sessions c.args.session.now s found) c.args.op.now c.in-Ok.op c.in-Ok.ensures (machine.ValueTooLarge c.in-Err-ValueTooLarge.length) refused; stayed = record { rest = refl; noted = refl } }
+    record { why = do-unprepared (setting (fix g.T.Mrdt.meaning g.N.Named.terms g.A.Address.address) g.T.Plain.op_of g.N.Named.opened) moves s is (sights_of sessions) c.args.session.now (sight-found sessions c.args.session.now s found) c.args.op.now c.in-Ok.op c.in-Ok.ensures (machine.ValueTooLarge c.in-Err-ValueTooLarge.length) refused; stayed = record { rest = refl; noted = refl } }
 
 pub land-requires-clause-made : goal.land-requires-clause-made
 land-requires-clause-made g c κs within =
     let s = c.in-Some.at.now in
     let found : session_named c.args.sessions.now.entries c.args.session.now ≡ Some s = sym c.in-Some.ensures.value in
     let is = c.requires.sessions.each c.args.session.now s found in
-    rw c.in-Ok-prepare.ensures.prepared (is.begins, is.limits_are)
+    rw c.in-Ok-prepare.ensures.prepared (is.begins, is.terms_are)
 
 pub returns-in-Ok-land-clause-tried : goal.returns-in-Ok-land-clause-tried
 returns-in-Ok-land-clause-tried g c =
@@ -43,8 +43,8 @@ returns-in-Ok-land-clause-tried g c =
     let sessions = c.args.sessions.now.entries in
     let found : session_named sessions c.args.session.now ≡ Some s = sym c.in-Some.ensures.value in
     let is = c.requires.sessions.each c.args.session.now s found in
-    do-tried g.N.Named.limits c.args.pass.now c.land.new.pass c.args.places.now.items c.land.new.places.items s is (sights_of sessions c.args.session.now) (sight-found sessions c.args.session.now s found)
-    c.in-Ok-prepare.prepared (g.T.Plain.op_of c.args.op.now) c.in-Ok.op (g.T.Mrdt.meaning.reply_of (visible (store_of s.seen.history).commits s.seen.head) c.in-Ok.op) c.in-Ok.ensures c.in-Ok-prepare.ensures.prepared
+    do-tried g.N.Named.terms c.args.pass.now c.land.new.pass c.args.places.now.items c.land.new.places.items s is (sights_of sessions c.args.session.now) (sight-found sessions c.args.session.now s found)
+    c.in-Ok-prepare.prepared (g.T.Plain.op_of c.args.op.now) c.in-Ok.op (g.T.Mrdt.meaning.reply_of (visible (store_of s.seen.terms.origin s.seen.history).commits s.seen.head) c.in-Ok.op) c.in-Ok.ensures c.in-Ok-prepare.ensures.prepared
     c.in-Ok-land.landing c.in-Ok-land.ensures.landed
 
 pub returns-in-Err-clause-stopped : goal.returns-in-Err-clause-stopped
@@ -54,9 +54,9 @@ returns-in-Err-clause-stopped g c =
     let new = c.land.new.pass in
     let sessions = c.args.sessions.now.entries in
     let found : session_named sessions c.args.session.now ≡ Some s = sym c.in-Some.ensures.value in
-    let is = session-later g.N.Named.limits old new.moves s c.land.ensures.prefix (c.requires.sessions.each c.args.session.now s found) in
+    let is = session-later g.N.Named.terms old new.moves s c.land.ensures.prefix (c.requires.sessions.each c.args.session.now s found) in
     record {
-      why = do-unlanded (setting (fix g.T.Mrdt.meaning g.N.Named.limits g.A.Address.address) g.T.Plain.op_of g.N.Named.opened) new.moves s is (sights_of sessions) c.args.session.now (sight-found sessions c.args.session.now s found) c.args.op.now c.in-Ok.op c.in-Ok.ensures
-          new c.in-Ok-prepare.prepared (g.T.Mrdt.meaning.reply_of (visible (store_of s.seen.history).commits s.seen.head) c.in-Ok.op) c.in-Err.refusal refl c.in-Ok-prepare.ensures.prepared c.in-Err.ensures.refused.0;
+      why = do-unlanded (setting (fix g.T.Mrdt.meaning g.N.Named.terms g.A.Address.address) g.T.Plain.op_of g.N.Named.opened) new.moves s is (sights_of sessions) c.args.session.now (sight-found sessions c.args.session.now s found) c.args.op.now c.in-Ok.op c.in-Ok.ensures
+          new c.in-Ok-prepare.prepared (g.T.Mrdt.meaning.reply_of (visible (store_of s.seen.terms.origin s.seen.history).commits s.seen.head) c.in-Ok.op) c.in-Err.refusal refl c.in-Ok-prepare.ensures.prepared c.in-Err.ensures.refused.0;
       stayed = c.in-Err.ensures.refused.1;
     }

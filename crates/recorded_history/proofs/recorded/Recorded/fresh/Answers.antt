@@ -15,4 +15,4 @@ invariant_of-result g c =
     let spelled =
     c.deref.ensures.value ∙ c.in_ok-put.ensures.ok ∙ ap (λ l. l ++ meaning.state_spelling c.initial.result) c.new-value.ensures.items ∙ first-spelled meaning laws c.initial.result c.initial.ensures in
     subst (λ v. IsRecorded meaning address (recorded_of v.core versions.core) None versions objects.objects) (sym c.of.ensures)
-    (recorded-fresh meaning address c.args.limits versions objects.objects c.deref.result.now objects.root spelled c.in_ok-versions.ensures objects.ensures.stored objects.ensures.staged objects.ensures.root)
+    (recorded-fresh meaning address c.args.terms versions objects.objects c.deref.result.now objects.root spelled c.in_ok-versions.ensures objects.ensures.stored objects.ensures.staged objects.ensures.root)

@@ -10,14 +10,14 @@ use Rattle.recorded_history.proofs.recorded.Recorded.region.Goals as goal
 pub returns-clause-region : goal.returns-clause-region
 returns-clause-region g c = λ made is.
     let now = c.args.self.now in
-    let fixed = fix g.T.Mrdt.meaning now.limits g.A.Address.address in
+    let fixed = fix g.T.Mrdt.meaning now.terms g.A.Address.address in
     let kept = subst (λ r. IsRecorded g.T.Mrdt.meaning g.A.Address.address r c.self.inside.stood c.self.inside.versions c.self.inside.objects) c.self.view_is c.self.invariant in
     c.staged.ensures ∙ staged-region fixed now.written made c.self.inside.objects kept.stored (kept.staged ∙ ap (λ l. objects_of fixed (now.written ++ l)) is)
 
 pub returns-clause-none : goal.returns-clause-none
 returns-clause-none g c = λ is.
     let now = c.args.self.now in
-    let fixed = fix g.T.Mrdt.meaning now.limits g.A.Address.address in
+    let fixed = fix g.T.Mrdt.meaning now.terms g.A.Address.address in
     let kept = subst (λ r. IsRecorded g.T.Mrdt.meaning g.A.Address.address r c.self.inside.stood c.self.inside.versions c.self.inside.objects) c.self.view_is c.self.invariant in
     c.staged.ensures
     ∙ ap concat (staged-nothing fixed now.written (now.written ++ now.pending) c.self.inside.objects kept.stored kept.staged (ap (λ l. objects_of fixed (now.written ++ l)) is ∙ ap (objects_of fixed) (append-nil now.written)))

@@ -21,7 +21,7 @@ pub returns-clause-written : goal.returns-clause-written
 returns-clause-written g c = λ made is.
     let self = c.self.inside in
     let now = c.args.self.now in
-    let fixed = fix g.T.Mrdt.meaning now.limits g.A.Address.address in
+    let fixed = fix g.T.Mrdt.meaning now.terms g.A.Address.address in
     let kept = subst (λ r. IsRecorded g.T.Mrdt.meaning g.A.Address.address r self.stood self.versions self.objects) c.self.view_is c.self.invariant in
     let bytes = staged-region fixed now.written made self.objects kept.stored (kept.staged ∙ ap (λ l. objects_of fixed (now.written ++ l)) is) in
     subst (λ b. OnOk c.write.result (Tells (OnPart part.Objects (Holds (length (file_of (objects_of fixed now.written))) b)) (g.D.Disk.contents c.args.disk.now) (g.D.Disk.contents c.write.new.disk))) bytes
@@ -31,7 +31,7 @@ pub returns-clause-torn : goal.returns-clause-torn
 returns-clause-torn g c = λ made is.
     let self = c.self.inside in
     let now = c.args.self.now in
-    let fixed = fix g.T.Mrdt.meaning now.limits g.A.Address.address in
+    let fixed = fix g.T.Mrdt.meaning now.terms g.A.Address.address in
     let kept = subst (λ r. IsRecorded g.T.Mrdt.meaning g.A.Address.address r self.stood self.versions self.objects) c.self.view_is c.self.invariant in
     let bytes = staged-region fixed now.written made self.objects kept.stored (kept.staged ∙ ap (λ l. objects_of fixed (now.written ++ l)) is) in
     subst (λ b. Tells (OnPart part.Objects (Torn (length (file_of (objects_of fixed now.written))) (length b))) (g.D.Disk.contents c.args.disk.now) (g.D.Disk.contents c.write.new.disk)) bytes
@@ -41,7 +41,7 @@ pub returns-clause-untouched : goal.returns-clause-untouched
 returns-clause-untouched g c = λ same.
     let self = c.self.inside in
     let now = c.args.self.now in
-    let fixed = fix g.T.Mrdt.meaning now.limits g.A.Address.address in
+    let fixed = fix g.T.Mrdt.meaning now.terms g.A.Address.address in
     let kept = subst (λ r. IsRecorded g.T.Mrdt.meaning g.A.Address.address r self.stood self.versions self.objects) c.self.view_is c.self.invariant in
     let none = staged-nothing fixed now.written (now.written ++ now.pending) self.objects kept.stored kept.staged same in
     (c.write.ensures.untouched none, c.write.ensures.nothing none)

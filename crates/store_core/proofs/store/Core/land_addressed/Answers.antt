@@ -1,10 +1,11 @@
 -- The move waits; then the history has it, or the files may have it.
 use Rattle.branch_disk.specs.Moments.{now_too}
-use Rattle.store_core.proofs.Landings.{waits_so, moves_so, leaves_so, valid_so, exactly_so, torn_so}
+use Rattle.branch_machine.specs.Fixed.{fix}
+use Rattle.store_core.proofs.Landings.{waits_so, known_so, moves_so, leaves_so, valid_so, exactly_so, torn_so}
 use Rattle.store_core.proofs.store.Core.land_addressed.Goals as goal
 
 pub put-requires-clause-waits : goal.put-requires-clause-waits
-put-requires-clause-waits g c = λ _ _. waits_so g.T.Mrdt.meaning g.A.Address.address c.self.inside.recorded _ _ _ _ _ _ c.in_ok-made.ensures.made
+put-requires-clause-waits g c = λ _ _. waits_so g.T.Mrdt.meaning g.A.Address.address c.self.inside.recorded _ _ _ _ _ _ (known_so (fix g.T.Mrdt.meaning c.self.inside.recorded.terms g.A.Address.address) _ c.args.prepared.seen.branch c.args.prepared.work) c.in_ok-made.ensures.made
 
 pub returns-clause-landed : goal.returns-clause-landed
 returns-clause-landed g c =

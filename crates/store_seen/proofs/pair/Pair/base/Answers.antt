@@ -12,4 +12,4 @@ returns g c =
     let look = subst (λ v. IsLook m v c.seen.inside.moves c.seen.inside.clock (arc_value c.seen.inside.value)) c.seen.view_is c.seen.invariant in
     let head : c.seen.inside.head ≡ seen.head = ap (λ v. v.head) c.seen.view_is in
     let folded = rw (c.deref.ensures, head) at c.in_ok-base.ensures.folded in
-    rw (← c.self.view_is) (base-at m seen.limits seen.history look.look.valid (arc_value c.self.inside.nodes) c.self.invariant.nodes_are seen.head c.self.inside.other c.in_ok-base.base folded)
+    rw (← c.self.view_is) (base-at m seen.terms seen.history look.look.valid (arc_value c.self.inside.nodes) c.self.invariant.nodes_are seen.head c.self.inside.other c.in_ok-base.base folded)

@@ -1,8 +1,9 @@
 -- The merged value stands for what either commit sees.
 use Rattle.std.proofs.Common.{◌≡◌, ◌<◌, ◌≤◌, ◌++◌, ◌∷◌, [], max, false, length, ap, sym, ◌∙◌, subst, arith}
+use Rattle.std.proofs.Math.Nat.{max-zero}
 use Rattle.std.specs.Arc.{arc_value}
 use Rattle.branch_graph.specs.Graph.{reaches}
-use Rattle.branch_history.specs.Commits.{graph_of, clock_of, visible_at_all}
+use Rattle.branch_history.specs.Commits.{graph_of, clock_of, greatest_clock, visible_at_all}
 use Rattle.branch_history.specs.History.{store_of}
 use Rattle.store_seen.specs.Keeps.{IsLook}
 use Rattle.store_seen.proofs.Pairs.{too_large-from_on, merged-ready}
@@ -16,13 +17,13 @@ returns-then-length-seen-clause-refused g c =
     let other = c.self.inside.other in
     let look = subst (λ v. IsLook m v c.seen.inside.moves c.seen.inside.clock (arc_value c.seen.inside.value)) c.seen.view_is c.seen.invariant in
     let value = c.in_ok-value.value in
-    let above = subst (λ v. reaches (graph_of (store_of v.history).commits) v.head v.other ≡ false) (sym c.self.view_is) c.requires.above in
-    let below = subst (λ v. reaches (graph_of (store_of v.history).commits) v.other v.head ≡ false) (sym c.self.view_is) c.requires.below in
-    let stands = subst (λ v. m.stands value (visible_at_all (store_of v.history).commits (v.head ∷ v.other ∷ []))) (sym c.self.view_is) c.in_ok-value.ensures in
+    let above = subst (λ v. reaches (graph_of (store_of v.terms.origin v.history).commits) v.head v.other ≡ false) (sym c.self.view_is) c.requires.above in
+    let below = subst (λ v. reaches (graph_of (store_of v.terms.origin v.history).commits) v.other v.head ≡ false) (sym c.self.view_is) c.requires.below in
+    let stands = subst (λ v. m.stands value (visible_at_all (store_of v.terms.origin v.history).commits (v.head ∷ v.other ∷ []))) (sym c.self.view_is) c.in_ok-value.ensures in
     let spelled = c.in_ok-put.ensures.ok ∙ ap (λ l. l ++ m.state_spelling value) c.new-bytes.ensures.items in
     let counted = ap length spelled in
     let size : c.len-length.result ≡ length (m.state_spelling value) = omega (arith, counted) in
-    let large = subst (λ v. v.limits.value < c.len-length.result) c.seen.view_is c.if-length-seen.true in
+    let large = subst (λ v. v.terms.limits.value < c.len-length.result) c.seen.view_is c.if-length-seen.true in
     rw (← c.self.view_is) (too_large-from_on m laws seen look.look other c.self.invariant.there above below value stands c.len-length.result size large)
 
 pub returns-clause-ready : goal.returns-clause-ready
@@ -33,13 +34,14 @@ returns-clause-ready g c =
     let other = c.self.inside.other in
     let look = subst (λ v. IsLook m v c.seen.inside.moves c.seen.inside.clock (arc_value c.seen.inside.value)) c.seen.view_is c.seen.invariant in
     let value = c.in_ok-value.value in
-    let above = subst (λ v. reaches (graph_of (store_of v.history).commits) v.head v.other ≡ false) (sym c.self.view_is) c.requires.above in
-    let below = subst (λ v. reaches (graph_of (store_of v.history).commits) v.other v.head ≡ false) (sym c.self.view_is) c.requires.below in
-    let stands = subst (λ v. m.stands value (visible_at_all (store_of v.history).commits (v.head ∷ v.other ∷ []))) (sym c.self.view_is) c.in_ok-value.ensures in
+    let above = subst (λ v. reaches (graph_of (store_of v.terms.origin v.history).commits) v.head v.other ≡ false) (sym c.self.view_is) c.requires.above in
+    let below = subst (λ v. reaches (graph_of (store_of v.terms.origin v.history).commits) v.other v.head ≡ false) (sym c.self.view_is) c.requires.below in
+    let stands = subst (λ v. m.stands value (visible_at_all (store_of v.terms.origin v.history).commits (v.head ∷ v.other ∷ []))) (sym c.self.view_is) c.in_ok-value.ensures in
     let spelled = c.in_ok-put.ensures.ok ∙ ap (λ l. l ++ m.state_spelling value) c.new-bytes.ensures.items in
     let counted = ap length spelled in
     let size : c.len-length.result ≡ length (m.state_spelling value) = omega (arith, counted) in
-    let fits = subst (λ v. c.len-length.result ≤ v.limits.value) c.seen.view_is c.if-length-seen.false in
-    let timed : c.max.result ≡ max (clock_of (store_of seen.history).commits seen.head) (clock_of (store_of seen.history).commits other) =
-    c.max.ensures ∙ ap (λ k. max k c.self.inside.clock) look.node.timed ∙ ap (λ k. max (clock_of (store_of seen.history).commits seen.head) k) c.self.invariant.timed in
+    let fits = subst (λ v. c.len-length.result ≤ v.terms.limits.value) c.seen.view_is c.if-length-seen.false in
+    let commits = (store_of seen.terms.origin seen.history).commits in
+    let timed : c.max.result ≡ greatest_clock commits (seen.head ∷ other ∷ []) =
+    c.max.ensures ∙ ap (λ k. max k c.self.inside.clock) look.node.timed ∙ ap (λ k. max (clock_of commits seen.head) k) (c.self.invariant.timed ∙ sym (max-zero (clock_of commits other))) in
     (ap (λ v. v.other) c.self.view_is, rw (← c.self.view_is) (merged-ready m laws seen look.look other c.self.invariant.there above below value stands c.max.result c.len-length.result timed size fits), c.from_vec.ensures ∙ spelled)

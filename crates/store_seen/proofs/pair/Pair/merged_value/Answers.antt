@@ -14,7 +14,7 @@ returns g c =
     let seen = c.self.inside.seen in
     let inner = c.seen.inside in
     let look = subst (λ v. IsLook m v inner.moves inner.clock (arc_value inner.value)) c.seen.view_is c.seen.invariant in
-    let base = subst (λ v. IsBaseAt m (store_of v.history).commits v.head v.other c.args.base.now) (sym c.self.view_is) c.requires in
+    let base = subst (λ v. IsBaseAt m (store_of v.terms.origin v.history).commits v.head v.other c.args.base.now) (sym c.self.view_is) c.requires in
     let right = rw c.deref.ensures at c.value-right.ensures.folded in
     let merges = rw c.deref-2.ensures at c.in_ok-value.ensures in
     rw (← c.self.view_is)

@@ -8,5 +8,5 @@ returns-clause-base g c =
     let laws = (g.met.T.Mrdt g.world.𝓛 g.world.𝓜 g.world.𝓡 ((λ s x. x), (λ x. x), (λ x. x), λ x. x)).laws in
     let m = g.T.Mrdt.meaning in
     let inside = c.self.inside in
-    let are = core-nodes m laws inside.limits inside.moves.items inside.heads inside.nodes.graph inside.clocks.items inside.nodes.values c.self.invariant inside.nodes.addresses in
-    rw (← c.self.view_is) (base-at m inside.limits inside.moves.items c.self.invariant.valid inside.nodes are c.args.left c.args.right c.in_ok-base.base c.in_ok-base.ensures.folded)
+    let are = core-nodes m laws inside.terms inside.moves.items inside.heads inside.nodes.graph inside.clocks.items inside.nodes.values c.self.invariant inside.nodes.addresses in
+    rw (← c.self.view_is) (base-at m inside.terms inside.moves.items c.self.invariant.valid inside.nodes are c.args.left c.args.right c.in_ok-base.base c.in_ok-base.ensures.folded)

@@ -12,9 +12,9 @@ invariant_of-self-2 g c =
     let laws = (g.met.T.Mrdt g.world.𝓛 g.world.𝓜 g.world.𝓡 ((λ s x. x), (λ x. x), (λ x. x), λ x. x)).laws in
     let valid = c.may_move.ensures.valid in
     let free = c.in_ok-may_move.ensures.free in
-    let moves = subst (λ v. IsMove g.T.Mrdt.meaning v.core.limits v.core.history (move.Forward c.args.branch c.args.commit)) (sym c.self.view_is) (forward-moves g.T.Mrdt.meaning laws c.args.self.now.core valid c.args.branch c.requires.there c.args.commit c.args.head c.requires.ready free) in
+    let moves = subst (λ v. IsMove g.T.Mrdt.meaning v.core.terms v.core.history (move.Forward c.args.branch c.args.commit)) (sym c.self.view_is) (forward-moves g.T.Mrdt.meaning laws c.args.self.now.core valid c.args.branch c.requires.there c.args.commit c.args.head c.requires.ready free) in
     let made = c.push_reserved.ensures.items ∙ ap (λ l. l ++ move.Forward c.args.branch c.args.commit ∷ []) c.in_ok-reserve.ensures.items in
-    forward-core g.T.Mrdt.meaning laws c.self.inside.limits c.self.inside.moves.items c.self.inside.heads c.self.inside.nodes.graph c.self.inside.clocks.items c.self.inside.nodes.values c.self.invariant c.push_reserved.new.self.items c.put_head.new.heads c.args.branch c.args.commit moves made c.put_head.ensures
+    forward-core g.T.Mrdt.meaning laws c.self.inside.terms c.self.inside.moves.items c.self.inside.heads c.self.inside.nodes.graph c.self.inside.clocks.items c.self.inside.nodes.values c.self.invariant c.push_reserved.new.self.items c.put_head.new.heads c.args.branch c.args.commit moves made c.put_head.ensures
 
 pub returns-clause-landed : goal.returns-clause-landed
 returns-clause-landed g c =
@@ -25,7 +25,7 @@ returns-clause-landed g c =
     let counted : c.len.result ≡ length c.push_reserved.new.self.items = omega arith in
     record {
       turn_is = forward-turn g.T.Mrdt.meaning laws old valid c.args.branch c.requires.there c.args.commit c.args.head c.requires.ready c.in_ok-may_move.ensures.free;
-      history = gone-on old c.self.inside.moves.items c.push_reserved.new.self.items c.self.inside.limits (move.Forward c.args.branch c.args.commit) (ap (λ v. v.core) c.self.view_is) made;
+      history = gone-on old c.self.inside.moves.items c.push_reserved.new.self.items c.self.inside.terms (move.Forward c.args.branch c.args.commit) (ap (λ v. v.core) c.self.view_is) made;
       counted = counted;
     }
 

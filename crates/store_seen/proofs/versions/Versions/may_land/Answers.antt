@@ -15,8 +15,8 @@ may_add_commit-requires-after_bounds g c κs within =
     let core = c.args.self.now.core in
     let is = c.prepared.invariant in
     let prefix = subst (λ p. IsPrefix p.seen.history core.history) (sym c.prepared.view_is) c.requires.history in
-    let limits = ap (λ p. p.seen.limits) c.prepared.view_is ∙ c.requires.limits in
-    branch-there g.T.Mrdt.meaning laws seen is.look core prefix limits inside.branch inside.head is.at_branch is.newest
+    let terms = ap (λ p. p.seen.terms) c.prepared.view_is ∙ c.requires.terms in
+    branch-there g.T.Mrdt.meaning laws seen is.look core prefix terms inside.branch inside.head is.at_branch is.newest
 
 pub may_add_commit-requires-in-Merge-after_bounds : goal.may_add_commit-requires-in-Merge-after_bounds
 may_add_commit-requires-in-Merge-after_bounds g c κs within =
@@ -26,8 +26,8 @@ may_add_commit-requires-in-Merge-after_bounds g c κs within =
     let core = c.args.self.now.core in
     let is = c.prepared.invariant in
     let prefix = subst (λ p. IsPrefix p.seen.history core.history) (sym c.prepared.view_is) c.requires.history in
-    let limits = ap (λ p. p.seen.limits) c.prepared.view_is ∙ c.requires.limits in
-    branch-there g.T.Mrdt.meaning laws seen is.look core prefix limits inside.branch inside.head is.at_branch is.newest
+    let terms = ap (λ p. p.seen.terms) c.prepared.view_is ∙ c.requires.terms in
+    branch-there g.T.Mrdt.meaning laws seen is.look core prefix terms inside.branch inside.head is.at_branch is.newest
 
 pub may_move-requires-after_bounds : goal.may_move-requires-after_bounds
 may_move-requires-after_bounds g c κs within =
@@ -37,8 +37,8 @@ may_move-requires-after_bounds g c κs within =
     let core = c.args.self.now.core in
     let is = c.prepared.invariant in
     let prefix = subst (λ p. IsPrefix p.seen.history core.history) (sym c.prepared.view_is) c.requires.history in
-    let limits = ap (λ p. p.seen.limits) c.prepared.view_is ∙ c.requires.limits in
-    branch-there g.T.Mrdt.meaning laws seen is.look core prefix limits inside.branch inside.head is.at_branch is.newest
+    let terms = ap (λ p. p.seen.terms) c.prepared.view_is ∙ c.requires.terms in
+    branch-there g.T.Mrdt.meaning laws seen is.look core prefix terms inside.branch inside.head is.at_branch is.newest
 
 pub returns-in-Operation-clause-may : goal.returns-in-Operation-clause-may
 returns-in-Operation-clause-may g c =
@@ -48,9 +48,9 @@ returns-in-Operation-clause-may g c =
     let core = c.args.self.now.core in
     let is = c.prepared.invariant in
     let prefix = subst (λ p. IsPrefix p.seen.history core.history) (sym c.prepared.view_is) c.requires.history in
-    let limits = ap (λ p. p.seen.limits) c.prepared.view_is ∙ c.requires.limits in
+    let terms = ap (λ p. p.seen.terms) c.prepared.view_is ∙ c.requires.terms in
     let free = subst (λ made. OnOk c.may_add_commit.result (move_refusal core inside.branch inside.head (work_of made) ≡ None)) (sym c.in-Operation.is) c.may_add_commit.ensures.free in
-    rw (← c.prepared.view_is) (ready-may g.T.Mrdt.meaning laws seen is.look core prefix limits c.may_add_commit.ensures.valid inside.branch inside.head is.at_branch is.newest c.may_add_commit.result inside.ready is.ready free)
+    rw (← c.prepared.view_is) (ready-may g.T.Mrdt.meaning laws seen is.look core prefix terms c.may_add_commit.ensures.valid inside.branch inside.head is.at_branch is.newest c.may_add_commit.result inside.ready is.ready free)
 
 pub returns-in-Operation-clause-refused : goal.returns-in-Operation-clause-refused
 returns-in-Operation-clause-refused g c =
@@ -60,9 +60,9 @@ returns-in-Operation-clause-refused g c =
     let core = c.args.self.now.core in
     let is = c.prepared.invariant in
     let prefix = subst (λ p. IsPrefix p.seen.history core.history) (sym c.prepared.view_is) c.requires.history in
-    let limits = ap (λ p. p.seen.limits) c.prepared.view_is ∙ c.requires.limits in
+    let terms = ap (λ p. p.seen.terms) c.prepared.view_is ∙ c.requires.terms in
     let refused = subst (λ made. IfErr c.may_add_commit.result (RefusedBy (move_refusal core inside.branch inside.head (work_of made)))) (sym c.in-Operation.is) c.may_add_commit.ensures.refused in
-    rw (← c.prepared.view_is) (ready-refused g.T.Mrdt.meaning laws seen is.look core prefix limits c.may_add_commit.ensures.valid inside.branch inside.head is.at_branch is.newest c.may_add_commit.result inside.ready is.ready refused)
+    rw (← c.prepared.view_is) (ready-refused g.T.Mrdt.meaning laws seen is.look core prefix terms c.may_add_commit.ensures.valid inside.branch inside.head is.at_branch is.newest c.may_add_commit.result inside.ready is.ready refused)
 
 pub returns-in-Merge-clause-may : goal.returns-in-Merge-clause-may
 returns-in-Merge-clause-may g c =
@@ -72,9 +72,9 @@ returns-in-Merge-clause-may g c =
     let core = c.args.self.now.core in
     let is = c.prepared.invariant in
     let prefix = subst (λ p. IsPrefix p.seen.history core.history) (sym c.prepared.view_is) c.requires.history in
-    let limits = ap (λ p. p.seen.limits) c.prepared.view_is ∙ c.requires.limits in
+    let terms = ap (λ p. p.seen.terms) c.prepared.view_is ∙ c.requires.terms in
     let free = subst (λ made. OnOk c.may_add_commit-in-Merge.result (move_refusal core inside.branch inside.head (work_of made) ≡ None)) (sym c.in-Merge.is) c.may_add_commit-in-Merge.ensures.free in
-    rw (← c.prepared.view_is) (ready-may g.T.Mrdt.meaning laws seen is.look core prefix limits c.may_add_commit-in-Merge.ensures.valid inside.branch inside.head is.at_branch is.newest c.may_add_commit-in-Merge.result inside.ready is.ready free)
+    rw (← c.prepared.view_is) (ready-may g.T.Mrdt.meaning laws seen is.look core prefix terms c.may_add_commit-in-Merge.ensures.valid inside.branch inside.head is.at_branch is.newest c.may_add_commit-in-Merge.result inside.ready is.ready free)
 
 pub returns-in-Merge-clause-refused : goal.returns-in-Merge-clause-refused
 returns-in-Merge-clause-refused g c =
@@ -84,9 +84,9 @@ returns-in-Merge-clause-refused g c =
     let core = c.args.self.now.core in
     let is = c.prepared.invariant in
     let prefix = subst (λ p. IsPrefix p.seen.history core.history) (sym c.prepared.view_is) c.requires.history in
-    let limits = ap (λ p. p.seen.limits) c.prepared.view_is ∙ c.requires.limits in
+    let terms = ap (λ p. p.seen.terms) c.prepared.view_is ∙ c.requires.terms in
     let refused = subst (λ made. IfErr c.may_add_commit-in-Merge.result (RefusedBy (move_refusal core inside.branch inside.head (work_of made)))) (sym c.in-Merge.is) c.may_add_commit-in-Merge.ensures.refused in
-    rw (← c.prepared.view_is) (ready-refused g.T.Mrdt.meaning laws seen is.look core prefix limits c.may_add_commit-in-Merge.ensures.valid inside.branch inside.head is.at_branch is.newest c.may_add_commit-in-Merge.result inside.ready is.ready refused)
+    rw (← c.prepared.view_is) (ready-refused g.T.Mrdt.meaning laws seen is.look core prefix terms c.may_add_commit-in-Merge.ensures.valid inside.branch inside.head is.at_branch is.newest c.may_add_commit-in-Merge.result inside.ready is.ready refused)
 
 pub returns-in-Forward-clause-may : goal.returns-in-Forward-clause-may
 returns-in-Forward-clause-may g c =
@@ -96,9 +96,9 @@ returns-in-Forward-clause-may g c =
     let core = c.args.self.now.core in
     let is = c.prepared.invariant in
     let prefix = subst (λ p. IsPrefix p.seen.history core.history) (sym c.prepared.view_is) c.requires.history in
-    let limits = ap (λ p. p.seen.limits) c.prepared.view_is ∙ c.requires.limits in
+    let terms = ap (λ p. p.seen.terms) c.prepared.view_is ∙ c.requires.terms in
     let free = subst (λ made. OnOk c.may_move.result (move_refusal core inside.branch inside.head (work_of made) ≡ None)) (sym c.in-Forward.is) c.may_move.ensures.free in
-    rw (← c.prepared.view_is) (ready-may g.T.Mrdt.meaning laws seen is.look core prefix limits c.may_move.ensures.valid inside.branch inside.head is.at_branch is.newest c.may_move.result inside.ready is.ready free)
+    rw (← c.prepared.view_is) (ready-may g.T.Mrdt.meaning laws seen is.look core prefix terms c.may_move.ensures.valid inside.branch inside.head is.at_branch is.newest c.may_move.result inside.ready is.ready free)
 
 pub returns-in-Forward-clause-refused : goal.returns-in-Forward-clause-refused
 returns-in-Forward-clause-refused g c =
@@ -108,6 +108,6 @@ returns-in-Forward-clause-refused g c =
     let core = c.args.self.now.core in
     let is = c.prepared.invariant in
     let prefix = subst (λ p. IsPrefix p.seen.history core.history) (sym c.prepared.view_is) c.requires.history in
-    let limits = ap (λ p. p.seen.limits) c.prepared.view_is ∙ c.requires.limits in
+    let terms = ap (λ p. p.seen.terms) c.prepared.view_is ∙ c.requires.terms in
     let refused = subst (λ made. IfErr c.may_move.result (RefusedBy (move_refusal core inside.branch inside.head (work_of made)))) (sym c.in-Forward.is) c.may_move.ensures.refused in
-    rw (← c.prepared.view_is) (ready-refused g.T.Mrdt.meaning laws seen is.look core prefix limits c.may_move.ensures.valid inside.branch inside.head is.at_branch is.newest c.may_move.result inside.ready is.ready refused)
+    rw (← c.prepared.view_is) (ready-refused g.T.Mrdt.meaning laws seen is.look core prefix terms c.may_move.ensures.valid inside.branch inside.head is.at_branch is.newest c.may_move.result inside.ready is.ready refused)

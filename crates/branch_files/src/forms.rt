@@ -1,0 +1,62 @@
+// The laws of reading files of any form. Each stands on a function with an empty body, whose contract is the
+// law.
+ghost use Rattle.branch_machine.specs.Fixed.{Form};
+ghost use Rattle.branch_files.specs.Forms.{ReadsInOneWay, ReadsAll, ReadsWhatStands, StandsForWhatIsRead, ReadsAsToday, HasGates, AppendsRecords, GoesOn, TellsOperations, TellsReceived};
+
+use mrdt_model::Mrdt;
+
+/// Files of a form read as one answer at most, where addresses have 32 bytes and the objects are shorter than 2^64
+/// bytes.
+pub fn reads_in_one_way<T: Mrdt>()
+    ensures { (form : Form) → ReadsInOneWay form T.meaning }
+{}
+
+/// No files are without an answer, in any form.
+pub fn reads_all<T: Mrdt>()
+    ensures { (form : Form) → ReadsAll form T.meaning }
+{}
+
+/// Files of a form read as the valid history that they stand for, where its limits and its first origin are those of
+/// a header.
+pub fn reads_what_stands<T: Mrdt>()
+    ensures { (form : Form) → ReadsWhatStands form T.meaning }
+{}
+
+/// A history that files of a form read as is valid, they stand for it, and its limits and its first origin are those
+/// of a header.
+pub fn stands_for_what_is_read<T: Mrdt>()
+    ensures { (form : Form) → StandsForWhatIsRead form T.meaning }
+{}
+
+/// To read files of the form that is written today is to read files.
+pub fn reads_as_today<T: Mrdt>()
+    ensures { ReadsAsToday T.meaning }
+{}
+
+/// The gates of a valid history stand 64 bytes apart, where addresses have 32 bytes.
+pub fn has_gates<T: Mrdt>()
+    ensures { (form : Form) → HasGates form T.meaning }
+{}
+
+/// A move appends its record.
+pub fn appends_records<T: Mrdt>()
+    ensures { (form : Form) → AppendsRecords form T.meaning }
+{}
+
+/// Reading goes on behind a record and the objects of a move that the machine makes, and behind each record that may
+/// come next of a move without a commit.
+pub fn goes_on<T: Mrdt>()
+    ensures { (form : Form) → GoesOn form T.meaning }
+{}
+
+/// The objects behind a history spell the operation and the reply of the move that stands there, where addresses
+/// have 32 bytes and the objects are shorter than 2^64 bytes.
+pub fn tells_operations<T: Mrdt>()
+    ensures { (form : Form) → TellsOperations form T.meaning }
+{}
+
+/// The objects behind a history spell the parents, the origin, the clock and the action of the commit that was
+/// received there, where addresses have 32 bytes and the objects are shorter than 2^64 bytes.
+pub fn tells_received<T: Mrdt>()
+    ensures { (form : Form) → TellsReceived form T.meaning }
+{}

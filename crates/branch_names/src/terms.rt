@@ -1,0 +1,44 @@
+// What is fixed for a store as long as it lives.
+ghost use Rattle.branch_names.specs.Ranges.{AreOrigins};
+
+use crate::Limits;
+
+/// What is fixed for a store as long as it lives: its limits, and its first origin. Branch r has the origin that lies
+/// r above the first; the origins of all branches that there may be are numbers of 32 bits.
+#[derive(Clone, Copy, Debug, PartialEq, Eq)]
+pub struct Terms {
+    /// The limits.
+    pub limits: Limits,
+    /// The origin of branch 0.
+    pub origin: u32,
+    pub ghost in_range: { AreOrigins origin limits.branches },
+}
+
+// How many origins there are.
+const ORIGINS: u64 = 0x1_0000_0000;
+
+impl Terms {
+    ghost use Rattle.std.specs.Prelude.{◌≡◌, ◌↔◌, IsSome, IfSome};
+    ghost use Rattle.branch_names.specs.Ranges.{AreOrigins};
+
+    /// The terms with these limits and this first origin; `None` exactly where an origin would be out of range.
+    pub fn new(limits: Limits, origin: u32) -> Option<Terms>
+        ensures in_range { IsSome result ↔ AreOrigins origin limits.branches }
+        ensures limits { IfSome result (λ terms. terms.limits ≡ limits) }
+        ensures origin { IfSome result (λ terms. terms.origin ≡ origin) }
+    {
+        if origin as u64 + limits.branches as u64 <= ORIGINS {
+            Some(Terms { limits, origin })
+        } else {
+            None
+        }
+    }
+
+    /// The terms under these limits whose first origin is 0. There are as many numbers of 32 bits as branches at least.
+    pub fn under(limits: Limits) -> Terms
+        ensures limits { result.limits ≡ limits }
+        ensures origin { result.origin ≡ 0 }
+    {
+        Terms { limits, origin: 0 }
+    }
+}
