@@ -1,5 +1,5 @@
 -- What was ready at a look may land where the newest head is that of the look and there is room.
-use Rattle.std.proofs.Common.{◌≡◌, ℕ, ◌<◌, length, refl, ap, Option, None, subst, Result, OnOk, IfErr}
+use Rattle.std.proofs.Common.{◌≡◌, ℕ, ◌<◌, List, length, refl, ap, Option, None, subst, Result, OnOk, IfErr}
 use Rattle.std.proofs.lemmas.Result.{on_ok_weaker, IfErr-weaker}
 use mathlib.Core.List.{IsPrefix}
 use Rattle.mrdt_model.specs.declared.time.Time.{Time}
@@ -13,16 +13,17 @@ use Rattle.store_seen.specs.declared.answers.LandRefused.{LandRefused}
 use Rattle.store_seen.specs.declared.answers.LandRefused.TheVariants as land_refusal
 use Rattle.store_seen.specs.declared.prepared.Ready.{Ready}
 use Rattle.store_seen.specs.declared.prepared.Ready.TheVariants as ready
-use Rattle.store_seen.specs.Keeps.{IsSeen, IsReady, IsReadyOperation, IsReadyMerge, IsReadyForward, work_of}
-use Rattle.store_seen.specs.Views.{CoreView, PreparedView, SeenView, Work, Operation, Merge, Forward}
+use Rattle.store_seen.specs.Keeps.{IsSeen, IsReady, IsReadyOperation, IsReadyMerge, IsReadyJoin, IsReadyForward, work_of}
+use Rattle.store_seen.specs.Views.{CoreView, PreparedView, SeenView, Work, Operation, Merge, Join, Forward}
 use Rattle.store_seen.specs.Turns.{MayLand, LandRefusedAs, RefusedBy}
-use Rattle.store_seen.proofs.Landings.{operation-turn, merge-turn, forward-turn}
-use Rattle.store_seen.proofs.Readies.{branch-now, operation-now, merge-now, forward-now, operation-refused, merge-is_refused, forward-is_refused}
+use Rattle.store_seen.proofs.Landings.{operation-turn, merge-turn, join-turn, forward-turn}
+use Rattle.store_seen.proofs.Readies.{branch-now, operation-now, merge-now, join-now, forward-now, operation-refused, merge-is_refused, join-is_refused, forward-is_refused}
 
 -- why the move of a work is refused
 abbrev pub move_refusal : {O R : Type 0} → CoreView (Move O R) → ℕ → ℕ → Work O R → Option Refusal
 move_refusal core branch head (Operation op reply) = commit_refusal core.terms core.history branch head
 move_refusal core branch head (Merge commit) = commit_refusal core.terms core.history branch head
+move_refusal core branch head (Join commits) = commit_refusal core.terms core.history branch head
 move_refusal core branch head (Forward commit) = forward_refusal core.terms core.history branch head
 
 module _ {S O R Q A : Type 0} (meaning : Meaning S O R Q A) (laws : KeepsLaws meaning) (seen : SeenView (Move O R)) (is : IsSeen meaning seen) (core : CoreView (Move O R)) (prefix : IsPrefix seen.history core.history) (terms : seen.terms ≡ core.terms) (valid : IsValid meaning core.terms core.history) (branch head : ℕ) (at_branch : branch ≡ seen.branch) (at : head ≡ seen.head) {X : Type 0} (r : Result X LandRefused) where
@@ -47,6 +48,10 @@ module _ {S O R Q A : Type 0} (meaning : Meaning S O R Q A) (laws : KeepsLaws me
   merge-may commit clock value was = on_ok_weaker r (λ free.
       ap (λ t. t.made) (merge-turn meaning laws core valid seen.branch there commit clock value seen.head (length (store_of core.terms.origin core.history).commits) (merge-now meaning laws seen is core prefix terms commit was.there clock value was) (commit_free free) refl))
 
+  join-may : (others : List ℕ) (clock : ℕ) (value : S) → IsReadyJoin meaning seen others clock value → OnOk r (commit_refusal core.terms core.history branch head ≡ None) → OnOk r (MayLand meaning (record { seen = seen; work = Join others }) core)
+  join-may others clock value was = on_ok_weaker r (λ free.
+      ap (λ t. t.made) (join-turn meaning laws core valid seen.branch there others clock value seen.head (length (store_of core.terms.origin core.history).commits) (join-now meaning laws seen is core prefix terms others was.there clock value was) (commit_free free) refl))
+
   forward-may : (commit : ℕ) → IsReadyForward seen.terms seen.history seen.head commit → OnOk r (forward_refusal core.terms core.history branch head ≡ None) → OnOk r (MayLand meaning (record { seen = seen; work = Forward commit }) core)
   forward-may commit was = on_ok_weaker r (λ free.
       ap (λ t. t.made) (forward-turn meaning laws core valid seen.branch there commit seen.head (forward-now meaning laws seen is core prefix terms commit was.there was) (forward_free free)))
@@ -54,11 +59,13 @@ module _ {S O R Q A : Type 0} (meaning : Meaning S O R Q A) (laws : KeepsLaws me
   pub ready-may : (made : Ready S O R) → IsReady meaning seen made → OnOk r (move_refusal core branch head (work_of made) ≡ None) → OnOk r (MayLand meaning (record { seen = seen; work = work_of made }) core)
   ready-may (ready.Operation time value op reply spelled) was = operation-may time value op reply was.0
   ready-may (ready.Merge commit clock value spelled) was = merge-may commit clock value was.0
+  ready-may (ready.Join commits clock value spelled) was = join-may commits clock value was.0
   ready-may (ready.Forward commit) was = forward-may commit was
 
   pub ready-refused : (made : Ready S O R) → IsReady meaning seen made → IfErr r (RefusedBy (move_refusal core branch head (work_of made))) → IfErr r (LandRefusedAs meaning (record { seen = seen; work = work_of made }) core)
   ready-refused (ready.Operation time value op reply spelled) was = operation-refused meaning laws seen is core prefix terms branch head at_branch at valid r time value op reply was.0
   ready-refused (ready.Merge commit clock value spelled) was = merge-is_refused meaning laws seen is core prefix terms branch head at_branch at valid r commit clock value was.0
+  ready-refused (ready.Join commits clock value spelled) was = join-is_refused meaning laws seen is core prefix terms branch head at_branch at valid r commits clock value was.0
   ready-refused (ready.Forward commit) was = forward-is_refused meaning laws seen is core prefix terms branch head at_branch at valid r commit was
 
 -- what may land is refused for want of memory alone

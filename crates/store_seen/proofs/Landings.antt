@@ -11,16 +11,18 @@ use Rattle.branch_history.specs.Commits.{clock_of, visible}
 use Rattle.branch_history.specs.History.{Store, store_of, with_commit, operation_event}
 use Rattle.branch_history.specs.Machine.{turn, commit_refusal, forward_refusal}
 use Rattle.branch_history.specs.Steps as machine
-use Rattle.branch_history.specs.Validity.{IsMove, IsValid}
+use Rattle.branch_history.specs.Validity.{AreCommits, IsMove, IsValid}
+use Rattle.branch_graph.proofs.Ranked.{AllByRecursion-from_All}
 use Rattle.branch_history.proofs.Histories.{valid-kept}
 use Rattle.branch_history.proofs.Kept.{IsKept}
-use Rattle.branch_history.proofs.Sees.{operation-visible, merge-visible}
+use Rattle.branch_history.proofs.Sees.{operation-visible, merge-visible, join-visible}
 use Rattle.branch_history.proofs.Turns.{land-makes, merge-makes, forward-makes, IsMove-operation, IsMove-merge, IsMove-forward}
 use Rattle.branch_history.proofs.Valid.{store_of-more, commit-room, commit-tells, forward-tells}
-use Rattle.store_seen.specs.Keeps.{IsReadyOperation, IsReadyMerge, IsReadyForward}
+use Rattle.store_seen.specs.Keeps.{IsReadyOperation, IsReadyMerge, IsReadyJoin, IsReadyForward}
 use Rattle.store_seen.specs.Nodes.{AddsCommit}
 use Rattle.store_seen.specs.Turns.{at_head}
 use Rattle.store_seen.specs.Views.{CoreView}
+use Rattle.store_seen.proofs.Joins.{several-makes, IsMove-several}
 
 module _ {S O R Q A : Type 0} (meaning : Meaning S O R Q A) (laws : KeepsLaws meaning) (core : CoreView (Move O R)) (valid : IsValid meaning core.terms core.history) (branch : ℕ) (there : branch < length (store_of core.terms.origin core.history).branches) where
   abbrev s : Store O R
@@ -117,3 +119,31 @@ module _ {S O R Q A : Type 0} (meaning : Meaning S O R Q A) (laws : KeepsLaws me
 
       pub forward-turn : turn meaning core.terms core.history (machine.Merge branch head (other ∷ [])) ≡ record { outcome = machine.Forwarded other; made = move.Forward branch other ∷ [] }
       forward-turn = forward-makes meaning core.terms core.history branch head other is.above is.below free
+
+  module _ (others : List ℕ) (clock : ℕ) (value : S) where
+    join-adds_newest : IsReadyJoin meaning (at_head core branch newest) others clock value → commit_refusal core.terms core.history branch newest ≡ None
+        → AddsCommit meaning core.terms core.history (move.Join branch others) branch (newest ∷ others) clock value
+    join-adds_newest is free =
+        let all : AreCommits s.commits others = AllByRecursion-from_All (λ n. n < length s.commits) others is.there in
+        record {
+          moves = IsMove-several meaning core.terms core.history branch newest others is.several there stands_there all is.few is.brought is.fits free;
+          there = commit-there newest free;
+          room = (commit-room meaning core.terms core.history branch newest free).0;
+          below = All-cons (λ n. n < length s.commits) newest others stands_there is.there;
+          event = None;
+          store = store_of-more core.terms.origin core.history (move.Join branch others) ∙ ap (λ n. with_commit s branch (record { parents = newest ∷ others; origin = own; clock = n; event = None })) (sym is.timed);
+          stands = subst (λ (x : List (Event O R)). meaning.stands value x) (sym (join-visible core.terms core.history kept.ordered branch there others all)) is.stands;
+        }
+
+    pub join-adds : (head : ℕ) (parents : List ℕ) → parents ≡ head ∷ others → IsReadyJoin meaning (at_head core branch head) others clock value → commit_refusal core.terms core.history branch head ≡ None
+        → AddsCommit meaning core.terms core.history (move.Join branch others) branch parents clock value
+    join-adds head parents listed is free =
+        let at = commit-newest head free in
+        subst (λ (l : List ℕ). AddsCommit meaning core.terms core.history (move.Join branch others) branch l clock value) (ap (λ h. h ∷ others) at ∙ sym listed)
+        (join-adds_newest (subst (λ (h : ℕ). IsReadyJoin meaning (at_head core branch h) others clock value) (sym at) is) (subst (λ (h : ℕ). commit_refusal core.terms core.history branch h ≡ None) (sym at) free))
+
+    pub join-turn : (head commit : ℕ) → IsReadyJoin meaning (at_head core branch head) others clock value → commit_refusal core.terms core.history branch head ≡ None → commit ≡ length s.commits
+        → turn meaning core.terms core.history (machine.Merge branch head others) ≡ record { outcome = machine.Joined commit; made = move.Join branch others ∷ [] }
+    join-turn head commit is free number =
+        several-makes meaning core.terms core.history branch head others is.several is.brought is.fits free
+        ∙ ap (λ n. record { outcome = machine.Joined n; made = move.Join branch others ∷ [] }) (sym number)

@@ -7,7 +7,13 @@ pub mod Landable
 pub mod Pairs
 pub mod Cores
 pub mod Firsts
+pub mod Addressed
 pub mod Folds
 pub mod Undone
 pub mod Backs
+pub mod Answered
+pub mod Placed
+pub mod Brought
+pub mod Joins
+pub mod Groups
 pub mod Writes

@@ -1,15 +1,17 @@
 -- What is ready stays ready while the history goes on.
-use Rattle.std.proofs.Common.{◌≡◌, ℕ, ◌+◌, ◌<◌, max, Bool, true, false, List, [], ◌∷◌, ◌++◌, length, ap, sym, ◌∙◌, arith, IsTrue, Some, None, subst, length-append, ◌≤◌, Result, IfErr}
+use Rattle.std.proofs.Common.{◌≡◌, ℕ, ◌+◌, ◌<◌, max, Bool, true, false, List, [], ◌∷◌, ◌++◌, length, refl, ap, sym, ◌∙◌, arith, All, IsTrue, Some, None, subst, length-append, ◌≤◌, Result, IfErr}
+use Rattle.std.proofs.lemmas.List.Elements.{All-weaker}
 use Rattle.std.proofs.lemmas.Result.{IfErr-weaker}
 use mathlib.Core.List.{IsPrefix}
 use Rattle.mrdt_model.specs.declared.time.Time.{Time}
 use Rattle.mrdt_model.specs.Executions.{Event, next_event}
 use Rattle.mrdt_model.specs.Laws.{Meaning, KeepsLaws}
 use Rattle.branch_graph.specs.Graph.{reaches}
+use Rattle.branch_graph.proofs.Ranked.{AllByRecursion-from_All}
 use Rattle.branch_names.specs.declared.terms.Terms.{Terms}
 use Rattle.branch_names.specs.Heads.{head_of}
 use Rattle.branch_history.specs.declared.moves.Move.{Move}
-use Rattle.branch_history.specs.Commits.{Commit, graph_of, clock_of, visible}
+use Rattle.branch_history.specs.Commits.{Commit, graph_of, clock_of, greatest_clock, visible}
 use Rattle.branch_history.specs.History.{Store, store_of}
 use Rattle.branch_history.specs.Laws.{IsSameAt, IsSameAtAll}
 use Rattle.branch_history.specs.Machine.{refusal_if, operation_refusal, merge_refusal, commit_refusal, forward_refusal, room_refusal, move_refusal}
@@ -19,12 +21,15 @@ use Rattle.branch_history.proofs.Histories.{valid-kept}
 use Rattle.branch_history.proofs.Reach.{reaches-trans}
 use Rattle.branch_history.proofs.Heads.{same_branch, valid-rises}
 use Rattle.branch_history.proofs.Later.{IsLonger, commits-longer, longer-same_at_all, operation_refusal-same, merge_refusal-same}
+use Rattle.branch_history.proofs.Lists.{AllByRecursion-more}
 use Rattle.branch_history.proofs.Turns.{land-refused, merge-refused, forward-refused}
 use Rattle.store_seen.specs.declared.answers.LandRefused.{LandRefused}
 use Rattle.store_seen.specs.declared.answers.LandRefused.TheVariants as land_refusal
-use Rattle.store_seen.specs.Keeps.{IsSeen, IsReadyOperation, IsReadyMerge, IsReadyForward}
-use Rattle.store_seen.specs.Views.{SeenView, CoreView, Work, Operation, Merge, Forward}
+use Rattle.store_seen.specs.Keeps.{IsSeen, IsReadyOperation, IsReadyMerge, IsReadyJoin, IsReadyForward}
+use Rattle.store_seen.specs.Views.{SeenView, CoreView, Work, Operation, Merge, Join, Forward}
 use Rattle.store_seen.specs.Turns.{at_head, step_of, Refuses, RefusedBy, LandRefusedAs}
+use Rattle.store_seen.proofs.Brought.{brought-same}
+use Rattle.store_seen.proofs.Joins.{several-refused}
 use Rattle.store_seen.proofs.Looks.{seen-kept, seen-there, same-later}
 
 -- of these four refusals, in their order, the second alone is stale
@@ -119,6 +124,33 @@ module _ {S O R Q A : Type 0} (meaning : Meaning S O R Q A) (laws : KeepsLaws me
       below = same-other.reach seen.head ∙ was.below;
     }
 
+  module _ (others : List ℕ) (there : All (λ n. n < length old) others) where
+    all_there : AreCommits old others
+    all_there = AllByRecursion-from_All (λ n. n < length old) others there
+
+    same_several : IsSameAtAll old new (seen.head ∷ others) []
+    same_several = same-all (seen.head ∷ others) [] (seen-there meaning laws seen is, all_there) tt
+
+    greatest_same : (ns : List ℕ) → AreCommits old ns → greatest_clock old ns ≡ greatest_clock new ns
+    greatest_same [] all = refl
+    greatest_same (n ∷ ns) all = ap (λ k. max k (greatest_clock old ns)) (sym (same_at n all.0).clock) ∙ ap (λ k. max (clock_of new n) k) (greatest_same ns all.1)
+
+    pub join-now : (clock : ℕ) (value : S) → IsReadyJoin meaning seen others clock value → IsReadyJoin meaning now others clock value
+    join-now clock value was = record {
+      there = All-weaker (λ n. n < length old) (λ n. n < length new) (λ n lt. let size = more in omega arith) others there;
+      several = was.several;
+      few = was.few;
+      brought =
+          brought-same (graph_of old) (graph_of new) seen.head same-head.reach others
+          (AllByRecursion-more (λ n. n < length old) (λ n. (m : ℕ) → reaches (graph_of new) n m ≡ reaches (graph_of old) n m) others (λ n lt. (same_at n lt).reach) all_there)
+          ∙ was.brought;
+      fits =
+          let same = merge_refusal-same meaning seen.terms.limits old new (seen.head ∷ others) same_several.visible ∙ was.fits in
+          subst (λ (t : Terms). merge_refusal meaning t.limits new (seen.head ∷ others) ≡ None) terms same;
+      timed = was.timed ∙ greatest_same (seen.head ∷ others) (seen-there meaning laws seen is, all_there);
+      stands = subst (λ (y : List (Event O R)). meaning.stands value y) (sym same_several.visible) was.stands;
+    }
+
   -- the newest head reaches the one that was seen
   pub head-below : IsValid meaning core.terms core.history → IsTrue (reaches (graph_of new) (head_of (store_of core.terms.origin core.history).branches seen.branch) seen.head)
   head-below valid =
@@ -150,6 +182,10 @@ module _ {S O R Q A : Type 0} (meaning : Meaning S O R Q A) (laws : KeepsLaws me
     pub merge-ready : (commit clock : ℕ) (value : S) → IsReadyMerge meaning seen commit clock value → IsReadyMerge meaning (at_head core branch head) commit clock value
     merge-ready commit clock value was =
         subst (λ (v : SeenView (Move O R)). IsReadyMerge meaning v commit clock value) (at_seen (at_head core)) (merge-now commit was.there clock value was)
+
+    pub join-ready : (others : List ℕ) (clock : ℕ) (value : S) → IsReadyJoin meaning seen others clock value → IsReadyJoin meaning (at_head core branch head) others clock value
+    join-ready others clock value was =
+        subst (λ (v : SeenView (Move O R)). IsReadyJoin meaning v others clock value) (at_seen (at_head core)) (join-now others was.there clock value was)
 
     pub forward-ready : (commit : ℕ) → IsReadyForward seen.terms seen.history seen.head commit → IsReadyForward core.terms core.history head commit
     forward-ready commit was = subst (λ (h : ℕ). IsReadyForward core.terms core.history h commit) (sym at) (forward-now commit was.there was)
@@ -200,6 +236,12 @@ module _ {S O R Q A : Type 0} (meaning : Meaning S O R Q A) (laws : KeepsLaws me
             let here = merge-now commit was.there clock value was in
             IfErr-weaker r (RefusedBy (commit_refusal core.terms core.history branch head)) (LandRefusedAs meaning (record { seen = seen; work = Merge commit }) core)
             (commit_refused (Merge commit) (λ refusal is. merge-refused meaning core.terms core.history seen.branch seen.head commit refusal here.above here.below here.fits is))
+
+        pub join-is_refused : (others : List ℕ) (clock : ℕ) (value : S) → IsReadyJoin meaning seen others clock value → IfErr r (RefusedBy (commit_refusal core.terms core.history branch head)) → IfErr r (LandRefusedAs meaning (record { seen = seen; work = Join others }) core)
+        join-is_refused others clock value was =
+            let here = join-now others was.there clock value was in
+            IfErr-weaker r (RefusedBy (commit_refusal core.terms core.history branch head)) (LandRefusedAs meaning (record { seen = seen; work = Join others }) core)
+            (commit_refused (Join others) (λ refusal is. several-refused meaning core.terms core.history seen.branch seen.head others here.several refusal here.brought here.fits is))
 
         pub forward-is_refused : (commit : ℕ) → IsReadyForward seen.terms seen.history seen.head commit → IfErr r (RefusedBy (forward_refusal core.terms core.history branch head)) → IfErr r (LandRefusedAs meaning (record { seen = seen; work = Forward commit }) core)
         forward-is_refused commit was =

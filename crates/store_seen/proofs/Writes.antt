@@ -10,9 +10,9 @@ use Rattle.branch_history.specs.Machine.{event_made}
 use Rattle.branch_history.proofs.Histories.{made-lawful}
 use Rattle.branch_history.proofs.Kept.{IsKept, visible_at_all-closed, closed-lawful}
 use Rattle.branch_history.proofs.Valid.{operation-room}
-use Rattle.store_seen.specs.Keeps.{IsSeen, IsReadyOperation, IsReadyMerge, AreSpelled}
+use Rattle.store_seen.specs.Keeps.{IsSeen, IsReadyOperation, IsReadyMerge, IsReadyJoin, AreSpelled}
 use Rattle.store_seen.specs.Views.{SeenView, SpelledView}
-use Rattle.store_seen.specs.Written.{IsWrittenOperation, IsWrittenMerge}
+use Rattle.store_seen.specs.Written.{IsWrittenOperation, IsWrittenMerge, IsWrittenJoin}
 use Rattle.store_seen.proofs.Looks.{seen-kept, seen-small}
 
 module _ {S O R Q A : Type 0} (meaning : Meaning S O R Q A) (laws : KeepsLaws meaning) (seen : SeenView (Move O R)) (is : IsSeen meaning seen) where
@@ -41,6 +41,19 @@ module _ {S O R Q A : Type 0} (meaning : Meaning S O R Q A) (laws : KeepsLaws me
       record {
         other_is = same;
         there = ready.there;
+        clock_is = ready.timed;
+        value_is = are ∙ laws.one_spelling value union (closed-lawful meaning union (all_events commits) kept.lawful part) ready.stands;
+      }
+
+  pub join-written : (commits_joined : List ℕ) (clock : ℕ) (value : S) (spelled others : List ℕ) → others ≡ commits_joined → IsReadyJoin meaning seen commits_joined clock value → spelled ≡ meaning.state_spelling value → IsWrittenJoin meaning seen commits_joined others clock spelled
+  join-written commits_joined clock value spelled others same ready are =
+      let union : List (Event O R) = visible_at_all commits (seen.head ∷ commits_joined) in
+      let part = visible_at_all-closed commits kept.ordered.ranked kept.ordered.rising kept.events kept.distinct (seen.head ∷ commits_joined) in
+      record {
+        others_are = same;
+        there = ready.there;
+        several = ready.several;
+        few = ready.few;
         clock_is = ready.timed;
         value_is = are ∙ laws.one_spelling value union (closed-lawful meaning union (all_events commits) kept.lawful part) ready.stands;
       }

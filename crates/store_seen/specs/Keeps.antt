@@ -1,5 +1,5 @@
 -- What looks and prepared works keep of a history.
-use Rattle.std.specs.Prelude.{◌≡◌, ℕ, ◌+◌, ◌<◌, false, List, [], ◌∷◌, length, None, IsTrue}
+use Rattle.std.specs.Prelude.{◌≡◌, ℕ, ◌+◌, ◌<◌, ◌≤◌, All, false, List, [], ◌∷◌, length, None, IsTrue}
 use Rattle.mrdt_model.specs.declared.time.Time.{Time}
 use Rattle.mrdt_model.specs.Laws.{Meaning}
 use Rattle.branch_graph.specs.Graph.{reaches}
@@ -8,12 +8,13 @@ use Rattle.branch_names.specs.Heads.{head_of}
 use Rattle.branch_history.specs.declared.moves.Move.{Move}
 use Rattle.branch_history.specs.Commits.{Commit, graph_of, clock_of, greatest_clock, visible, visible_at_all}
 use Rattle.branch_history.specs.History.{store_of}
+use Rattle.branch_history.specs.Merging.{brought}
 use Rattle.branch_history.specs.Machine.{event_made, operation_refusal, merge_refusal}
 use Rattle.branch_history.specs.Validity.{IsValid}
 use Rattle.store_seen.specs.declared.prepared.Ready.{Ready}
 use Rattle.store_seen.specs.declared.prepared.Ready.TheVariants as ready
 use Rattle.virtual_base.specs.Nodes.{NodesView, AreNodesOf}
-use Rattle.store_seen.specs.Views.{SeenView, SpelledView, Work, Operation, Merge, Forward}
+use Rattle.store_seen.specs.Views.{SeenView, PairView, look_in, SpelledView, Work, Operation, Merge, Join, Forward}
 
 -- a clock and a value are those of a commit: the value stands for what is visible there
 pub record IsNode {S O R Q A : Type 0} (meaning : Meaning S O R Q A) (commits : List (Commit O R)) (n clock : ℕ) (value : S) : Type 0 where
@@ -38,6 +39,7 @@ pub record IsLook {S O R Q A : Type 0} (meaning : Meaning S O R Q A) (seen : See
 abbrev pub work_of : {S O R : Type 0} → Ready S O R → Work O R
 work_of (ready.Operation time value op reply spelled) = Operation op reply
 work_of (ready.Merge commit clock value spelled) = Merge commit
+work_of (ready.Join commits clock value spelled) = Join commits
 work_of (ready.Forward commit) = Forward commit
 
 -- an operation that is not refused, with its time and its reply, and a value that stands for its event and what it has seen
@@ -58,6 +60,16 @@ pub record IsReadyMerge {S O R Q A : Type 0} (meaning : Meaning S O R Q A) (seen
   pub timed : clock ≡ greatest_clock (store_of seen.terms.origin seen.history).commits (seen.head ∷ commit ∷ [])
   pub stands : meaning.stands value (visible_at_all (store_of seen.terms.origin seen.history).commits (seen.head ∷ commit ∷ []))
 
+-- A join that is not refused: two to eight commits that the merge brings, all of them, with the greatest of all clocks, and a value that stands for what the head or one of them sees.
+pub record IsReadyJoin {S O R Q A : Type 0} (meaning : Meaning S O R Q A) (seen : SeenView (Move O R)) (commits : List ℕ) (clock : ℕ) (value : S) : Type 0 where
+  pub there : All (λ n. n < length (store_of seen.terms.origin seen.history).commits) commits
+  pub several : 2 ≤ length commits
+  pub few : length commits ≤ 8
+  pub brought : brought (graph_of (store_of seen.terms.origin seen.history).commits) seen.head commits ≡ commits
+  pub fits : merge_refusal meaning seen.terms.limits (store_of seen.terms.origin seen.history).commits (seen.head ∷ commits) ≡ None
+  pub timed : clock ≡ greatest_clock (store_of seen.terms.origin seen.history).commits (seen.head ∷ commits)
+  pub stands : meaning.stands value (visible_at_all (store_of seen.terms.origin seen.history).commits (seen.head ∷ commits))
+
 -- the head lies below the commit
 pub record IsReadyForward {O R : Type 0} (terms : Terms) (history : List (Move O R)) (head commit : ℕ) : Type 0 where
   pub there : commit < length (store_of terms.origin history).commits
@@ -74,12 +86,14 @@ pub record AreSpelled {S O R Q A : Type 0} (meaning : Meaning S O R Q A) (value 
 abbrev pub IsReady : {S O R Q A : Type 0} → Meaning S O R Q A → SeenView (Move O R) → Ready S O R → Type 0
 IsReady meaning seen (ready.Operation time value op reply spelled) = IsReadyOperation meaning seen time value op reply × AreSpelled meaning value op reply spelled
 IsReady meaning seen (ready.Merge commit clock value spelled) = IsReadyMerge meaning seen commit clock value × (spelled ≡ meaning.state_spelling value)
+IsReady meaning seen (ready.Join commits clock value spelled) = IsReadyJoin meaning seen commits clock value × (spelled ≡ meaning.state_spelling value)
 IsReady meaning seen (ready.Forward commit) = IsReadyForward seen.terms seen.history seen.head commit
 
 -- such a merge of this commit
 abbrev pub IsMergeReady : {S O R Q A : Type 0} → Meaning S O R Q A → SeenView (Move O R) → ℕ → Ready S O R → Type 0
 IsMergeReady meaning seen other (ready.Operation time value op reply spelled) = ⊥
 IsMergeReady meaning seen other (ready.Merge commit clock value spelled) = (commit ≡ other) × IsReadyMerge meaning seen commit clock value × (spelled ≡ meaning.state_spelling value)
+IsMergeReady meaning seen other (ready.Join commits clock value spelled) = ⊥
 IsMergeReady meaning seen other (ready.Forward commit) = ⊥
 
 -- what is ready on a look, which is at a branch of an origin, and its head
@@ -94,4 +108,19 @@ pub record IsPrepared {S O R Q A : Type 0} (meaning : Meaning S O R Q A) (seen :
 pub record IsPair {S O R Q A : Type 0} (meaning : Meaning S O R Q A) (seen : SeenView (Move O R)) (other clock : ℕ) (nodes : NodesView S) : Type 0 where
   pub there : other < length (store_of seen.terms.origin seen.history).commits
   pub timed : clock ≡ clock_of (store_of seen.terms.origin seen.history).commits other
+  pub nodes_are : AreNodesOf meaning (store_of seen.terms.origin seen.history).commits nodes
+
+-- such a join of these commits
+abbrev pub IsJoinReady : {S O R Q A : Type 0} → Meaning S O R Q A → SeenView (Move O R) → List ℕ → Ready S O R → Type 0
+IsJoinReady meaning seen others (ready.Operation time value op reply spelled) = ⊥
+IsJoinReady meaning seen others (ready.Merge commit clock value spelled) = ⊥
+IsJoinReady meaning seen others (ready.Join commits clock value spelled) = (commits ≡ others) × IsReadyJoin meaning seen commits clock value × (spelled ≡ meaning.state_spelling value)
+IsJoinReady meaning seen others (ready.Forward commit) = ⊥
+
+-- a look and its pairs with one to eight commits, all at one history, and the nodes of the history's commits
+pub record IsGroup {S O R Q A : Type 0} (meaning : Meaning S O R Q A) (seen : SeenView (Move O R)) (pairs : List (PairView (Move O R))) (nodes : NodesView S) : Type 0 where
+  pub looks : All (λ p. look_in p ≡ seen) pairs
+  pub there : All (λ p. p.other < length (store_of seen.terms.origin seen.history).commits) pairs
+  pub some : 1 ≤ length pairs
+  pub few : length pairs ≤ 8
   pub nodes_are : AreNodesOf meaning (store_of seen.terms.origin seen.history).commits nodes

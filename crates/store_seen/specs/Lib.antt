@@ -4,3 +4,5 @@ pub mod Turns
 pub mod Nodes
 pub mod Pairs
 pub mod Written
+pub mod Groups
+pub mod Answers

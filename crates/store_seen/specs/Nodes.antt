@@ -1,6 +1,8 @@
 -- What a core keeps of its history, and the commit that a move adds to it.
-use Rattle.std.specs.Prelude.{◌≡◌, ℕ, ◌+◌, ◌<◌, List, [], ◌∷◌, ◌++◌, All, length, take, slice_get, Some, None}
+use Rattle.std.specs.Prelude.{◌≡◌, ℕ, ◌+◌, ◌<◌, List, [], ◌∷◌, ◌++◌, All, length, take, slice_get, cond, Some, None}
 use Rattle.std.specs.declared.option.Option.{Option}
+use Rattle.std.specs.List.{position_from}
+use Rattle.std.specs.Str.{bytes_eq}
 use Rattle.mrdt_model.specs.Executions.{Event}
 use Rattle.mrdt_model.specs.Laws.{Meaning}
 use Rattle.branch_graph.specs.Graph.{Ancestry}
@@ -41,3 +43,16 @@ pub record AddsCommit {S O R Q A : Type 0} (meaning : Meaning S O R Q A) (terms 
   pub event : Option (Event O R)
   pub store : store_of terms.origin (history ++ made ∷ []) ≡ with_commit (store_of terms.origin history) branch (record { parents = parents; origin = terms.origin + branch; clock = clock; event = event })
   pub stands : meaning.stands value (visible (store_of terms.origin (history ++ made ∷ [])).commits (length (store_of terms.origin history).commits))
+
+-- the first commit whose object has an address
+abbrev pub commit_at : List (List ℕ) → List ℕ → Option ℕ
+commit_at addresses address = position_from (λ a. bytes_eq address a) 0 addresses
+
+-- an index finds every commit that is the first with its address; of other addresses it may say anything
+abbrev pub FindsCommits : List (List ℕ) → (List ℕ → Option ℕ) → Type 0
+FindsCommits addresses find = (address : List ℕ) (n : ℕ) → commit_at addresses address ≡ Some n → find address ≡ Some n
+
+-- where no earlier commit has an address, an index finds the next one by it from now on; of other addresses it says what it said
+abbrev pub Notes : Option ℕ → List ℕ → ℕ → (List ℕ → Option ℕ) → (List ℕ → Option ℕ) → Type 0
+Notes (Some n) address next before after = (other : List ℕ) → after other ≡ before other
+Notes None address next before after = (other : List ℕ) → after other ≡ cond (bytes_eq address other) (Some next) (before other)

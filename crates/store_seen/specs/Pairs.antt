@@ -14,7 +14,7 @@ use Rattle.store_seen.specs.declared.answers.PairPrepareRefused.TheVariants as p
 use Rattle.store_seen.specs.declared.pair.PairStep.{PairStep}
 use Rattle.store_seen.specs.declared.pair.PairStep.TheVariants as step
 use Rattle.store_seen.specs.Turns.{Refuses, FromOn}
-use Rattle.store_seen.specs.Views.{CoreView, SeenView, PairView, Work, Operation, Merge, Forward}
+use Rattle.store_seen.specs.Views.{CoreView, SeenView, PairView, Work, Operation, Merge, Join, Forward}
 
 -- the look of a pair, at the history on which it was paired
 abbrev pub seen_of : {M : Type 0} → PairView M → SeenView M
@@ -55,6 +55,7 @@ IsWorkOf meaning pair (Merge commit) =
     × (reaches (graph_of (store_of pair.terms.origin pair.history).commits) pair.head pair.other ≡ false)
     × (reaches (graph_of (store_of pair.terms.origin pair.history).commits) pair.other pair.head ≡ false)
     × (merge_refusal meaning pair.terms.limits (store_of pair.terms.origin pair.history).commits (pair.head ∷ pair.other ∷ []) ≡ None)
+IsWorkOf meaning pair (Join commits) = ⊥
 IsWorkOf meaning pair (Forward commit) =
     (commit ≡ pair.other)
     × (reaches (graph_of (store_of pair.terms.origin pair.history).commits) pair.head pair.other ≡ false)

@@ -21,8 +21,11 @@ use Rattle.store_seen.specs.declared.answers.PrepareRefused.{PrepareRefused}
 use Rattle.store_seen.specs.declared.answers.PrepareRefused.TheVariants as prepare_refusal
 use Rattle.store_seen.specs.declared.answers.LandRefused.{LandRefused}
 use Rattle.store_seen.specs.declared.answers.LandRefused.TheVariants as land_refusal
+use Rattle.store_seen.specs.declared.answers.DropRefused.{DropRefused}
+use Rattle.store_seen.specs.declared.answers.DropRefused.TheVariants as drop_refusal
 use Rattle.store_seen.specs.declared.answers.ForkRefused.{ForkRefused}
 use Rattle.store_seen.specs.declared.answers.ForkRefused.TheVariants as fork_refusal
+use Rattle.machine_answers.specs.Answers.{Answer, Takes}
 use Rattle.store_seen.specs.Views.{CoreView, VersionsView, SeenView, PreparedView, Work}
 use Rattle.store_seen.specs.Views as work
 
@@ -53,16 +56,19 @@ pub record Moves {S O R Q A : Type 0} (meaning : Meaning S O R Q A) (old new : C
 abbrev pub step_of : {O R Q : Type 0} → SeenView (Move O R) → Work O R → machine.Step O Q
 step_of seen (work.Operation op reply) = machine.Land seen.branch seen.head op
 step_of seen (work.Merge commit) = machine.Merge seen.branch seen.head (commit ∷ [])
+step_of seen (work.Join commits) = machine.Merge seen.branch seen.head commits
 step_of seen (work.Forward commit) = machine.Merge seen.branch seen.head (commit ∷ [])
 
 abbrev pub move_of : {O R : Type 0} → ℕ → Work O R → Move O R
 move_of branch (work.Operation op reply) = move.Operation branch op reply
 move_of branch (work.Merge commit) = move.Merge branch commit
+move_of branch (work.Join commits) = move.Join branch commits
 move_of branch (work.Forward commit) = move.Forward branch commit
 
 abbrev pub outcome_of : {A R : Type 0} → Kind R → machine.Outcome A R
 outcome_of (kind.Operation commit time reply) = machine.Landed commit time reply
 outcome_of (kind.Merged commit) = machine.Merged commit
+outcome_of (kind.Joined commit) = machine.Joined commit
 outcome_of (kind.Forward commit) = machine.Forwarded commit
 
 -- what was prepared landed as the machine's step does it
@@ -77,6 +83,7 @@ MayLand meaning made core = (turn meaning core.terms core.history (step_of made.
 abbrev pub addresses_after : {O R : Type 0} → Work O R → List ℕ → List (List ℕ) → List (List ℕ)
 addresses_after (work.Operation op reply) address addresses = addresses ++ address ∷ []
 addresses_after (work.Merge commit) address addresses = addresses ++ address ∷ []
+addresses_after (work.Join commits) address addresses = addresses ++ address ∷ []
 addresses_after (work.Forward commit) address addresses = addresses
 
 -- before a move, the branch whose head it moves stood at this commit; some moves move none
@@ -116,6 +123,14 @@ RefusedBy refusal (land_refusal.FullCommits count) = refusal ≡ Some (machine.F
 RefusedBy refusal (land_refusal.FullMoves count) = refusal ≡ Some (machine.FullMoves count)
 RefusedBy refusal land_refusal.Memory = Unit {0}
 
+-- a refusal of the machine to drop a branch is this one
+abbrev pub DropRefusedBy : Option machine.Refusal → DropRefused → Type 0
+DropRefusedBy refusal (drop_refusal.Dropped branch) = refusal ≡ Some (machine.Dropped branch)
+DropRefusedBy refusal drop_refusal.KeepsMain = refusal ≡ Some machine.KeepsMain
+DropRefusedBy refusal (drop_refusal.Stale newest) = refusal ≡ Some (machine.Stale newest)
+DropRefusedBy refusal (drop_refusal.FullMoves count) = refusal ≡ Some (machine.FullMoves count)
+DropRefusedBy refusal drop_refusal.Memory = Unit {0}
+
 -- the machine refuses what was prepared, and a head that is not the newest lies below the newest
 abbrev pub LandRefusedAs : {S O R Q A : Type 0} → Meaning S O R Q A → PreparedView O R → CoreView (Move O R) → LandRefused → Type 0
 LandRefusedAs meaning made core (land_refusal.Dropped branch) = Refuses meaning core.terms core.history (step_of made.seen made.work) (machine.Dropped branch)
@@ -133,6 +148,13 @@ pub record BranchAdded {O R : Type 0} (name : List ℕ) (source : ℕ) (old new 
   pub history : new ≡ record old { history = old.history ++ move.Fork name forked.number source ∷ [] }
   pub counted : forked.moves ≡ length new.history
 
+-- the history goes on by a new branch at a commit
+pub record PlaceAdded {O R : Type 0} (name : List ℕ) (commit : ℕ) (old new : CoreView (Move O R)) (forked : Forked) : Type 0 where
+  pub number : forked.number ≡ length (store_of old.terms.origin old.history).branches
+  pub head : forked.head ≡ commit
+  pub history : new ≡ record old { history = old.history ++ move.Place name forked.number commit ∷ [] }
+  pub counted : forked.moves ≡ length new.history
+
 -- a branch forked as the machine's step does it
 abbrev pub Forks : {S O R Q A : Type 0} → Meaning S O R Q A → List ℕ → List ℕ → CoreView (Move O R) → CoreView (Move O R) → Forked → Type 0
 Forks {S} {O} {R} {Q} {A} meaning name from old new forked =
@@ -144,3 +166,9 @@ ForkRefusedAs meaning name from core (fork_refusal.NameTaken number) = Refuses m
 ForkRefusedAs meaning name from core (fork_refusal.FullBranches count) = Refuses meaning core.terms core.history (machine.Fork name from) (machine.FullBranches count)
 ForkRefusedAs meaning name from core (fork_refusal.FullMoves count) = Refuses meaning core.terms core.history (machine.Fork name from) (machine.FullMoves count)
 ForkRefusedAs meaning name from core fork_refusal.Memory = Unit {0}
+
+-- A step of the machine is answered so; the history goes on by its move, and these are the addresses then.
+pub record Steps {S O R Q A : Type 0} (meaning : Meaning S O R Q A) (step : machine.Step O Q)
+    (old new : VersionsView (Move O R)) (addresses : List (List ℕ)) (answer : Answer A R) : Type 0 where
+  pub takes : Takes (turn meaning old.core.terms old.core.history step) old.core.history new.core.history answer
+  pub rest : new ≡ record { core = record { history = new.core.history; terms = old.core.terms }; addresses = addresses }

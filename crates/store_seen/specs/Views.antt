@@ -20,10 +20,11 @@ pub record SeenView (M : Type 0) : Type 0 where
   pub branch : ℕ
   pub head : ℕ
 
--- what a branch is to get: an operation with its reply, a merge of a commit, or a commit that its head lies below
+-- what a branch is to get: an operation with its reply, a merge of a commit, a join of several, or a commit that its head lies below
 pub data Work (O R : Type 0) : Type 0 where
   Operation : O → R → Work O R
   Merge : ℕ → Work O R
+  Join : List ℕ → Work O R
   Forward : ℕ → Work O R
 
 -- a work, made on a look
@@ -44,3 +45,15 @@ pub record PairView (M : Type 0) : Type 0 where
   pub branch : ℕ
   pub head : ℕ
   pub other : ℕ
+
+-- the look of a pair, at the history on which it was paired
+abbrev pub look_in : {M : Type 0} → PairView M → SeenView M
+look_in pair = record { history = pair.history; terms = pair.terms; branch = pair.branch; head = pair.head }
+
+-- a look and other commits: the history and the terms of the core when they were grouped, the branch's number, the head that was seen, and the commits as they were given
+pub record GroupView (M : Type 0) : Type 0 where
+  pub history : List M
+  pub terms : Terms
+  pub branch : ℕ
+  pub head : ℕ
+  pub others : List ℕ

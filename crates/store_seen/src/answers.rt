@@ -30,10 +30,10 @@ pub enum PrepareRefused {
     Memory,
 }
 
-/// Why a look was not paired with another branch.
+/// Why a look was not paired with another branch, or grouped with others.
 #[derive(Clone, Copy, Debug, PartialEq, Eq, Error)]
 pub enum PairRefused {
-    /// No branch has the name.
+    /// No branch has the name; of several, the first that no branch has.
     #[error("no branch has this name")]
     UnknownBranch { name: Name },
     /// Want of memory.
@@ -92,6 +92,43 @@ pub enum ForkRefused {
     Memory,
 }
 
+/// Why no branch was placed at a commit.
+#[derive(Clone, Copy, Debug, PartialEq, Eq, Error)]
+pub enum PlaceRefused {
+    /// The branch of this number has the name.
+    #[error("branch {number} has this name")]
+    NameTaken { number: u32 },
+    /// The store holds this many branches, and may not hold more.
+    #[error("the store holds its limit of {count} branches")]
+    FullBranches { count: u32 },
+    /// The history has this many moves, and may not have more.
+    #[error("the history has its limit of {count} moves")]
+    FullMoves { count: u64 },
+    /// Want of memory.
+    #[error("out of memory")]
+    Memory,
+}
+
+/// Why a branch was not dropped.
+#[derive(Clone, Copy, Debug, PartialEq, Eq, Error)]
+pub enum DropRefused {
+    /// The branch of this number was dropped before.
+    #[error("branch {branch} was dropped")]
+    Dropped { branch: u32 },
+    /// It is branch 0, which stays.
+    #[error("the first branch stays")]
+    KeepsMain,
+    /// The branch's head is not the commit that was seen, but this newer one.
+    #[error("the newest head is #{newest}")]
+    Stale { newest: u32 },
+    /// The history has this many moves, and may not have more.
+    #[error("the history has its limit of {count} moves")]
+    FullMoves { count: u64 },
+    /// Want of memory.
+    #[error("out of memory")]
+    Memory,
+}
+
 /// What was landed.
 #[derive(Drop)]
 pub enum Kind<R> {
@@ -99,6 +136,8 @@ pub enum Kind<R> {
     Operation { commit: u32, time: Time, reply: R },
     /// A merge: the number of its commit.
     Merged { commit: u32 },
+    /// A join: the number of its commit.
+    Joined { commit: u32 },
     /// A branch that moved up to a commit that stood before.
     Forward { commit: u32 },
 }
@@ -111,7 +150,7 @@ pub struct Landed<R> {
     pub kind: Kind<R>,
 }
 
-/// A fork that was accepted.
+/// A fork that was accepted, or a branch that was placed at a commit.
 #[derive(Clone, Copy, Debug, PartialEq, Eq)]
 pub struct Forked {
     /// The length of the history after the move.
@@ -207,5 +246,27 @@ impl From<Memory> for ForkRefused {
 
     fn from(_: Memory) -> ForkRefused {
         ForkRefused::Memory
+    }
+}
+
+impl From<Memory> for PlaceRefused {
+    ghost use Rattle.std.specs.Prelude.{◌≡◌};
+    ghost use Rattle.store_seen.specs.declared.answers.PlaceRefused.TheVariants as refusal;
+
+    ghost from_gives = { λ _ error. error ≡ refusal.Memory };
+
+    fn from(_: Memory) -> PlaceRefused {
+        PlaceRefused::Memory
+    }
+}
+
+impl From<Memory> for DropRefused {
+    ghost use Rattle.std.specs.Prelude.{◌≡◌};
+    ghost use Rattle.store_seen.specs.declared.answers.DropRefused.TheVariants as refusal;
+
+    ghost from_gives = { λ _ error. error ≡ refusal.Memory };
+
+    fn from(_: Memory) -> DropRefused {
+        DropRefused::Memory
     }
 }

@@ -6,6 +6,7 @@
 #![tactic(auto)]
 
 pub mod answers;
+pub mod group;
 pub mod pair;
 pub mod prepared;
 pub mod seen;
@@ -14,9 +15,10 @@ mod spelled;
 pub mod versions;
 
 pub use answers::{
-    ForkRefused, Forked, Kind, LandRefused, Landed, LookRefused, PairPrepareRefused, PairRefused,
-    PrepareRefused,
+    DropRefused, ForkRefused, Forked, Kind, LandRefused, Landed, LookRefused, PairPrepareRefused,
+    PairRefused, PlaceRefused, PrepareRefused,
 };
+pub use group::Group;
 pub use pair::{Pair, PairStep};
 pub use prepared::{Prepared, Written};
 pub use seen::Seen;

@@ -6,13 +6,13 @@ ghost use Rattle.store_seen.specs.Written.{IsWritten};
 
 use crate::seen::Seen;
 use crate::spelled::Spelled;
-use mrdt_model::{Bytes, Memory, Mrdt, Time, Unread};
+use mrdt_model::{Bytes, Listing, Memory, Mrdt, Time, Unread};
 use std::alloc::Global;
 use std::marker::Model;
 use std::snapshot::Snapshot;
 
-// What lands on a branch: an operation with its time, its reply and the value that it makes, a merge of a commit
-// with the new commit's clock and value, or a commit that the branch moves up to; and the spellings of what is
+// What lands on a branch: an operation with its time, its reply and the value that it makes, a merge of a commit or
+// a join of several with the new commit's clock and value, or a commit that the branch moves up to; and the spellings of what is
 // written of it.
 #[derive(Drop)]
 pub(crate) enum Ready<T, O, R> {
@@ -25,6 +25,12 @@ pub(crate) enum Ready<T, O, R> {
     },
     Merge {
         commit: u32,
+        clock: u64,
+        value: T,
+        spelled: Bytes,
+    },
+    Join {
+        commits: Listing<u32>,
         clock: u64,
         value: T,
         spelled: Bytes,
@@ -59,7 +65,7 @@ impl<T: Mrdt> Model for Prepared<T> {
 
 /// What is written of a work that is ready: of an operation its commit's clock, and the spellings of the new value,
 /// the operation and the reply; of a merge the commit that is merged, its own commit's clock, and the spelling of the
-/// new value; of a move up the commit.
+/// new value; of a join the same with the commits that are joined; of a move up the commit.
 #[derive(Clone, Copy)]
 pub enum Written<'a> {
     Operation {
@@ -70,6 +76,11 @@ pub enum Written<'a> {
     },
     Merge {
         other: u32,
+        clock: u64,
+        value: &'a [u8],
+    },
+    Join {
+        others: &'a [u32],
         clock: u64,
         value: &'a [u8],
     },
@@ -120,6 +131,16 @@ impl<T: Mrdt> Prepared<T> {
                 ..
             } => Written::Merge {
                 other: *commit,
+                clock: *clock,
+                value: spelled.as_slice(),
+            },
+            Ready::Join {
+                commits,
+                clock,
+                spelled,
+                ..
+            } => Written::Join {
+                others: commits.as_slice(),
                 clock: *clock,
                 value: spelled.as_slice(),
             },

@@ -1,20 +1,23 @@
 // Nodes that pairs may share.
-ghost use Rattle.std.specs.Prelude.{◌≡◌, ℕ, ◌-◌, ◌<◌, ◌≤◌, ◌∷◌, [], All, Some, length, slice_get, IfOk, OnOk, OnErr, IsErrOf};
+ghost use Rattle.std.specs.Prelude.{◌≡◌, ℕ, ◌-◌, ◌<◌, ◌≤◌, List, ◌∷◌, [], All, Some, length, slice_get, IfOk, OnOk, OnErr, IsErrOf, IsTrue, ◌↔◌};
 ghost use Rattle.std.specs.Arc.{arc_value};
+ghost use Rattle.std.specs.Str.{bytes_eq};
+ghost use Rattle.indexmap.specs.IndexMap.{get};
 ghost use Rattle.branch_graph.specs.Graph.{maximal_common};
-ghost use Rattle.store_seen.specs.Nodes.{first_nodes, AreFoldsOf};
+ghost use Rattle.store_seen.specs.Nodes.{first_nodes, commit_at, AreFoldsOf, Notes};
 ghost use Rattle.virtual_base.specs.Memos.{IsMemoOf};
 ghost use Rattle.virtual_base.specs.Nodes.{IsFold, no_nodes, with_node, without_last};
 
 use branch_graph::PushRefused;
 use counted_steps::Steps;
+use indexmap::IndexMap;
 use mrdt_model::{Memory, Mrdt};
 use std::alloc::Global;
 use std::marker::{Brand, Model};
 use std::sync::Arc;
 use std::sync::ledger::{Blank, Ledger};
 use virtual_base::laws::keeps_memos;
-use virtual_base::{Memo, Nodes, base, base_kept};
+use virtual_base::{Memo, Nodes, base, base_kept, value_at_all, value_at_all_kept};
 
 // The nodes of a history. Contracts see a `NodesView`. Behind the reference there may be more, which were taken off
 // again while a pair shared them.
@@ -25,19 +28,24 @@ pub(crate) struct SharedNodes<T: Mrdt> {
     count: u32,
     // the folds that are kept of their lists, if any are to be kept
     folds: Option<Memo<T>>,
+    // For each address of a commit's object the first commit that has it. Entries of commits that were taken off stay,
+    // and are not believed.
+    index: IndexMap<[u8; 32], u32>,
 }
 
 impl<T: Mrdt> Model for SharedNodes<T> {
     ghost use Rattle.std.specs.Prelude.{◌≤◌, length};
     ghost use Rattle.std.specs.Arc.{arc_value};
     ghost use Rattle.virtual_base.specs.Nodes.{NodesView};
-    ghost use Rattle.store_seen.specs.Nodes.{first_nodes, AreFoldsOf};
+    ghost use Rattle.std.specs.Str.{bytes_eq};
+    ghost use Rattle.indexmap.specs.IndexMap.{get};
+    ghost use Rattle.store_seen.specs.Nodes.{first_nodes, AreFoldsOf, FindsCommits};
 
     ghost Value = { NodesView T };
 
     ghost view = { λ s. first_nodes s.count (arc_value s.nodes) };
 
-    ghost invariant = { λ s. (s.count ≤ length (arc_value s.nodes).graph.commits) × AreFoldsOf T.meaning (first_nodes s.count (arc_value s.nodes)) s.folds };
+    ghost invariant = { λ s. (s.count ≤ length (arc_value s.nodes).graph.commits) × AreFoldsOf T.meaning (first_nodes s.count (arc_value s.nodes)) s.folds × FindsCommits (first_nodes s.count (arc_value s.nodes)).addresses (get bytes_eq s.index) };
 }
 
 impl<T: Mrdt> SharedNodes<T> {
@@ -49,6 +57,7 @@ impl<T: Mrdt> SharedNodes<T> {
             nodes: Arc::new(alloc, Nodes::new(alloc, limit))?,
             count: 0,
             folds: None,
+            index: IndexMap::new(alloc),
         })
     }
 
@@ -76,6 +85,25 @@ impl<T: Mrdt> SharedNodes<T> {
         ensures { slice_get self.now.addresses number ≡ Some result.now }
     {
         self.nodes.address(number)
+    }
+
+    // The first commit whose object has an address; `None` exactly where none has it.
+    pub(crate) fn commit_at(&self, address: &[u8; 32]) -> Option<u32>
+        ensures { result ≡ commit_at self.now.addresses address.now }
+    {
+        let number = *self.index.get(address)?;
+        if self.has_address(number, address) {
+            Some(number)
+        } else {
+            None
+        }
+    }
+
+    // Whether a commit is there, and its object has this address.
+    fn has_address(&self, number: u32, address: &[u8; 32]) -> bool
+        ensures { IsTrue result ↔ (slice_get self.now.addresses number ≡ Some address.now) }
+    {
+        number < self.count() && self.address(number) == address
     }
 
     // These nodes alone, shared where no others stand behind them.
@@ -114,6 +142,16 @@ impl<T: Mrdt> SharedNodes<T> {
         base_by_folds(&nodes, left, right, &mut self.folds)
     }
 
+    // The value of several commits together, by the folds that are kept.
+    pub(crate) fn value_at_all(&mut self, commits: &[u32]) -> Result<T, Memory>
+        requires { All (λ n. n < length self.old.graph.commits) commits.now }
+        ensures folded { IfOk result (IsFold T.meaning self.old commits.now) }
+        ensures same { self.new ≡ self.old }
+    {
+        let nodes = self.share()?;
+        value_by_folds(&nodes, commits, &mut self.folds)
+    }
+
     // Puts a commit behind the others, for which there is room. It is put in place where nobody shares the nodes.
     // Else longer nodes come in their place, and who shares them keeps the old ones.
     pub(crate) fn push(
@@ -129,7 +167,9 @@ impl<T: Mrdt> SharedNodes<T> {
         ensures kept { OnErr result (self.new ≡ self.old) }
     {
         keeps_memos::<T>();
-        let _count = self.count();
+        let next = self.count();
+        let earlier = self.commit_at(&address);
+        note(&mut self.index, earlier, address, next)?;
         match push_behind(&mut self.nodes, self.count, value, parents, address) {
             Ok(number) => {
                 self.count = self.nodes.count();
@@ -148,10 +188,24 @@ impl<T: Mrdt> SharedNodes<T> {
     {
         self.folds = None;
         self.count -= 1;
-        if let Some(own) = Arc::get_mut(&mut self.nodes) {
-            cut(own, self.count);
-        }
+        cut_own(&mut self.nodes, self.count);
     }
+}
+
+// Notes the number that the next commit is to have for its address, unless an earlier one has that address.
+fn note(
+    index: &mut IndexMap<[u8; 32], u32>,
+    earlier: Option<u32>,
+    address: [u8; 32],
+    next: u32,
+) -> Result<(), Memory>
+    ensures noted { OnOk result (Notes earlier address next (get bytes_eq index.old) (get bytes_eq index.new)) }
+    ensures kept { OnErr result ((other : List ℕ) → get bytes_eq index.new other ≡ get bytes_eq index.old other) }
+{
+    if earlier.is_none() {
+        let _ = index.insert(address, next)?;
+    }
+    Ok(())
 }
 
 // The base of two commits, by the folds that are kept, if any are.
@@ -171,6 +225,41 @@ fn base_by_folds<T: Mrdt>(
         Some(memo) => base_by::<T, Brand>(nodes, left, right, memo, Blank::new(1)),
         None => base(nodes, &[left], &[right]),
     }
+}
+
+// The value of several commits together, by the folds that are kept, if any are.
+fn value_by_folds<T: Mrdt>(
+    nodes: &Nodes<T>,
+    commits: &[u32],
+    folds: &mut Option<Memo<T>>,
+) -> Result<T, Memory>
+    requires commits { All (λ n. n < length nodes.now.graph.commits) commits.now }
+    requires folds { AreFoldsOf T.meaning nodes.now folds.old }
+    ensures folded { IfOk result (IsFold T.meaning nodes.now commits.now) }
+    ensures folds { AreFoldsOf T.meaning nodes.now folds.new }
+{
+    match folds {
+        Some(memo) => value_by::<T, Brand>(nodes, commits, memo, Blank::new(1)),
+        None => value_at_all(nodes, commits),
+    }
+}
+
+// The value of several commits together, with a memo, and with steps that nobody counts.
+fn value_by<T: Mrdt, L: Ledger>(
+    nodes: &Nodes<T>,
+    commits: &[u32],
+    memo: &mut Memo<T>,
+    blank: Blank,
+) -> Result<T, Memory>
+    requires name { blank.name ≡ L.name }
+    requires parts { blank.parts ≡ L.parts }
+    requires some { 0 < blank.parts }
+    requires commits { All (λ n. n < length nodes.now.graph.commits) commits.now }
+    requires memo { IsMemoOf T.meaning nodes.now memo.old }
+    ensures folded { IfOk result (IsFold T.meaning nodes.now commits.now) }
+    ensures memo { IsMemoOf T.meaning nodes.now memo.new }
+{
+    value_at_all_kept(nodes, commits, memo, &mut Steps::<L>::none(blank))
 }
 
 // The base of two commits, with a memo, and with steps that nobody counts.
@@ -214,6 +303,17 @@ fn cut<T: Mrdt>(nodes: &mut Nodes<T>, count: u32)
     let more = nodes.count() - count;
     for _popped in 0..more {
         nodes.pop();
+    }
+}
+
+// Takes all nodes off but so many of the first, where nobody shares them.
+fn cut_own<T: Mrdt>(nodes: &mut Arc<Nodes<T>>, count: u32)
+    requires { count ≤ length (arc_value nodes.old).graph.commits }
+    ensures first { first_nodes count (arc_value nodes.new) ≡ first_nodes count (arc_value nodes.old) }
+    ensures there { count ≤ length (arc_value nodes.new).graph.commits }
+{
+    if let Some(own) = Arc::get_mut(nodes) {
+        cut(own, count);
     }
 }
 

@@ -1,23 +1,27 @@
 // The core's half in memory: a history, and the value of each of its commits.
-ghost use Rattle.std.specs.Prelude.{◌≡◌, ◌≢◌, ◌<◌, ◌≤◌, ℕ, false, List, [], ◌∷◌, ◌++◌, length, slice_get, IfOk, IfErr, IfSome, OnOk, OnErr, Some, None};
+ghost use Rattle.std.specs.Prelude.{◌≡◌, ◌≢◌, ◌<◌, ◌≤◌, ℕ, All, false, List, [], ◌∷◌, ◌++◌, length, map, slice_get, IfOk, IfErr, IfSome, OnOk, OnErr, Some, None};
 ghost use Rattle.std.specs.Option.{option_map};
 ghost use mathlib.Core.List.{IsPrefix};
 ghost use Rattle.branch_graph.specs.Graph.{reaches};
-ghost use Rattle.branch_names.specs.Heads.{branch_named, head_of, is_dropped, with_head, IsKeptBranch};
+ghost use Rattle.branch_names.specs.Heads.{branch_named, head_of, is_dropped, with_head, with_drop, IsKeptBranch};
 ghost use Rattle.branch_names.specs.declared.branch.Branch.{Branch};
-ghost use Rattle.branch_history.specs.Commits.{graph_of};
+ghost use Rattle.branch_history.specs.Commits.{graph_of, visible_at_all};
 ghost use Rattle.branch_history.specs.History.{store_of};
-ghost use Rattle.branch_history.specs.Machine.{turn, answers, commit_refusal, forward_refusal};
+ghost use Rattle.branch_history.specs.Machine.{turn, answers, commit_refusal, forward_refusal, drop_refusal};
 ghost use Rattle.branch_history.specs.Steps as machine;
 ghost use Rattle.branch_history.specs.Validity.{IsMove, IsValid};
-ghost use Rattle.store_seen.specs.Keeps.{IsReadyOperation, IsReadyMerge, IsReadyForward, AreSpelled};
-ghost use Rattle.store_seen.specs.Nodes.{AddsCommit};
+ghost use Rattle.store_seen.specs.Keeps.{IsReadyOperation, IsReadyMerge, IsReadyJoin, IsReadyForward, AreSpelled};
+ghost use Rattle.store_seen.specs.Answers.{place_answer, drop_answer};
+ghost use Rattle.store_seen.specs.Groups.{grouped_at, AreHeads, IsGrouped, GroupRefusedAs, IsStepOfAll, MergeAllRefusedAs};
+ghost use Rattle.store_seen.specs.Nodes.{AddsCommit, commit_at};
 ghost use Rattle.store_seen.specs.Pairs.{IsPaired, PairRefusedAs, paired_at, IsBaseAt, IsStepOf, MergeRefusedAs};
-ghost use Rattle.store_seen.specs.Turns.{at_head, outcome_of, addresses_after, Moves, LookRefusedAs, MayLand, LandsAs, LandRefusedAs, RefusedBy, BranchAdded, Forks, ForkRefusedAs, StoodBefore, Undone, GoesBack};
+ghost use Rattle.store_seen.specs.Turns.{at_head, outcome_of, Steps, addresses_after, Moves, LookRefusedAs, MayLand, LandsAs, LandRefusedAs, RefusedBy, DropRefusedBy, BranchAdded, PlaceAdded, Forks, ForkRefusedAs, StoodBefore, Undone, GoesBack};
 
 use crate::answers::{
-    ForkRefused, Forked, Kind, LandRefused, Landed, LookRefused, PairPrepareRefused, PairRefused,
+    DropRefused, ForkRefused, Forked, Kind, LandRefused, Landed, LookRefused, PairPrepareRefused,
+    PairRefused, PlaceRefused,
 };
+use crate::group::Group;
 use crate::pair::{Pair, PairStep};
 use crate::prepared::{Prepared, Ready, same_reply};
 use crate::seen::Seen;
@@ -25,7 +29,7 @@ use crate::shared::SharedNodes;
 use crate::spelled::Spelled;
 use branch_history::Move;
 use branch_names::{Heads, Name, Terms};
-use mrdt_model::{Memory, Mrdt, Time};
+use mrdt_model::{Listing, Memory, Mrdt, Time};
 use std::alloc::Global;
 use std::marker::Model;
 use std::snapshot::Snapshot;
@@ -165,6 +169,13 @@ impl<T: Mrdt> Versions<T> {
         self.nodes.address(number)
     }
 
+    /// The first commit whose object has an address; `None` exactly where none has it. It takes no memory.
+    pub fn commit_at(&self, address: &[u8; 32]) -> Option<u32>
+        ensures { result ≡ commit_at self.now.addresses address.now }
+    {
+        self.nodes.commit_at(address)
+    }
+
     /// Looks at the branch with a name. `UnknownBranch` comes exactly where no branch has it.
     pub fn look(&self, name: &Name) -> Result<Seen<T>, LookRefused>
         ensures on { IfOk result (λ seen. (seen.history ≡ self.now.core.history) × (seen.terms ≡ self.now.core.terms)) }
@@ -238,6 +249,109 @@ impl<T: Mrdt> Versions<T> {
         }
         let base = self.base_at(pair.seen.head, other)?;
         pair.prepare_over(&base)
+    }
+
+    /// Groups a look at this core, taken now or earlier, with the heads that branches have now, of one to eight names.
+    /// `UnknownBranch` comes exactly where one of them is no branch's, and names the first such.
+    pub fn group(&self, seen: &Seen<T>, from: &[Name]) -> Result<Group<T>, PairRefused>
+        requires history { IsPrefix seen.now.history self.now.core.history }
+        requires terms { seen.now.terms ≡ self.now.core.terms }
+        requires some { 1 ≤ length from.now }
+        requires few { length from.now ≤ 8 }
+        ensures grouped { IfOk result (IsGrouped T.meaning self.now.core seen.now from.now) }
+        ensures refused { IfErr result (GroupRefusedAs T.meaning self.now.core from.now) }
+    {
+        let others = self.heads_of(from)?;
+        Ok(self.group_at(seen, &others)?)
+    }
+
+    // The heads of the branches with these names.
+    fn heads_of(&self, from: &[Name]) -> Result<Vec<u32>, PairRefused>
+        ensures heads { IfOk result (λ heads. AreHeads T.meaning self.now.core from.now heads.items) }
+        ensures there { IfOk result (λ heads. All (λ n. n < length (store_of self.now.core.terms.origin self.now.core.history).commits) heads.items) }
+        ensures counted { IfOk result (λ heads. length heads.items ≡ length from.now) }
+        ensures refused { IfErr result (GroupRefusedAs T.meaning self.now.core from.now) }
+    {
+        let mut heads = Vec::new(self.alloc);
+        for name in from {
+            let Some(source) = self.heads.find(name) else {
+                return Err(PairRefused::UnknownBranch { name: *name });
+            };
+            if heads.push(self.heads.head(source)).is_err() {
+                return Err(PairRefused::Memory);
+            }
+        }
+        Ok(heads)
+    }
+
+    /// Groups a look at this core, taken now or earlier, with one to eight commits.
+    pub fn group_at(&self, seen: &Seen<T>, others: &[u32]) -> Result<Group<T>, Memory>
+        requires history { IsPrefix seen.now.history self.now.core.history }
+        requires terms { seen.now.terms ≡ self.now.core.terms }
+        requires there { All (λ n. n < length (store_of self.now.core.terms.origin self.now.core.history).commits) others.now }
+        requires some { 1 ≤ length others.now }
+        requires few { length others.now ≤ 8 }
+        ensures { IfOk result (λ group. group ≡ grouped_at self.now.core seen.now others.now) }
+    {
+        let pairs = self.pairs_of(seen, others)?;
+        let seen = self.seen_again(seen)?;
+        let nodes = self.nodes.share()?;
+        Ok(Group { seen, pairs, nodes })
+    }
+
+    // The pairs of a look at this core, taken now or earlier, with each of several commits.
+    fn pairs_of(&self, seen: &Seen<T>, others: &[u32]) -> Result<Vec<Pair<T>>, Memory>
+        requires history { IsPrefix seen.now.history self.now.core.history }
+        requires terms { seen.now.terms ≡ self.now.core.terms }
+        requires there { All (λ n. n < length (store_of self.now.core.terms.origin self.now.core.history).commits) others.now }
+        ensures { IfOk result (λ pairs. pairs.items ≡ map (paired_at self.now.core seen.now) others.now) }
+    {
+        let mut pairs = Vec::new(self.alloc);
+        for other in others {
+            pairs.push(self.pair_at(seen, *other)?)?;
+        }
+        Ok(pairs)
+    }
+
+    /// Makes the merge of one to eight commits ready to land on a look at this core, taken now or earlier: what a
+    /// group of them prepares, with the folds that are kept.
+    pub fn prepare_all_at(
+        &mut self,
+        seen: &Seen<T>,
+        others: &[u32],
+    ) -> Result<PairStep<T>, PairPrepareRefused>
+        requires history { IsPrefix seen.now.history self.old.core.history }
+        requires terms { seen.now.terms ≡ self.old.core.terms }
+        requires there { All (λ n. n < length (store_of self.old.core.terms.origin self.old.core.history).commits) others.now }
+        requires some { 1 ≤ length others.now }
+        requires few { length others.now ≤ 8 }
+        ensures step { IfOk result (IsStepOfAll T.meaning (grouped_at self.old.core seen.now others.now)) }
+        ensures refused { IfErr result (MergeAllRefusedAs T.meaning (grouped_at self.old.core seen.now others.now)) }
+        ensures same { self.new ≡ self.old }
+    {
+        let group = self.group_at(seen, others)?;
+        let brought = group.brought()?;
+        match brought.as_slice() {
+            [] => Ok(PairStep::Same),
+            [one] => self.prepare_at(seen, *one),
+            _ => {
+                let value = self.value_at_all(seen.head(), &brought)?;
+                group.prepare_join(brought, value)
+            }
+        }
+    }
+
+    // The value of a head and several commits together.
+    fn value_at_all(&mut self, head: u32, commits: &[u32]) -> Result<T, Memory>
+        requires head { head < length (store_of self.old.core.terms.origin self.old.core.history).commits }
+        requires commits { All (λ n. n < length (store_of self.old.core.terms.origin self.old.core.history).commits) commits.now }
+        ensures value { IfOk result (λ value. T.meaning.stands value (visible_at_all (store_of self.old.core.terms.origin self.old.core.history).commits (head ∷ commits.now))) }
+        ensures same { self.new ≡ self.old }
+    {
+        let _count = self.nodes.count();
+        let parents = joined(self.alloc, head, commits)?;
+        let value = self.nodes.value_at_all(&parents)?;
+        Ok(value)
     }
 
     // The base of two commits.
@@ -346,6 +460,119 @@ impl<T: Mrdt> Versions<T> {
         })
     }
 
+    /// Places a new branch at a commit. It is refused exactly as the machine refuses it, and then nothing has changed:
+    /// `NameTaken` before `FullBranches` before `FullMoves`. What was placed can be undone, with any head.
+    pub fn place(&mut self, name: Name, commit: u32) -> Result<Forked, PlaceRefused>
+        requires there { commit < length (store_of self.old.core.terms.origin self.old.core.history).commits }
+        ensures steps { Steps T.meaning (machine.Place name commit) self.old self.new self.old.addresses (place_answer result) }
+        ensures before { OnOk result ((head : ℕ) → StoodBefore self.new.core.terms self.new.core.history head) }
+        ensures back { OnOk result (GoesBack self.new self.old) }
+    {
+        if let Some(number) = self.heads.find(&name) {
+            return Err(PlaceRefused::NameTaken { number });
+        }
+        let count = self.heads.count();
+        if count >= self.terms.limits.branches {
+            return Err(PlaceRefused::FullBranches { count });
+        }
+        let moves = self.moves.len() as u64;
+        if moves >= self.terms.limits.moves {
+            return Err(PlaceRefused::FullMoves { count: moves });
+        }
+        Ok(self.add_place(name, commit)?)
+    }
+
+    // Adds a branch at a commit: it takes all memory first, and then nothing fails.
+    fn add_place(&mut self, name: Name, commit: u32) -> Result<Forked, Memory>
+        requires moves { IsMove T.meaning self.old.core.terms self.old.core.history (Move.Place name (length (store_of self.old.core.terms.origin self.old.core.history).branches) commit) }
+        requires free { branch_named (store_of self.old.core.terms.origin self.old.core.history).branches name ≡ None }
+        requires room { length (store_of self.old.core.terms.origin self.old.core.history).branches < self.old.core.terms.limits.branches }
+        ensures added { IfOk result (PlaceAdded name commit self.old.core self.new.core) }
+        ensures addresses { self.new.addresses ≡ self.old.addresses }
+        ensures before { OnOk result ((head : ℕ) → StoodBefore self.new.core.terms self.new.core.history head) }
+        ensures back { OnOk result (GoesBack self.new self.old) }
+        ensures kept { OnErr result (self.new ≡ self.old) }
+    {
+        let _count = self.commits();
+        self.moves.reserve(1)?;
+        let number = match self.heads.fork(name, commit) {
+            Ok(number) => number,
+            Err(branch_names::ForkRefused::Memory) => return Err(Memory),
+            Err(branch_names::ForkRefused::Taken { .. }) => unreachable!(),
+            Err(branch_names::ForkRefused::Full { .. }) => unreachable!(),
+        };
+        self.moves.push_reserved(Move::Place {
+            name,
+            number,
+            commit,
+        });
+        Ok(Forked {
+            moves: self.moves.len() as u64,
+            number,
+            head: commit,
+        })
+    }
+
+    /// Drops the branch of a look at this core, taken now or earlier, from the head that was seen, and says how many
+    /// moves the history then has. It is refused exactly as the machine refuses it, and then nothing has changed:
+    /// `Dropped` before `KeepsMain` before `Stale` before `FullMoves`. What was dropped can be undone, with any head.
+    pub fn drop_branch(&mut self, seen: &Seen<T>) -> Result<u64, DropRefused>
+        requires history { IsPrefix seen.now.history self.old.core.history }
+        requires terms { seen.now.terms ≡ self.old.core.terms }
+        ensures steps { Steps T.meaning (machine.Drop seen.now.branch seen.now.head) self.old self.new self.old.addresses (drop_answer seen.now result) }
+        ensures before { OnOk result ((head : ℕ) → StoodBefore self.new.core.terms self.new.core.history head) }
+        ensures back { OnOk result (GoesBack self.new self.old) }
+    {
+        let (branch, head) = (seen.branch, seen.head);
+        self.may_drop(branch, head)?;
+        Ok(self.add_drop(branch)?)
+    }
+
+    // Drops a branch that may be dropped: it takes all memory first, and then nothing fails.
+    fn add_drop(&mut self, branch: u32) -> Result<u64, Memory>
+        requires moves { IsMove T.meaning self.old.core.terms self.old.core.history (Move.Drop branch) }
+        requires there { IsKeptBranch (store_of self.old.core.terms.origin self.old.core.history).branches branch }
+        requires other { branch ≢ 0 }
+        ensures moves { IfOk result (λ moves. moves ≡ length self.new.core.history) }
+        ensures dropped { OnOk result (self.new.core ≡ record self.old.core { history = self.old.core.history ++ Move.Drop branch ∷ [] }) }
+        ensures addresses { self.new.addresses ≡ self.old.addresses }
+        ensures before { OnOk result ((head : ℕ) → StoodBefore self.new.core.terms self.new.core.history head) }
+        ensures back { OnOk result (GoesBack self.new self.old) }
+        ensures kept { OnErr result (self.new ≡ self.old) }
+    {
+        let _count = self.commits();
+        self.moves.reserve(1)?;
+        put_drop(&mut self.heads, branch);
+        self.moves.push_reserved(Move::Drop { branch });
+        Ok(self.moves.len() as u64)
+    }
+
+    // Whether a branch may be dropped from the head that was seen.
+    fn may_drop(&self, branch: u32, head: u32) -> Result<(), DropRefused>
+        requires { branch < length (store_of self.now.core.terms.origin self.now.core.history).branches }
+        ensures free { OnOk result (drop_refusal self.now.core.terms self.now.core.history branch head ≡ None) }
+        ensures there { OnOk result (is_dropped (store_of self.now.core.terms.origin self.now.core.history).branches branch ≡ false) }
+        ensures other { OnOk result (branch ≢ 0) }
+        ensures left { OnOk result (length self.now.core.history < self.now.core.terms.limits.moves) }
+        ensures refused { IfErr result (DropRefusedBy (drop_refusal self.now.core.terms self.now.core.history branch head)) }
+    {
+        if self.heads.is_dropped(branch) {
+            return Err(DropRefused::Dropped { branch });
+        }
+        if branch == 0 {
+            return Err(DropRefused::KeepsMain);
+        }
+        let newest = self.heads.head(branch);
+        if head != newest {
+            return Err(DropRefused::Stale { newest });
+        }
+        let count = self.moves.len() as u64;
+        if count >= self.terms.limits.moves {
+            return Err(DropRefused::FullMoves { count });
+        }
+        Ok(())
+    }
+
     /// Whether what was prepared on a look at this core, now or earlier, may land. It is refused exactly as the
     /// machine refuses it, `Dropped` before `Stale` before `FullCommits`, which only a new commit meets, before
     /// `FullMoves`. It takes no memory.
@@ -360,6 +587,7 @@ impl<T: Mrdt> Versions<T> {
         match &prepared.ready {
             Ready::Operation { .. } => self.may_add_commit(branch, head),
             Ready::Merge { .. } => self.may_add_commit(branch, head),
+            Ready::Join { .. } => self.may_add_commit(branch, head),
             Ready::Forward { .. } => self.may_move(branch, head),
         }
     }
@@ -411,6 +639,12 @@ impl<T: Mrdt> Versions<T> {
                 value,
                 spelled: _,
             } => self.land_merge(place, commit, clock, value),
+            Ready::Join {
+                commits,
+                clock,
+                value,
+                spelled: _,
+            } => self.land_join(place, commits, clock, value),
             Ready::Forward { commit } => self.land_forward(branch, head, commit),
         }
     }
@@ -479,6 +713,36 @@ impl<T: Mrdt> Versions<T> {
         Ok(Landed {
             moves: self.moves.len() as u64,
             kind: Kind::Merged { commit },
+        })
+    }
+
+    // Lands a join that is ready at the newest head.
+    fn land_join(
+        &mut self,
+        place: Place,
+        commits: Listing<u32>,
+        clock: u64,
+        value: T,
+    ) -> Result<Landed<T::Reply>, LandRefused>
+        requires there { place.branch < length (store_of self.old.core.terms.origin self.old.core.history).branches }
+        requires ready { IsReadyJoin T.meaning (at_head self.old.core place.branch place.head) commits clock value }
+        ensures landed { IfOk result (λ landed. Moves T.meaning self.old.core self.new.core (machine.Merge place.branch place.head commits) (Move.Join place.branch commits) (outcome_of landed.kind) landed.moves) }
+        ensures addressed { OnOk result (self.new.addresses ≡ self.old.addresses ++ place.address ∷ []) }
+        ensures before { OnOk result (StoodBefore self.new.core.terms self.new.core.history place.head) }
+        ensures back { OnOk result (GoesBack self.new self.old) }
+        ensures refused { IfErr result (RefusedBy (commit_refusal self.old.core.terms self.old.core.history place.branch place.head)) }
+        ensures kept { OnErr result (self.new ≡ self.old) }
+    {
+        self.may_add_commit(place.branch, place.head)?;
+        let parents = joined(self.alloc, place.head, commits.as_slice())?;
+        let made = Move::Join {
+            branch: place.branch,
+            commits,
+        };
+        let commit = self.add_commit(made, &parents, &place, clock, value)?;
+        Ok(Landed {
+            moves: self.moves.len() as u64,
+            kind: Kind::Joined { commit },
         })
     }
 
@@ -649,4 +913,24 @@ fn put_head(heads: &mut Heads, branch: u32, head: u32)
 {
     let newest = heads.head(branch);
     let _ = heads.move_from(branch, newest, head);
+}
+
+// Drops a branch that was not dropped and is not the first, wherever it stands.
+fn put_drop(heads: &mut Heads, branch: u32)
+    requires there { IsKeptBranch heads.old.branches branch }
+    requires other { branch ≢ 0 }
+    ensures { heads.new ≡ record heads.old { branches = with_drop heads.old.branches branch } }
+{
+    let newest = heads.head(branch);
+    let _ = heads.drop_branch(branch, newest);
+}
+
+// A head, and the commits that are joined to it.
+pub(crate) fn joined(alloc: Global, head: u32, commits: &[u32]) -> Result<Vec<u32>, Memory>
+    ensures { IfOk result (λ parents. parents.items ≡ head ∷ commits.now) }
+{
+    let mut parents = Vec::new(alloc);
+    parents.push(head)?;
+    parents.extend_from_slice(commits)?;
+    Ok(parents)
 }

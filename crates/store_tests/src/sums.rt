@@ -73,6 +73,7 @@ fn operation<R>(landed: &Landed<R>) -> Option<(u64, u32, Time)> {
     match &landed.kind {
         Kind::Operation { commit, time, .. } => Some((landed.moves, *commit, *time)),
         Kind::Merged { .. } => None,
+        Kind::Joined { .. } => None,
         Kind::Forward { .. } => None,
     }
 }
@@ -111,6 +112,7 @@ fn merged<R>(landed: &Landed<R>) -> Option<(u64, u32)> {
     match &landed.kind {
         Kind::Operation { .. } => None,
         Kind::Merged { commit } => Some((landed.moves, *commit)),
+        Kind::Joined { .. } => None,
         Kind::Forward { .. } => None,
     }
 }
@@ -120,6 +122,7 @@ fn moved_up<R>(landed: &Landed<R>) -> Option<(u64, u32)> {
     match &landed.kind {
         Kind::Operation { .. } => None,
         Kind::Merged { .. } => None,
+        Kind::Joined { .. } => None,
         Kind::Forward { commit } => Some((landed.moves, *commit)),
     }
 }
@@ -259,6 +262,7 @@ fn commit_of(landed: &Landed<()>) -> Option<u32> {
     match &landed.kind {
         Kind::Operation { commit, .. } => Some(*commit),
         Kind::Merged { commit } => Some(*commit),
+        Kind::Joined { commit } => Some(*commit),
         Kind::Forward { .. } => None,
     }
 }
