@@ -1,4 +1,5 @@
 pub mod Lists
+pub mod Joined
 pub mod Held
 pub mod Read
 pub mod Parted

@@ -1,5 +1,5 @@
 -- What looks and preparations tell of the machine's turns.
-use Rattle.std.proofs.Common.{◌≡◌, ◌↔◌, ℕ, ◌<◌, Bool, false, IsTrue, List, [], ◌∷◌, ◌++◌, length, get_or, subst, refl, sym, ◌∙◌, ap, append-nil, Option, Some, None}
+use Rattle.std.proofs.Common.{◌≡◌, ◌↔◌, ℕ, ◌<◌, ◌≤◌, Bool, false, IsTrue, List, [], ◌∷◌, ◌++◌, length, get_or, subst, refl, sym, ◌∙◌, ap, append-nil, Option, Some, None}
 use Rattle.std.specs.Prelude.{slice_get}
 use Rattle.std.specs.Option.{option_map, option_map_or}
 use Rattle.std.proofs.lemmas.Option.{slice_get-get_or}
@@ -16,12 +16,15 @@ use Rattle.branch_machine.specs.Fixed.{Fixed, fix}
 use Rattle.branch_machine.specs.Machine.{full_turn}
 use Rattle.store_seen.specs.Turns.{Refuses, FromOn}
 use Rattle.store_seen.specs.Pairs.{MergesAs}
-use Rattle.store_seen.specs.Views.{SeenView, PairView}
+use Rattle.store_seen.specs.Groups.{MergesAllAs}
+use Rattle.store_seen.specs.Views.{SeenView, PairView, GroupView}
 use Rattle.commit_replay.proofs.Steps.{full-answers}
 use Rattle.branch_machine.specs.Validity.{IsFullyValid}
 use Rattle.branch_machine.proofs.Valid.{valid-before}
 use Rattle.heads_journal.specs.declared.record.Record.{Record}
-use Rattle.branch_files.specs.Records.{IsKnown}
+use Rattle.branch_wire.specs.Fields.{version}
+use Rattle.heads_journal.specs.Format.{fields_of}
+use Rattle.branch_files.specs.Records.{IsKnown, last_in}
 use Rattle.branch_files.specs.Next.{Suits}
 use Rattle.commit_replay.specs.Follows.{MayCome}
 use Rattle.branch_history.proofs.Turns.{look-unknown, look-sees}
@@ -84,6 +87,13 @@ pub may-by : {S O R Q A : Type 0} (fixed : Fixed S O R Q A) (moves : List (Move 
 may-by fixed moves r q may is room known suits =
     subst (λ (x : Record). IsTrue may ↔ MayCome fixed moves x) (sym is) ((λ t. record { room = room; known = known; suits = suits.0 t }), λ m. suits.1 m.suits)
 
+-- the kinds that are read
+le-last : {n : ℕ} → n ≤ 8 → n ≤ last_in version
+le-last le = le
+
+pub known-by : (r : Record) → (fields_of r).kind ≤ 8 → ((fields_of r).kind ≡ 6 → ⊥) → IsKnown r
+known-by r le other = record { within = le-last le; made_here = other }
+
 -- a record of an unknown kind may not
 pub may-not : {S O R Q A : Type 0} (fixed : Fixed S O R Q A) (moves : List (Move O R)) (r q : Record) → q ≡ r → (IsKnown r → ⊥) → IsTrue false ↔ MayCome fixed moves q
 may-not fixed moves r q is unknown = ((λ t. absurd (cc t)), λ m. absurd (unknown (subst IsKnown is m.known)))
@@ -113,6 +123,13 @@ module _ {S O R Q A : Type 0} (meaning : Meaning S O R Q A) (address : List ℕ 
   unprepared seen op refusal is refuses =
       let own = subst (λ (x : SeenView (Move O R)). FromOn meaning x.terms x.history (λ later. Refuses meaning x.terms later (Land x.branch x.head op) refusal)) is refuses in
       ap (λ t. t.made) (full-answers (fix meaning terms address) moves (Land branch head op) refl (Refused refusal) (own moves ([], append-nil moves)))
+
+  -- a join that makes no move
+  pub unjoined : (others : List ℕ) (group : GroupView (Move O R)) (outcome : Outcome A R) → group ≡ record { history = moves; terms = terms; branch = branch; head = head; others = others } → MergesAllAs meaning group outcome
+      → (full_turn (fix meaning terms address) moves (Merge branch head others)).made ≡ []
+  unjoined others group outcome is merges =
+      let own = subst (λ (x : GroupView (Move O R)). MergesAllAs meaning x outcome) is merges in
+      ap (λ t. t.made) (full-answers (fix meaning terms address) moves (Merge branch head others) refl outcome (own moves ([], append-nil moves)))
 
   -- a merge that makes no move
   pub unmerged : (other : ℕ) (pair : PairView (Move O R)) (outcome : Outcome A R) → pair ≡ record { history = moves; terms = terms; branch = branch; head = head; other = other } → MergesAs meaning pair outcome

@@ -21,7 +21,7 @@ use Rattle.branch_history.specs.Commits.{clock_of, visible}
 use Rattle.branch_history.specs.History.{Store}
 use Rattle.branch_history.specs.Machine.{turn, answers, makes}
 use Rattle.branch_history.specs.Steps as machine
-use Rattle.branch_history.proofs.Turns.{fork-makes, land-makes, merge-makes, forward-makes}
+use Rattle.branch_history.proofs.Turns.{fork-makes, land-makes, merge-makes, join-makes, forward-makes, place-makes, drop-makes}
 use Rattle.branch_history.proofs.Histories.{valid-few}
 use Rattle.branch_history.proofs.Valid.{IsAccepted, IsAccepted-from}
 use Rattle.heads_journal.specs.declared.record.Record.{Record}
@@ -101,6 +101,32 @@ module _ {S O R Q A : Type 0} (fixed : Fixed S O R Q A) (moves : List (Move O R)
       ap (λ t. t.made)
       (full-makes fixed moves (machine.Merge r h (k ∷ [])) refl m (machine.Forwarded k) (forward-makes fixed.meaning fixed.terms moves r h k is.above is.below is.landed) (free m full))
 
+  again-join : (r : ℕ) (ks : List ℕ) → IsFullMove fixed moves (move.Join r ks) → (full_turn fixed moves (machine.Merge r (head_of s.branches r) ks)).made ≡ move.Join r ks ∷ []
+  again-join r [] full = let is = accepted (move.Join r []) full in absurd (omega (arith, is.several))
+  again-join r (k ∷ []) full = let is = accepted (move.Join r (k ∷ [])) full in absurd (omega (arith, is.several))
+  again-join r (k ∷ l ∷ ls) full =
+      let m : Move O R = move.Join r (k ∷ l ∷ ls) in
+      let is = accepted m full in
+      let h : ℕ = head_of s.branches r in
+      ap (λ t. t.made)
+      (full-makes fixed moves (machine.Merge r h (k ∷ l ∷ ls)) refl m (machine.Joined (length s.commits)) (join-makes fixed.meaning fixed.terms moves r h k l ls is.apart is.prepared is.landed) (free m full))
+
+  again-place : (name : List ℕ) (count k : ℕ) → IsFullMove fixed moves (move.Place name count k) → (full_turn fixed moves (machine.Place name k)).made ≡ move.Place name count k ∷ []
+  again-place name count k full =
+      let m : Move O R = move.Place name count k in
+      let is = accepted m full in
+      let same : move.Place name (length s.branches) k ≡ m = ap (λ (n : ℕ). move.Place name n k) (sym is.next) in
+      ap (λ t. t.made)
+      (full-makes fixed moves (machine.Place name k) refl m (machine.Forked (length s.branches) k)
+      (place-makes fixed.meaning fixed.terms moves name k is.free is.landed ∙ ap (λ (x : Move O R). makes x (machine.Forked (length s.branches) k)) same) (free m full))
+
+  again-drop : (r : ℕ) → IsFullMove fixed moves (move.Drop r) → (full_turn fixed moves (machine.Drop r (head_of s.branches r))).made ≡ move.Drop r ∷ []
+  again-drop r full =
+      let m : Move O R = move.Drop r in
+      let is = accepted m full in
+      let h : ℕ = head_of s.branches r in
+      ap (λ t. t.made) (full-makes fixed moves (machine.Drop r h) refl m (machine.DroppedAt r h) (drop-makes fixed.meaning fixed.terms moves r h is.landed) (free m full))
+
   -- a merge with this record and region is what the step remakes
   remade-merge : (r k : ℕ) (address : List ℕ) (end : ℕ) (bytes : List ℕ) (m : Move O R) → IsFullMove fixed moves m → record_of fixed moves m ≡ Merge r k address end → region fixed moves m ≡ bytes → Remakes fixed moves (machine.Merge r (head_of s.branches r) (k ∷ [])) (Merge r k address end) bytes
   remade-merge r k address end bytes (move.Fork name count from) full same is = absurd (cc same)
@@ -122,6 +148,28 @@ module _ {S O R Q A : Type 0} (fixed : Fixed S O R Q A) (moves : List (Move O R)
 
   pub not-merged : (r k : ℕ) (address : List ℕ) (end : ℕ) (bytes : List ℕ) → (Remakes fixed moves (machine.Merge r (head_of s.branches r) (k ∷ [])) (Merge r k address end) bytes → ⊥) → IsMade fixed moves (Merge r k address end) bytes → ⊥
   not-merged r k address end bytes none (m, full, same, is) = none (remade-merge r k address end bytes m full same is)
+
+  -- and so is a join
+  remade-join : (r : ℕ) (ks : List ℕ) (end : ℕ) (bytes : List ℕ) (m : Move O R) → IsFullMove fixed moves m → record_of fixed moves m ≡ Join r ks end → region fixed moves m ≡ bytes → Remakes fixed moves (machine.Merge r (head_of s.branches r) ks) (Join r ks end) bytes
+  remade-join r ks end bytes (move.Fork name count from) full same is = absurd (cc same)
+  remade-join r ks end bytes (move.Operation r' op reply) full same is = absurd (cc same)
+  remade-join r ks end bytes (move.Merge r' k') full same is = absurd (cc same)
+  remade-join r ks end bytes (move.Forward r' k') full same is = absurd (cc same)
+  remade-join r ks end bytes (move.Received parents origin clock act) full same is = absurd (cc same)
+  remade-join r ks end bytes (move.Place name count k') full same is = absurd (cc same)
+  remade-join r ks end bytes (move.Drop r') full same is = absurd (cc same)
+  remade-join r ks end bytes (move.Join r' ks') full same is =
+      let a : r' ≡ r = cc same in
+      let b : ks' ≡ ks = cc same in
+      record {
+        made = move.Join r' ks';
+        makes = ap (λ (x : ℕ). (full_turn fixed moves (machine.Merge x (head_of s.branches x) ks)).made) (sym a) ∙ ap (λ (xs : List ℕ). (full_turn fixed moves (machine.Merge r' (head_of s.branches r') xs)).made) (sym b) ∙ again-join r' ks' full;
+        recorded = same;
+        stored = is;
+      }
+
+  pub not-joined : (r : ℕ) (ks : List ℕ) (end : ℕ) (bytes : List ℕ) → (Remakes fixed moves (machine.Merge r (head_of s.branches r) ks) (Join r ks end) bytes → ⊥) → IsMade fixed moves (Join r ks end) bytes → ⊥
+  not-joined r ks end bytes none (m, full, same, is) = none (remade-join r ks end bytes m full same is)
 
   -- a step that the machine answers without a move remakes none
   pub full-answers : (step : machine.Step O Q) → commit_here fixed moves step ≡ None → (outcome : machine.Outcome A R) → turn fixed.meaning fixed.terms moves step ≡ answers outcome → full_turn fixed moves step ≡ answers outcome
@@ -304,6 +352,43 @@ module _ {S O R Q A : Type 0} (fixed : Fixed S O R Q A) (moves : List (Move O R)
   forwarded b k end is_r (move.Place name count k') same full is = absurd (let e : record_of fixed moves (move.Place name count k') ≡ Forward b k end = same ∙ is_r in cc e)
   forwarded b k end is_r (move.Drop b') same full is = absurd (let e : record_of fixed moves (move.Drop b') ≡ Forward b k end = same ∙ is_r in cc e)
 
+  placed : (name : List ℕ) (number k end : ℕ) → r ≡ Place number k name end → (m : Move O R) → record_of fixed moves m ≡ r → IsFullMove fixed moves m → region fixed moves m ≡ bytes → Remakes fixed moves (machine.Place name k) r bytes
+  placed name number k end is_r (move.Place name' count k') same full is =
+      let e : record_of fixed moves (move.Place name' count k') ≡ Place number k name end = same ∙ is_r in
+      let names : name' ≡ name = cc e in
+      let commits : k' ≡ k = cc e in
+      record {
+        made = move.Place name' count k';
+        makes = ap (λ (x : List ℕ). (full_turn fixed moves (machine.Place x k)).made) (sym names) ∙ ap (λ (x : ℕ). (full_turn fixed moves (machine.Place name' x)).made) (sym commits) ∙ again-place fixed moves name' count k' full;
+        recorded = same;
+        stored = is;
+      }
+  placed name number k end is_r (move.Fork name' count from) same full is = absurd (let e : record_of fixed moves (move.Fork name' count from) ≡ Place number k name end = same ∙ is_r in cc e)
+  placed name number k end is_r (move.Operation b' op reply) same full is = absurd (let e : record_of fixed moves (move.Operation b' op reply) ≡ Place number k name end = same ∙ is_r in cc e)
+  placed name number k end is_r (move.Merge b' k') same full is = absurd (let e : record_of fixed moves (move.Merge b' k') ≡ Place number k name end = same ∙ is_r in cc e)
+  placed name number k end is_r (move.Forward b' k') same full is = absurd (let e : record_of fixed moves (move.Forward b' k') ≡ Place number k name end = same ∙ is_r in cc e)
+  placed name number k end is_r (move.Join b' ks) same full is = absurd (let e : record_of fixed moves (move.Join b' ks) ≡ Place number k name end = same ∙ is_r in cc e)
+  placed name number k end is_r (move.Received parents origin clock act) same full is = absurd (let e : record_of fixed moves (move.Received parents origin clock act) ≡ Place number k name end = same ∙ is_r in cc e)
+  placed name number k end is_r (move.Drop b') same full is = absurd (let e : record_of fixed moves (move.Drop b') ≡ Place number k name end = same ∙ is_r in cc e)
+
+  dropped : (b end : ℕ) → r ≡ Drop b end → (m : Move O R) → record_of fixed moves m ≡ r → IsFullMove fixed moves m → region fixed moves m ≡ bytes → Remakes fixed moves (machine.Drop b (head_of t.branches b)) r bytes
+  dropped b end is_r (move.Drop b') same full is =
+      let e : record_of fixed moves (move.Drop b') ≡ Drop b end = same ∙ is_r in
+      let branch : b' ≡ b = cc e in
+      record {
+        made = move.Drop b';
+        makes = ap (λ (x : ℕ). (full_turn fixed moves (machine.Drop x (head_of t.branches x))).made) (sym branch) ∙ again-drop fixed moves b' full;
+        recorded = same;
+        stored = is;
+      }
+  dropped b end is_r (move.Fork name count from) same full is = absurd (let e : record_of fixed moves (move.Fork name count from) ≡ Drop b end = same ∙ is_r in cc e)
+  dropped b end is_r (move.Operation b' op reply) same full is = absurd (let e : record_of fixed moves (move.Operation b' op reply) ≡ Drop b end = same ∙ is_r in cc e)
+  dropped b end is_r (move.Merge b' k') same full is = absurd (let e : record_of fixed moves (move.Merge b' k') ≡ Drop b end = same ∙ is_r in cc e)
+  dropped b end is_r (move.Forward b' k') same full is = absurd (let e : record_of fixed moves (move.Forward b' k') ≡ Drop b end = same ∙ is_r in cc e)
+  dropped b end is_r (move.Join b' ks) same full is = absurd (let e : record_of fixed moves (move.Join b' ks) ≡ Drop b end = same ∙ is_r in cc e)
+  dropped b end is_r (move.Received parents origin clock act) same full is = absurd (let e : record_of fixed moves (move.Received parents origin clock act) ≡ Drop b end = same ∙ is_r in cc e)
+  dropped b end is_r (move.Place name count k') same full is = absurd (let e : record_of fixed moves (move.Place name count k') ≡ Drop b end = same ∙ is_r in cc e)
+
   pub fork-remade : (name from_name : List ℕ) (number from end : ℕ) → r ≡ Fork number from name end → branch_named t.branches from_name ≡ Some from → Remakes fixed moves (machine.Fork name from_name) r bytes
   fork-remade name from_name number from end is_r named =
       let made = plain fixed moves whole r valid starts known fits may laws size whole-short (subst (λ (q : Record). MakesCommit q → ⊥) (sym is_r) (λ none. none)) in
@@ -313,6 +398,16 @@ module _ {S O R Q A : Type 0} (fixed : Fixed S O R Q A) (moves : List (Move O R)
   forward-remade b k end is_r =
       let made = plain fixed moves whole r valid starts known fits may laws size whole-short (subst (λ (q : Record). MakesCommit q → ⊥) (sym is_r) (λ none. none)) in
       forwarded b k end is_r made.0 made.1 made.2 (made.3 ∙ behind-is)
+
+  pub place-remade : (name : List ℕ) (number k end : ℕ) → r ≡ Place number k name end → Remakes fixed moves (machine.Place name k) r bytes
+  place-remade name number k end is_r =
+      let made = plain fixed moves whole r valid starts known fits may laws size whole-short (subst (λ (q : Record). MakesCommit q → ⊥) (sym is_r) (λ none. none)) in
+      placed name number k end is_r made.0 made.1 made.2 (made.3 ∙ behind-is)
+
+  pub drop-remade : (b end : ℕ) → r ≡ Drop b end → Remakes fixed moves (machine.Drop b (head_of t.branches b)) r bytes
+  drop-remade b end is_r =
+      let made = plain fixed moves whole r valid starts known fits may laws size whole-short (subst (λ (q : Record). MakesCommit q → ⊥) (sym is_r) (λ none. none)) in
+      dropped b end is_r made.0 made.1 made.2 (made.3 ∙ behind-is)
 
   -- what the step of a plan does not remake, the machine does not make
   planned-not : (q : Record) → r ≡ q → (action : Action) (p : Plan O) → IsPlanOf fixed.meaning q action p → (value : Option (List ℕ)) (c : CommitFields) → AreParts bytes value c → IsOfType fixed.meaning value → c.action ≡ action → (Remakes fixed moves (step_for fixed.terms moves p) r bytes → ⊥) → IsMade fixed moves r bytes → ⊥
@@ -325,9 +420,14 @@ module _ {S O R Q A : Type 0} (fixed : Fixed S O R Q A) (moves : List (Move O R)
       (subst (λ (x : ℕ). Remakes fixed moves (machine.Merge x (head_of t.branches x) (commit ∷ [])) (Merge b k address end) bytes) (sym same)
       (subst (λ (x : ℕ). Remakes fixed moves (machine.Merge b (head_of t.branches b) (x ∷ [])) (Merge b k address end) bytes) (sym other) again))))
       (subst (λ (q : Record). IsMade fixed moves q bytes) is_r made)
+  planned-not (Join b ks end) is_r wire.Merge (plan.Join branch commits) (same, others) value c are inside does none made =
+      not-joined fixed moves b ks end bytes
+      (λ again. none (subst (λ (q : Record). Remakes fixed moves (machine.Merge branch (head_of t.branches branch) commits) q bytes) (sym is_r)
+      (subst (λ (x : ℕ). Remakes fixed moves (machine.Merge x (head_of t.branches x) commits) (Join b ks end) bytes) (sym same)
+      (subst (λ (xs : List ℕ). Remakes fixed moves (machine.Merge b (head_of t.branches b) xs) (Join b ks end) bytes) (sym others) again))))
+      (subst (λ (q : Record). IsMade fixed moves q bytes) is_r made)
   planned-not (Fork number from name end) is_r action p none-planned value c are inside does none made = absurd none-planned
   planned-not (Forward b k end) is_r action p none-planned value c are inside does none made = absurd none-planned
-  planned-not (Join b ks end) is_r action p none-planned value c are inside does none made = absurd none-planned
   planned-not (Received address end) is_r action p none-planned value c are inside does none made = absurd none-planned
   planned-not (Place number k name end) is_r action p none-planned value c are inside does none made = absurd none-planned
   planned-not (Drop b end) is_r action p none-planned value c are inside does none made = absurd none-planned
@@ -336,7 +436,13 @@ module _ {S O R Q A : Type 0} (fixed : Fixed S O R Q A) (moves : List (Move O R)
   planned-not (Operation b address end) is_r (wire.Operation spelling told) (plan.Merge branch commit) none-planned value c are inside does none made = absurd none-planned
   planned-not (Merge b k address end) is_r wire.Root p none-planned value c are inside does none made = absurd none-planned
   planned-not (Merge b k address end) is_r (wire.Operation spelling told) p none-planned value c are inside does none made = absurd none-planned
+  planned-not (Operation b address end) is_r (wire.Operation spelling told) (plan.Join branch commits) none-planned value c are inside does none made = absurd none-planned
   planned-not (Merge b k address end) is_r wire.Merge (plan.Operation branch op) none-planned value c are inside does none made = absurd none-planned
+  planned-not (Merge b k address end) is_r wire.Merge (plan.Join branch commits) none-planned value c are inside does none made = absurd none-planned
+  planned-not (Join b ks end) is_r wire.Root p none-planned value c are inside does none made = absurd none-planned
+  planned-not (Join b ks end) is_r (wire.Operation spelling told) p none-planned value c are inside does none made = absurd none-planned
+  planned-not (Join b ks end) is_r wire.Merge (plan.Operation branch op) none-planned value c are inside does none made = absurd none-planned
+  planned-not (Join b ks end) is_r wire.Merge (plan.Merge branch commit) none-planned value c are inside does none made = absurd none-planned
 
   -- why bytes were refused, of which these parts were read
   pub why-refused : (p : Plan O) (value : Option (List ℕ)) (c : CommitFields) (action : Action) → IsPlanOf fixed.meaning r action p → AreParts bytes value c → c.action ≡ action → Does fixed r action → (Remakes fixed moves (step_for fixed.terms moves p) r bytes → ⊥) → (why : NotRemade) → IsWhyNot fixed.meaning value why → NotRemadeAs fixed moves r bytes why

@@ -3,4 +3,5 @@ pub mod Refusals
 pub mod Laws
 pub mod Parts
 pub mod Plans
+pub mod Apart
 pub mod Walk

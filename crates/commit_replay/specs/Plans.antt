@@ -11,16 +11,18 @@ use Rattle.branch_history.specs.Steps as machine
 use Rattle.heads_journal.specs.declared.record.Record.{Record}
 use Rattle.heads_journal.specs.declared.record.Record.TheVariants as entry
 use Rattle.commit_replay.specs.declared.plan.Plan.{Plan}
-use Rattle.commit_replay.specs.declared.plan.Plan.TheVariants.{Operation, Merge}
+use Rattle.commit_replay.specs.declared.plan.Plan.TheVariants.{Operation, Merge, Join}
 
 -- the record and the commit's action say this: an operation is the only one that is spelled so
 abbrev pub IsPlanOf : {S O R Q A : Type 0} → Meaning S O R Q A → Record → Action → Plan O → Type 0
 IsPlanOf {S} {O} meaning (entry.Operation r address end) (wire.Operation text reply) (Operation branch op) =
     (branch ≡ r) × meaning.is_op op × ((other : O) → meaning.is_op other → meaning.op_spelling other ≡ text → op ≡ other)
 IsPlanOf meaning (entry.Merge r m address end) wire.Merge (Merge branch commit) = (branch ≡ r) × (commit ≡ m)
+IsPlanOf meaning (entry.Join r ms end) wire.Merge (Join branch commits) = (branch ≡ r) × (commits ≡ ms)
 IsPlanOf meaning r action plan = ⊥
 
 -- the step that does it, by one that sees the head of the branch
 abbrev pub step_for : {O R Q : Type 0} → Terms → List (Move O R) → Plan O → machine.Step O Q
 step_for terms moves (Operation branch op) = machine.Land branch (head_of (store_of terms.origin moves).branches branch) op
 step_for terms moves (Merge branch commit) = machine.Merge branch (head_of (store_of terms.origin moves).branches branch) (commit ∷ [])
+step_for terms moves (Join branch commits) = machine.Merge branch (head_of (store_of terms.origin moves).branches branch) commits

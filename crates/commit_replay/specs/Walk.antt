@@ -8,7 +8,7 @@ use Rattle.branch_machine.specs.Fixed.{Fixed}
 use Rattle.branch_machine.specs.Objects.{store_after, end_of, region}
 use Rattle.branch_machine.specs.Validity.{IsFullMove, IsFullyValid}
 use Rattle.branch_files.specs.Records.{record_of}
-use Rattle.branch_files.specs.Next.{HasBranch, HasCommit, HasShape, IsMade}
+use Rattle.branch_files.specs.Next.{HasBranch, HasCommit, AreJoined, HasShape, IsMade}
 use Rattle.recorded_history.specs.Views.{RecordedView}
 use Rattle.commit_replay.specs.declared.commit.NotRemade.{NotRemade}
 use Rattle.commit_replay.specs.declared.commit.NotRemade.TheVariants as unmade
@@ -26,10 +26,11 @@ pub record IsStanding {S O R Q A : Type 0} (fixed : Fixed S O R Q A) (history : 
   pub terms : s.terms ≡ fixed.terms
   pub end : s.end ≡ end_of fixed history
 
--- the branch and the commit of a plan are there
+-- the branch and the commit of a plan are there, and several commits may be joined to its head
 abbrev pub HasPlan : {O R : Type 0} → Store O R → Plan O → Type 0
 HasPlan s (plan.Operation branch op) = HasBranch s branch
 HasPlan s (plan.Merge branch commit) = HasBranch s branch × HasCommit s commit
+HasPlan s (plan.Join branch commits) = HasBranch s branch × AreJoined s branch commits
 
 -- the history goes on by a move of the machine with this record and this region
 pub record GoesOn {S O R Q A : Type 0} (fixed : Fixed S O R Q A) (old new : RecordedView (Move O R)) (r : Record) (bytes : List ℕ) : Type 0 where

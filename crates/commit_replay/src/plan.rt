@@ -7,15 +7,16 @@ ghost use Rattle.branch_files.specs.Records.{IsKnown};
 ghost use Rattle.commit_replay.specs.Plans.{IsPlanOf};
 
 use branch_objects_codec::Action;
-use heads_journal::Record;
+use heads_journal::{Joined, Record};
 use mrdt_model::{Mrdt, Unread};
 use std::alloc::Global;
 
-// An operation on a branch, or a commit to merge into one.
+// An operation on a branch, a commit to merge into one, or several to join to its head.
 #[derive(Drop)]
 pub enum Plan<O> {
     Operation { branch: u32, op: O },
     Merge { branch: u32, commit: u32 },
+    Join { branch: u32, commits: Joined },
 }
 
 // What a record and its commit say is to be done. `NotCanonical` comes exactly where the commit does not do what the
@@ -56,11 +57,18 @@ pub fn planned<T: Mrdt>(
             Action::Root => Err(Unread::NotCanonical),
             Action::Operation { .. } => Err(Unread::NotCanonical),
         },
+        Record::Join { branch, joined, .. } => match action {
+            Action::Merge => Ok(Plan::Join {
+                branch: *branch,
+                commits: *joined,
+            }),
+            Action::Root => Err(Unread::NotCanonical),
+            Action::Operation { .. } => Err(Unread::NotCanonical),
+        },
         Record::Fork { .. } => Err(Unread::NotCanonical),
         Record::Forward { .. } => Err(Unread::NotCanonical),
-        Record::Join { .. } => unreachable!(),
+        Record::Place { .. } => Err(Unread::NotCanonical),
+        Record::Drop { .. } => Err(Unread::NotCanonical),
         Record::Received { .. } => unreachable!(),
-        Record::Place { .. } => unreachable!(),
-        Record::Drop { .. } => unreachable!(),
     }
 }

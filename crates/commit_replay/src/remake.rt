@@ -4,7 +4,7 @@ ghost use Rattle.branch_history.specs.History.{store_of};
 ghost use Rattle.branch_history.specs.Steps as machine;
 ghost use Rattle.branch_machine.specs.Fixed.{fix};
 ghost use Rattle.branch_machine.specs.Machine.{full_turn};
-ghost use Rattle.branch_files.specs.Next.{HasBranch, HasCommit};
+ghost use Rattle.branch_files.specs.Next.{HasBranch, HasCommit, AreJoined};
 ghost use Rattle.branch_files.specs.Records.{record_of};
 ghost use Rattle.branch_names.specs.Heads.{branch_named, head_of};
 ghost use Rattle.branch_history.specs.declared.moves.Move.{Move as SpecMove};
@@ -16,11 +16,11 @@ use crate::lookups::{branch_at, look_at};
 use crate::plan::Plan;
 use branch_address::Address;
 use branch_names::Name;
-use heads_journal::Record;
+use heads_journal::{Joined, Record};
 use mrdt_model::{Memory, Mrdt};
 use recorded_history::{
-    Addressed, ForkRefused, LandRefused, PairPrepareRefused, PairStep, PrepareRefused, Prepared,
-    Recorded,
+    Addressed, DropRefused, ForkRefused, LandRefused, PairPrepareRefused, PairStep, PlaceRefused,
+    PrepareRefused, Prepared, Recorded,
 };
 
 // Makes the move of a plan, where it has this record and this region.
@@ -54,6 +54,7 @@ fn prepared<T: Mrdt, A: Address>(
     match plan {
         Plan::Operation { branch, op } => prepared_operation(recorded, branch, op),
         Plan::Merge { branch, commit } => prepared_merge(recorded, branch, commit),
+        Plan::Join { branch, commits } => prepared_join(recorded, branch, &commits),
     }
 }
 
@@ -92,6 +93,28 @@ fn prepared_merge<T: Mrdt, A: Address>(
 {
     let seen = look_at(recorded, branch)?;
     match recorded.prepare_at(&seen, commit) {
+        Ok(PairStep::Same) => Ok(None),
+        Ok(PairStep::Land(prepared)) => Ok(Some(prepared)),
+        Err(PairPrepareRefused::ValueTooLarge { .. }) => Ok(None),
+        Err(PairPrepareRefused::Memory) => Err(Memory),
+    }
+}
+
+// Several commits joined to the newest head of a branch.
+fn prepared_join<T: Mrdt, A: Address>(
+    recorded: &mut Recorded<T, A>,
+    branch: u32,
+    commits: &Joined,
+) -> Result<Option<Prepared<T>>, Memory>
+    requires settled { recorded.old.pending ≡ [] }
+    requires branch { HasBranch (store_of recorded.old.terms.origin recorded.old.written) branch }
+    requires joined { AreJoined (store_of recorded.old.terms.origin recorded.old.written) branch commits.now }
+    ensures some { IfOk result (λ found. IfSome found (λ p. (p.seen.history ≡ recorded.old.written) × (p.seen.terms ≡ recorded.old.terms) × (step_of {Q = T.Query} p.seen p.work ≡ machine.Merge branch (head_of (store_of recorded.old.terms.origin recorded.old.written).branches branch) commits.now))) }
+    ensures none { IfOk result (λ found. IsNone found → (full_turn (fix T.meaning recorded.old.terms A.address) recorded.old.written (machine.Merge branch (head_of (store_of recorded.old.terms.origin recorded.old.written).branches branch) commits.now)).made ≡ []) }
+    ensures same { recorded.new ≡ recorded.old }
+{
+    let seen = look_at(recorded, branch)?;
+    match recorded.prepare_all_at(&seen, commits.as_slice()) {
         Ok(PairStep::Same) => Ok(None),
         Ok(PairStep::Land(prepared)) => Ok(Some(prepared)),
         Err(PairPrepareRefused::ValueTooLarge { .. }) => Ok(None),
@@ -147,6 +170,53 @@ pub fn fork<T: Mrdt, A: Address>(
         Err(ForkRefused::NameTaken { .. }) => Ok(false),
         Err(ForkRefused::FullBranches { .. }) => Ok(false),
         Err(ForkRefused::FullMoves { .. }) => Ok(false),
+    }
+}
+
+// Places a branch at a commit, where its move has this record.
+pub fn place<T: Mrdt, A: Address>(
+    recorded: &mut Recorded<T, A>,
+    name: Name,
+    commit: u32,
+    next: &Record,
+) -> Result<bool, Memory>
+    requires settled { recorded.old.pending ≡ [] }
+    requires there { HasCommit (store_of recorded.old.terms.origin recorded.old.written) commit }
+    ensures { IfOk result (Remade (fix T.meaning recorded.old.terms A.address) recorded.old recorded.new (machine.Place name commit) next.now []) }
+{
+    match recorded.place(name, commit) {
+        Ok(placed) => {
+            let _moves = recorded.moves();
+            Ok(keep_if_same(recorded, &placed.record, next, &[]))
+        }
+        Err(PlaceRefused::Memory) => Err(Memory),
+        Err(PlaceRefused::NameTaken { .. }) => Ok(false),
+        Err(PlaceRefused::FullBranches { .. }) => Ok(false),
+        Err(PlaceRefused::FullMoves { .. }) => Ok(false),
+    }
+}
+
+// Drops a branch from its newest head, where its move has this record.
+pub fn drop_branch<T: Mrdt, A: Address>(
+    recorded: &mut Recorded<T, A>,
+    branch: u32,
+    next: &Record,
+) -> Result<bool, Memory>
+    requires settled { recorded.old.pending ≡ [] }
+    requires there { HasBranch (store_of recorded.old.terms.origin recorded.old.written) branch }
+    ensures { IfOk result (Remade (fix T.meaning recorded.old.terms A.address) recorded.old recorded.new (machine.Drop branch (head_of (store_of recorded.old.terms.origin recorded.old.written).branches branch)) next.now []) }
+{
+    let seen = look_at(recorded, branch)?;
+    match recorded.drop_branch(&seen) {
+        Ok(dropped) => {
+            let _moves = recorded.moves();
+            Ok(keep_if_same(recorded, &dropped.record, next, &[]))
+        }
+        Err(DropRefused::Memory) => Err(Memory),
+        Err(DropRefused::Dropped { .. }) => Ok(false),
+        Err(DropRefused::KeepsMain) => Ok(false),
+        Err(DropRefused::Stale { .. }) => Ok(false),
+        Err(DropRefused::FullMoves { .. }) => Ok(false),
     }
 }
 

@@ -1,14 +1,16 @@
 // Which records may come behind a history.
-ghost use Rattle.std.specs.Prelude.{◌≡◌, ◌↔◌, [], List, ℕ, IfOk, IsTrue};
+ghost use Rattle.std.specs.Prelude.{◌≡◌, ◌<◌, ◌↔◌, [], List, ℕ, IfOk, IsTrue};
+ghost use Rattle.std.specs.List.{AllByRecursion};
 ghost use Rattle.branch_machine.specs.Fixed.{fix};
 ghost use Rattle.branch_files.specs.Next.{Suits};
 ghost use Rattle.heads_journal.specs.declared.record.Record.TheVariants as entry;
 ghost use Rattle.commit_replay.specs.Follows.{MayCome};
 
+use crate::apart::are_brought;
 use crate::lookups::{branch_at, has_branch, is_free, look_at, standing_of};
 use branch_address::Address;
 use branch_names::Name;
-use heads_journal::Record;
+use heads_journal::{Joined, Record};
 use mrdt_model::{Memory, Mrdt};
 use recorded_history::Recorded;
 
@@ -39,11 +41,20 @@ pub fn may_come<T: Mrdt, A: Address>(
             ..
         } => may_merge(recorded, *branch, *from, *end),
         Record::Forward { branch, to, end } => may_go_forward(recorded, *branch, *to, *end),
-        // Records of the later kinds are not read.
-        Record::Join { .. } => Ok(false),
+        Record::Join {
+            branch,
+            joined,
+            end,
+        } => may_join(recorded, *branch, joined, *end),
+        // Records of commits that were received are not read.
         Record::Received { .. } => Ok(false),
-        Record::Place { .. } => Ok(false),
-        Record::Drop { .. } => Ok(false),
+        Record::Place {
+            number,
+            commit,
+            name,
+            end,
+        } => may_place(recorded, *number, *commit, name, *end),
+        Record::Drop { branch, end } => Ok(may_drop(recorded, *branch, *end)),
     }
 }
 
@@ -128,4 +139,63 @@ fn may_go_forward<T: Mrdt, A: Address>(
         return Ok(false);
     }
     recorded.reaches(to, head)
+}
+
+// Whether several commits may be joined to the head of a branch, so that the objects end there.
+fn may_join<T: Mrdt, A: Address>(
+    recorded: &Recorded<T, A>,
+    branch: u32,
+    joined: &Joined,
+    end: u64,
+) -> Result<bool, Memory>
+    requires { recorded.now.pending ≡ [] }
+    ensures { IfOk result (λ may. IsTrue may ↔ Suits (fix T.meaning recorded.now.terms A.address) recorded.now.written (entry.Join branch joined.now end)) }
+{
+    let now = standing_of(recorded);
+    let commits = joined.as_slice();
+    if !has_branch(recorded, branch) || !are_commits(commits, now.commits) {
+        return Ok(false);
+    }
+    if end <= now.end || now.commits >= now.terms.limits.commits {
+        return Ok(false);
+    }
+    let (_name, head) = branch_at(recorded, branch);
+    are_brought(recorded, head, commits)
+}
+
+// Whether all the numbers are of the first so many commits.
+fn are_commits(commits: &[u32], count: u32) -> bool
+    ensures { IsTrue result ↔ AllByRecursion (λ n. n < count) commits.now }
+{
+    commits.iter().all(|commit| *commit < count)
+}
+
+// Whether a new branch may have this number and this name, at that commit.
+fn may_place<T: Mrdt, A: Address>(
+    recorded: &Recorded<T, A>,
+    number: u32,
+    commit: u32,
+    name: &Name,
+    end: u64,
+) -> Result<bool, Memory>
+    requires { recorded.now.pending ≡ [] }
+    ensures { IfOk result (λ may. IsTrue may ↔ Suits (fix T.meaning recorded.now.terms A.address) recorded.now.written (entry.Place number commit name.now end)) }
+{
+    let now = standing_of(recorded);
+    if number != now.branches || number >= now.terms.limits.branches {
+        return Ok(false);
+    }
+    if commit >= now.commits || end != now.end {
+        return Ok(false);
+    }
+    is_free(recorded, name)
+}
+
+// Whether a branch may be dropped, which the first may not.
+fn may_drop<T: Mrdt, A: Address>(recorded: &Recorded<T, A>, branch: u32, end: u64) -> bool
+    requires { recorded.now.pending ≡ [] }
+    ensures { IsTrue result ↔ Suits (fix T.meaning recorded.now.terms A.address) recorded.now.written (entry.Drop branch end) }
+{
+    let now = standing_of(recorded);
+    has_branch(recorded, branch) && branch != 0 && end == now.end
 }

@@ -14,7 +14,7 @@ use crate::first::first_text;
 use crate::lookups::standing_of;
 use crate::plan::Plan;
 use crate::refused::ReplayRefused;
-use crate::remake::{fork, remake};
+use crate::remake::{drop_branch, fork, place, remake};
 use crate::rules::may_come;
 use branch_address::Address;
 use branch_disk::Part;
@@ -103,10 +103,16 @@ fn replay_record<T: Mrdt, A: Address>(
                 Err(Memory) => Err(ReplayRefused::Memory),
             }
         }
-        Record::Join { .. } => unreachable!(),
+        Record::Join { end, .. } => replay_commit(alloc, recorded, next, *end, objects),
+        Record::Place { commit, name, .. } => match replay_place(recorded, next, *commit, *name) {
+            Ok(()) => Ok(()),
+            Err(Memory) => Err(ReplayRefused::Memory),
+        },
+        Record::Drop { branch, .. } => match replay_drop(recorded, next, *branch) {
+            Ok(()) => Ok(()),
+            Err(Memory) => Err(ReplayRefused::Memory),
+        },
         Record::Received { .. } => unreachable!(),
-        Record::Place { .. } => unreachable!(),
-        Record::Drop { .. } => unreachable!(),
     }
 }
 
@@ -149,6 +155,49 @@ fn replay_forward<T: Mrdt, A: Address>(
     let _moves = recorded.moves();
     let plan = Plan::Merge { branch, commit: to };
     if remake(recorded, plan, next, &[])? {
+        Ok(())
+    } else {
+        unreachable!()
+    }
+}
+
+// Places a branch at a commit as a record says that may come. That never fails but for want of memory.
+fn replay_place<T: Mrdt, A: Address>(
+    recorded: &mut Recorded<T, A>,
+    next: &Record,
+    commit: u32,
+    name: Name,
+) -> Result<(), Memory>
+    requires settled { recorded.old.pending ≡ [] }
+    requires is { (number end : ℕ) × (next.now ≡ entry.Place number commit name end) }
+    requires known { AreKnown (fix T.meaning recorded.old.terms A.address) recorded.old.written }
+    requires fits { Fits next.now }
+    requires may { MayCome (fix T.meaning recorded.old.terms A.address) recorded.old.written next.now }
+    ensures { OnOk result (GoesOn (fix T.meaning recorded.old.terms A.address) recorded.old recorded.new next.now []) }
+{
+    let _moves = recorded.moves();
+    if place(recorded, name, commit, next)? {
+        Ok(())
+    } else {
+        unreachable!()
+    }
+}
+
+// Drops a branch as a record says that may come. That never fails but for want of memory.
+fn replay_drop<T: Mrdt, A: Address>(
+    recorded: &mut Recorded<T, A>,
+    next: &Record,
+    branch: u32,
+) -> Result<(), Memory>
+    requires settled { recorded.old.pending ≡ [] }
+    requires is { (end : ℕ) × (next.now ≡ entry.Drop branch end) }
+    requires known { AreKnown (fix T.meaning recorded.old.terms A.address) recorded.old.written }
+    requires fits { Fits next.now }
+    requires may { MayCome (fix T.meaning recorded.old.terms A.address) recorded.old.written next.now }
+    ensures { OnOk result (GoesOn (fix T.meaning recorded.old.terms A.address) recorded.old recorded.new next.now []) }
+{
+    let _moves = recorded.moves();
+    if drop_branch(recorded, branch, next)? {
         Ok(())
     } else {
         unreachable!()

@@ -1,7 +1,11 @@
 -- What staging a work's objects answers.
-use Rattle.std.proofs.Common.{◌≡◌, ℕ, ◌+◌, ◌<◌, List, [], ◌∷◌, ◌++◌, length, refl, ap, sym, ◌∙◌, Some, None, slice_get, append-nil, subst, Bor}
+use Rattle.std.proofs.Common.{◌≡◌, ℕ, ◌+◌, ◌<◌, List, [], ◌∷◌, ◌++◌, length, map, refl, ap, sym, ◌∙◌, arith, Some, None, All, get_or, slice_get, append-nil, subst, Bor}
+use Rattle.std.proofs.lemmas.List.{length-map}
+use Rattle.std.proofs.lemmas.Option.{slice_get-get_or}
+use Rattle.std.specs.List.{AllByRecursion}
 use mathlib.Core.List.{IsPrefix}
 use Rattle.mrdt_model.specs.Laws.{Meaning, KeepsLaws}
+use Rattle.branch_graph.proofs.Ranked.{AllByRecursion-from_All, All-from_AllByRecursion}
 use Rattle.branch_names.specs.declared.terms.Terms.{Terms}
 use Rattle.branch_names.specs.Heads.{head_of}
 use Rattle.branch_wire.specs.declared.action.Action.{Action}
@@ -13,10 +17,12 @@ use Rattle.branch_history.specs.Commits.{Commit}
 use Rattle.branch_history.specs.History.{Store, store_of, operation_commit, merge_commit}
 use Rattle.branch_history.specs.Machine.{answers, turn}
 use Rattle.branch_history.specs.Steps as machine
+use Rattle.branch_history.proofs.Lists.{AllByRecursion-more}
 use Rattle.branch_history.proofs.Valid.{store_of-more}
 use Rattle.branch_machine.specs.Fixed.{Fixed, fix}
 use Rattle.branch_machine.specs.Objects.{both, address_at, store_after, pairs_of, objects_of, end_of}
 use Rattle.branch_machine.specs.Validity.{IsFullyValid}
+use Rattle.branch_machine.proofs.Pairs.{length-pairs_of}
 use Rattle.object_store.specs.declared.errors.StageRefused.{StageRefused}
 use Rattle.object_store.specs.declared.errors.StageRefused.TheVariants as staging
 use Rattle.object_store.specs.Commits.{commit_fields}
@@ -28,14 +34,14 @@ use Rattle.store_seen.specs.declared.prepared.Written.TheVariants as written
 use Rattle.store_seen.specs.Keeps.{IsSeen}
 use Rattle.store_seen.specs.Turns.{step_of, move_of, addresses_after}
 use Rattle.store_seen.specs.Turns as turns
-use Rattle.store_seen.specs.Views.{SeenView, PreparedView, Work, Operation, Merge, Forward}
+use Rattle.store_seen.specs.Views.{SeenView, PreparedView, Work, Operation, Merge, Join, Forward}
 use Rattle.store_seen.specs.Written.{IsWrittenWork}
 use Rattle.recorded_history.specs.Keeps.{IsStaged}
 use Rattle.recorded_history.specs.Machine.{FullyRefuses, addresses_of}
 use Rattle.recorded_history.specs.Refusals.{LandRefusedAs, stage_refused, land_refused}
 use Rattle.recorded_history.proofs.Steps.{address-found, refusal_for, full-collides, full-refuses, work-plain, none-free, none-objects, none-addresses, new_pair, one-refused, one-stored, one-addresses, one-address, record-is}
 use Rattle.recorded_history.proofs.Heads.{may-head}
-use Rattle.recorded_history.proofs.Commits.{operation-one, operation-pair, merge-one, merge-pair}
+use Rattle.recorded_history.proofs.Commits.{operation-one, operation-pair, merge-one, merge-pair, join-one, join-pair, commit-there}
 
 -- a work's move makes a commit, and these are its value's object and its own
 pub record MakesPair {S O R Q A : Type 0} (fixed : Fixed S O R Q A) (history : List (Move O R)) (work : Work O R) (made : Move O R) (value commit : List ℕ) : Type 0 where
@@ -79,6 +85,7 @@ pub staged-none : {S O R Q A : Type 0} (fixed : Fixed S O R Q A) (history : List
     → (objects : ObjectsView) (a : List ℕ) → objects.stored ≡ objects_of fixed history → objects.staged ≡ [] → IsStaged fixed history work (move_of branch work) objects a
 staged-none fixed history branch (Operation op reply) seen other is objects a stored staged = absurd is
 staged-none fixed history branch (Merge commit) seen other is objects a stored staged = absurd is
+staged-none fixed history branch (Join commits) seen other is objects a stored staged = absurd is
 staged-none {S} {O} {R} fixed history branch (Forward commit) seen other is objects a stored staged =
     let work : Work O R = Forward commit in
     let made : Move O R = move_of branch work in
@@ -95,7 +102,19 @@ staged-none {S} {O} {R} fixed history branch (Forward commit) seen other is obje
 pub other-there : {S O R Q A : Type 0} (meaning : Meaning S O R Q A) (seen : SeenView (Move O R)) (work : Work O R) (other clock : ℕ) (value : Bor (List ℕ)) → IsWrittenWork meaning seen work (written.Merge other clock value) → other < length (store_of seen.terms.origin seen.history).commits
 other-there meaning seen (Operation op reply) other clock value is = absurd is
 other-there meaning seen (Merge commit) other clock value is = subst (λ (n : ℕ). n < length (store_of seen.terms.origin seen.history).commits) (sym is.other_is) is.there
+other-there meaning seen (Join commits) other clock value is = absurd is
 other-there meaning seen (Forward commit) other clock value is = absurd is
+
+-- the commits that are joined are of a longer history
+pub others-there : {S O R Q A : Type 0} (meaning : Meaning S O R Q A) (seen : SeenView (Move O R)) (work : Work O R) (others : Bor (List ℕ)) (clock : ℕ) (value : Bor (List ℕ)) → IsWrittenWork meaning seen work (written.Join others clock value)
+    → (count : ℕ) → ((n : ℕ) → n < length (store_of seen.terms.origin seen.history).commits → n < count) → All (λ n. n < count) others.now
+others-there meaning seen (Operation op reply) others clock value is count more = absurd is
+others-there meaning seen (Merge commit) others clock value is count more = absurd is
+others-there meaning seen (Join commits) others clock value is count more =
+    let before : ℕ = length (store_of seen.terms.origin seen.history).commits in
+    let stand = AllByRecursion-from_All (λ n. n < before) commits is.there in
+    subst (λ (ns : List ℕ). All (λ n. n < count) ns) (sym is.others_are) (All-from_AllByRecursion (λ n. n < count) commits (AllByRecursion-more (λ n. n < before) (λ n. n < count) commits more stand))
+others-there meaning seen (Forward commit) others clock value is count more = absurd is
 
 work-refuses : {S O R Q A : Type 0} (fixed : Fixed S O R Q A) (prepared : PreparedView O R) (history : List (Move O R)) (refusal : machine.Refusal) → turn fixed.meaning fixed.terms history (step_of prepared.seen prepared.work) ≡ answers (machine.Refused refusal)
     → FullyRefuses fixed history (step_of prepared.seen prepared.work) refusal
@@ -118,6 +137,16 @@ module _ {S O R Q A : Type 0} (meaning : Meaning S O R Q A) (laws : KeepsLaws me
     found : (n : ℕ) (a : List ℕ) → slice_get addresses n ≡ Some a → a ≡ address_at address (pairs_of fixed (store_of terms.origin history).commits) n
     found n a at = sym (address-found address (pairs_of fixed (store_of terms.origin history).commits) n a (ap (λ (l : List (List ℕ)). slice_get l n) (sym addressed) ∙ at))
 
+    counted : length addresses ≡ length (store_of terms.origin history).commits
+    counted = ap length addressed ∙ length-map (pairs_of fixed (store_of terms.origin history).commits) (λ p. fixed.address p.commit) ∙ length-pairs_of fixed (store_of terms.origin history).commits
+
+    all-found : (ns : List ℕ) → AllByRecursion (λ n. n < length (store_of terms.origin history).commits) ns → map (λ n. get_or addresses n []) ns ≡ map (address_at address (pairs_of fixed (store_of terms.origin history).commits)) ns
+    all-found [] stand = refl
+    all-found (n ∷ ns) stand =
+        let within : n < length addresses = let size = counted in let lt = stand.0 in omega (arith, size, lt) in
+        let first = found n (get_or addresses n []) (slice_get-get_or addresses n [] within) in
+        ap (λ (x : List ℕ). x ∷ map (λ k. get_or addresses k []) ns) first ∙ ap (λ (l : List (List ℕ)). address_at address (pairs_of fixed (store_of terms.origin history).commits) n ∷ l) (all-found ns stand.1)
+
     pub operation-makes_pair : (work : Work O R) → (turn meaning terms history (step_of seen work)).made ≡ move_of seen.branch work ∷ [] → (clock : ℕ) (value op_bytes reply_bytes : Bor (List ℕ)) → IsWrittenWork meaning seen work (written.Operation clock value op_bytes reply_bytes)
         → (parents : List (List ℕ)) (branch : ℕ) (action : Action) (a : List ℕ) → slice_get addresses seen.head ≡ Some a → parents ≡ a ∷ [] → branch ≡ terms.origin + seen.branch → action ≡ wire.Operation op_bytes.now reply_bytes.now
         → MakesPair fixed history work (move_of seen.branch work) (value_object value.now) (commit_object (commit_fields address value.now parents branch clock action))
@@ -130,6 +159,7 @@ module _ {S O R Q A : Type 0} (meaning : Meaning S O R Q A) (laws : KeepsLaws me
           after = λ b l. refl;
         }
     operation-makes_pair (Merge commit) may clock value op_bytes reply_bytes w parents branch action a at parents_are on does = absurd w
+    operation-makes_pair (Join commits) may clock value op_bytes reply_bytes w parents branch action a at parents_are on does = absurd w
     operation-makes_pair (Forward commit) may clock value op_bytes reply_bytes w parents branch action a at parents_are on does = absurd w
 
     pub merge-makes_pair : (work : Work O R) → (turn meaning terms history (step_of seen work)).made ≡ move_of seen.branch work ∷ [] → (other clock : ℕ) (value : Bor (List ℕ)) → IsWrittenWork meaning seen work (written.Merge other clock value)
@@ -145,4 +175,23 @@ module _ {S O R Q A : Type 0} (meaning : Meaning S O R Q A) (laws : KeepsLaws me
           pair = merge-pair meaning laws terms address history valid seen is prefix under newest commit other clock value.now w parents branch (parents_are ∙ ap (λ (x : List ℕ). x ∷ b ∷ []) (found seen.head a at) ∙ ap (λ (x : List ℕ). address_at address (pairs_of fixed (store_of terms.origin history).commits) seen.head ∷ x ∷ []) second) on;
           after = λ x l. refl;
         }
+    merge-makes_pair (Join commits) may other clock value w parents branch a b at behind parents_are on = absurd w
     merge-makes_pair (Forward commit) may other clock value w parents branch a b at behind parents_are on = absurd w
+
+    pub join-makes_pair : (work : Work O R) → (turn meaning terms history (step_of seen work)).made ≡ move_of seen.branch work ∷ [] → (others : Bor (List ℕ)) (clock : ℕ) (value : Bor (List ℕ)) → IsWrittenWork meaning seen work (written.Join others clock value)
+        → (parents : List (List ℕ)) (branch : ℕ) → parents ≡ map (λ n. get_or addresses n []) (seen.head ∷ others.now) → branch ≡ terms.origin + seen.branch
+        → MakesPair fixed history work (move_of seen.branch work) (value_object value.now) (commit_object (commit_fields address value.now parents branch clock wire.Merge))
+    join-makes_pair (Operation op reply) may others clock value w parents branch parents_are on = absurd w
+    join-makes_pair (Merge commit) may others clock value w parents branch parents_are on = absurd w
+    join-makes_pair (Join commits) may others clock value w parents branch parents_are on =
+        let newest = may-head meaning terms history seen (Join commits) may in
+        let stand : AllByRecursion (λ n. n < length (store_of terms.origin history).commits) (seen.head ∷ commits) =
+        AllByRecursion-more (λ n. n < length (store_of seen.terms.origin seen.history).commits) (λ n. n < length (store_of terms.origin history).commits) (seen.head ∷ commits) (commit-there meaning laws terms address history valid seen is prefix under)
+        (is.head, AllByRecursion-from_All (λ n. n < length (store_of seen.terms.origin seen.history).commits) commits w.there) in
+        record {
+          new = merge_commit (store_of terms.origin history).commits (terms.origin + seen.branch) (head_of (store_of terms.origin history).branches seen.branch ∷ commits);
+          one = join-one meaning laws terms address history valid seen is prefix under newest commits;
+          pair = join-pair meaning laws terms address history valid seen is prefix under newest commits others.now clock value.now w parents branch (parents_are ∙ ap (λ (ns : List ℕ). map (λ n. get_or addresses n []) (seen.head ∷ ns)) w.others_are ∙ all-found (seen.head ∷ commits) stand) on;
+          after = λ x l. refl;
+        }
+    join-makes_pair (Forward commit) may others clock value w parents branch parents_are on = absurd w

@@ -1,5 +1,5 @@
 // A history, its commits in memory, and its stored objects.
-ghost use Rattle.std.specs.Prelude.{◌≡◌, ◌+◌, ◌<◌, false, ◌∷◌, [], ◌++◌, length, slice_get, Some, Ok, IfOk, IfErr, IfSome, OnOk, OnErr};
+ghost use Rattle.std.specs.Prelude.{◌≡◌, ◌+◌, ◌<◌, ◌≤◌, All, false, ◌∷◌, [], ◌++◌, length, slice_get, Some, Ok, IfOk, IfErr, IfSome, OnOk, OnErr};
 ghost use Rattle.std.specs.Option.{option_map};
 ghost use mathlib.Core.List.{IsPrefix};
 ghost use Rattle.branch_io.specs.Causes.{HasCause};
@@ -15,14 +15,15 @@ ghost use Rattle.branch_machine.specs.Fixed.{fix};
 ghost use Rattle.branch_machine.specs.Objects.{end_of, objects_of, objects_text, region};
 ghost use Rattle.branch_machine.specs.Validity.{IsFullyValid};
 ghost use Rattle.object_store.specs.Images.{AllBegin, AllCome, Grows};
+ghost use Rattle.store_seen.specs.Groups.{grouped_at, IsGrouped, GroupRefusedAs, IsStepOfAll, MergeAllRefusedAs};
 ghost use Rattle.store_seen.specs.Pairs.{IsPaired, PairRefusedAs, paired_at, IsStepOf, MergeRefusedAs};
 ghost use Rattle.store_seen.specs.Turns.{LookRefusedAs};
-ghost use Rattle.recorded_history.specs.Machine.{Forks, LandsAs};
+ghost use Rattle.recorded_history.specs.Machine.{addresses_of, commit_of_address, Forks, LandsAs, Steps, IsRecordOf, place_answer, drop_answer};
 ghost use Rattle.recorded_history.specs.Refusals.{ForkRefusedAs, LandRefusedAs};
 ghost use Rattle.recorded_history.specs.Views.{core_of};
 
 use crate::addressed::Addressed;
-use crate::answers::{Branched, LandRefused, Made};
+use crate::answers::{Branched, Dropped, LandRefused, Made};
 use crate::staging::{record_for, stage};
 use branch_address::Address;
 use branch_disk::{Disk, DiskFailed, Part};
@@ -35,7 +36,8 @@ use std::alloc::Global;
 use std::marker::Model;
 use std::snapshot::Snapshot;
 use store_seen::{
-    ForkRefused, LookRefused, Pair, PairPrepareRefused, PairRefused, PairStep, Seen, Versions,
+    DropRefused, ForkRefused, Group, LookRefused, Pair, PairPrepareRefused, PairRefused, PairStep,
+    PlaceRefused, Seen, Versions,
 };
 
 /// A history with the bytes of its files. Contracts see a `RecordedView`: the moves that are written, the one that was
@@ -169,6 +171,71 @@ impl<T: Mrdt, A: Address> Recorded<T, A> {
         self.versions.prepare_at(seen, other)
     }
 
+    /// Pairs a look at this history, taken now or earlier, with a commit.
+    pub fn pair_at(&self, seen: &Seen<T>, commit: u32) -> Result<Pair<T>, Memory>
+        requires settled { self.now.pending ≡ [] }
+        requires history { IsPrefix seen.now.history self.now.written }
+        requires terms { seen.now.terms ≡ self.now.terms }
+        requires there { commit < length (store_of self.now.terms.origin self.now.written).commits }
+        ensures { IfOk result (λ pair. pair ≡ paired_at (core_of self.now) seen.now commit) }
+    {
+        self.versions.pair_at(seen, commit)
+    }
+
+    /// Groups a look at this history, taken now or earlier, with the heads that branches have now, of one to eight
+    /// names. `UnknownBranch` comes exactly where one of them is no branch's, and names the first such.
+    pub fn group(&self, seen: &Seen<T>, from: &[Name]) -> Result<Group<T>, PairRefused>
+        requires settled { self.now.pending ≡ [] }
+        requires history { IsPrefix seen.now.history self.now.written }
+        requires terms { seen.now.terms ≡ self.now.terms }
+        requires some { 1 ≤ length from.now }
+        requires few { length from.now ≤ 8 }
+        ensures grouped { IfOk result (IsGrouped T.meaning (core_of self.now) seen.now from.now) }
+        ensures refused { IfErr result (GroupRefusedAs T.meaning (core_of self.now) from.now) }
+    {
+        self.versions.group(seen, from)
+    }
+
+    /// Makes the merge of one to eight commits ready to land on a look at this history, taken now or earlier: what a
+    /// group of them prepares, with the folds that are kept.
+    pub fn prepare_all_at(
+        &mut self,
+        seen: &Seen<T>,
+        others: &[u32],
+    ) -> Result<PairStep<T>, PairPrepareRefused>
+        requires settled { self.old.pending ≡ [] }
+        requires history { IsPrefix seen.now.history self.old.written }
+        requires terms { seen.now.terms ≡ self.old.terms }
+        requires there { All (λ n. n < length (store_of self.old.terms.origin self.old.written).commits) others.now }
+        requires some { 1 ≤ length others.now }
+        requires few { length others.now ≤ 8 }
+        ensures step { IfOk result (IsStepOfAll T.meaning (grouped_at (core_of self.old) seen.now others.now)) }
+        ensures refused { IfErr result (MergeAllRefusedAs T.meaning (grouped_at (core_of self.old) seen.now others.now)) }
+        ensures same { self.new ≡ self.old }
+    {
+        self.versions.prepare_all_at(seen, others)
+    }
+
+    /// The address of a commit's object; `None` exactly past the last commit. It takes no memory.
+    pub fn address(&self, commit: u32) -> Option<[u8; 32]>
+        requires settled { self.now.pending ≡ [] }
+        ensures { result ≡ slice_get (addresses_of (fix T.meaning self.now.terms A.address) self.now.written) commit }
+    {
+        if commit < self.versions.commits() {
+            Some(*self.versions.address(commit))
+        } else {
+            None
+        }
+    }
+
+    /// The first commit whose object has an address; `None` exactly where none has it. It takes no memory.
+    pub fn commit_at(&self, address: &[u8; 32]) -> Option<u32>
+        requires settled { self.now.pending ≡ [] }
+        ensures { result ≡ commit_of_address (fix T.meaning self.now.terms A.address) self.now.written address.now }
+    {
+        self.versions.commit_at(address)
+    }
+
     /// Keeps at most so many folds of bases from now on, for `prepare_at`. They are kept until `drop_folds`, or
     /// until a commit is undone.
     pub fn keep_folds(&mut self, limit: u32) -> Result<(), Memory>
@@ -257,6 +324,48 @@ impl<T: Mrdt, A: Address> Recorded<T, A> {
             end: self.objects.end(),
         };
         Ok(Branched { forked, record })
+    }
+
+    /// Places a new branch at a commit, in memory; then it is pending. It is refused exactly as the machine refuses it,
+    /// and then nothing has changed: `NameTaken` before `FullBranches` before `FullMoves`.
+    pub fn place(&mut self, name: Name, commit: u32) -> Result<Branched, PlaceRefused>
+        requires settled { self.old.pending ≡ [] }
+        requires there { commit < length (store_of self.old.terms.origin self.old.written).commits }
+        ensures steps { Steps (fix T.meaning self.old.terms A.address) (machine.Place name commit) self.old self.new (place_answer result) }
+        ensures recorded { IfOk result (λ made. IsRecordOf (fix T.meaning self.old.terms A.address) self.new made.record) }
+    {
+        let forked = self.versions.place(name, commit)?;
+        // The longer history is valid: its count tells the proof so.
+        let _moves = self.versions.moves();
+        self.stood = Some(forked.head);
+        let record = Record::Place {
+            number: forked.number,
+            commit,
+            name,
+            end: self.objects.end(),
+        };
+        Ok(Branched { forked, record })
+    }
+
+    /// Drops the branch of a look at this history, taken now or earlier, from the head that was seen, in memory; then
+    /// the drop is pending. It is refused exactly as the machine refuses it, and then nothing has changed: `Dropped`
+    /// before `KeepsMain` before `Stale` before `FullMoves`.
+    pub fn drop_branch(&mut self, seen: &Seen<T>) -> Result<Dropped, DropRefused>
+        requires settled { self.old.pending ≡ [] }
+        requires history { IsPrefix seen.now.history self.old.written }
+        requires terms { seen.now.terms ≡ self.old.terms }
+        ensures steps { Steps (fix T.meaning self.old.terms A.address) (machine.Drop seen.now.branch seen.now.head) self.old self.new (drop_answer seen.now result) }
+        ensures recorded { IfOk result (λ made. IsRecordOf (fix T.meaning self.old.terms A.address) self.new made.record) }
+    {
+        let moves = self.versions.drop_branch(seen)?;
+        // The longer history is valid: its count tells the proof so.
+        let _moves = self.versions.moves();
+        self.stood = Some(seen.head());
+        let record = Record::Drop {
+            branch: seen.branch(),
+            end: self.objects.end(),
+        };
+        Ok(Dropped { moves, record })
     }
 
     /// The bytes that the pending move adds to the objects; none where no move is pending.

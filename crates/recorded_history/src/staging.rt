@@ -1,7 +1,8 @@
 // The objects and the record of a work that is ready to land.
-ghost use Rattle.std.specs.Prelude.{◌≡◌, IfOk, IfErr, IfSome, OnErr};
+ghost use Rattle.std.specs.Prelude.{◌≡◌, ◌<◌, All, [], ◌∷◌, length, map, slice_index_or, IfOk, IfErr, IfSome, OnErr};
 ghost use mathlib.Core.List.{IsPrefix};
 ghost use Rattle.branch_files.specs.Records.{record_with};
+ghost use Rattle.branch_history.specs.History.{store_of};
 ghost use Rattle.branch_machine.specs.Fixed.{fix};
 ghost use Rattle.store_seen.specs.Turns.{MayLand, move_of};
 ghost use Rattle.recorded_history.specs.Addresses.{IsValueAddress};
@@ -11,8 +12,8 @@ ghost use Rattle.recorded_history.specs.Refusals.{LandRefusedAs};
 use crate::answers::LandRefused;
 use branch_address::Address;
 use branch_wire::{Action, push_address};
-use heads_journal::Record;
-use mrdt_model::{Bytes, Listing, Mrdt};
+use heads_journal::{Joined, Record};
+use mrdt_model::{Bytes, Listing, Memory, Mrdt};
 use object_store::Objects;
 use std::alloc::Global;
 use store_seen::{Prepared, Versions, Written};
@@ -70,9 +71,37 @@ pub(crate) fn stage<T: Mrdt, A: Address>(
             let parents = Listing::from_vec(parents);
             Ok(objects.stage(value, known, parents, origin, clock, Action::Merge)?)
         }
+        Written::Join {
+            others,
+            clock,
+            value,
+        } => {
+            let parents = addresses(alloc, versions, head, others)?;
+            let parents = Listing::from_vec(parents);
+            Ok(objects.stage(value, known, parents, origin, clock, Action::Merge)?)
+        }
         // It makes no commit.
         Written::Forward { .. } => Ok([0; 32]),
     }
+}
+
+// The addresses of a head and of the commits that are joined to it.
+fn addresses<T: Mrdt>(
+    alloc: Global,
+    versions: &Versions<T>,
+    head: u32,
+    others: &[u32],
+) -> Result<Vec<[u8; 32]>, Memory>
+    requires head { head < length (store_of versions.now.core.terms.origin versions.now.core.history).commits }
+    requires others { All (λ n. n < length (store_of versions.now.core.terms.origin versions.now.core.history).commits) others.now }
+    ensures { IfOk result (λ found. found.items ≡ map (λ n. slice_index_or versions.now.addresses n []) (head ∷ others.now)) }
+{
+    let mut found = Vec::new(alloc);
+    push_address(*versions.address(head), &mut found)?;
+    for other in others {
+        push_address(*versions.address(*other), &mut found)?;
+    }
+    Ok(found)
 }
 
 /// The record of a work, given the address of its commit and where the objects end behind it.
@@ -91,6 +120,14 @@ pub(crate) fn record_for<T: Mrdt>(prepared: &Prepared<T>, address: [u8; 32], end
             from: other,
             address,
             end,
+        },
+        Written::Join { others, .. } => match Joined::new(others) {
+            Some(joined) => Record::Join {
+                branch,
+                joined,
+                end,
+            },
+            None => unreachable!(),
         },
         Written::Forward { other } => Record::Forward {
             branch,

@@ -1,5 +1,5 @@
 -- The objects are those of the commit that the work makes.
-use Rattle.std.proofs.Common.{◌<◌, ◌+◌, ◌∷◌, [], ◌++◌, length, ap, sym, ◌∙◌, slice_get, subst, append-nil}
+use Rattle.std.proofs.Common.{◌<◌, ◌+◌, ◌∷◌, [], ◌++◌, length, map, get_or, ap, sym, ◌∙◌, slice_get, subst, append-nil}
 use Rattle.std.proofs.lemmas.Result.{err_from_is_err_and}
 use Rattle.std.specs.Prelude.{replicate}
 use Rattle.branch_wire.specs.declared.action.Action.TheVariants as wire
@@ -11,7 +11,7 @@ use Rattle.object_store.specs.Commits.{commit_fields, commit_pair}
 use Rattle.store_seen.specs.Turns.{move_of}
 use Rattle.store_seen.specs.Written.{IsWritten}
 use Rattle.recorded_history.proofs.Commits.{commit-there}
-use Rattle.recorded_history.proofs.Staged.{staged-one, staged-refused, staged-none, other-there, operation-makes_pair, merge-makes_pair}
+use Rattle.recorded_history.proofs.Staged.{staged-one, staged-refused, staged-none, other-there, others-there, operation-makes_pair, merge-makes_pair, join-makes_pair}
 use Rattle.recorded_history.proofs.staging.stage.Goals as goal
 
 pub address-requires-after_bounds : goal.address-requires-after_bounds
@@ -139,6 +139,64 @@ returns-in_ok-stage-in-Merge-clause-staged g c =
     let done = c.in_ok-stage-in-Merge.ensures in
     let added = done.added ∙ ap (λ s. s ++ fresh (o.stored ++ o.staged) (commit_pair address parts.value.now c.from_vec-parents.result c.origin-origin.result parts.clock wire.Merge)) c.requires.settled.staged in
     staged-one fixed core.history (o.stored ++ o.staged) (whole ∙ c.requires.settled.stored) work (move_of seen.branch work) (value_object parts.value.now) (commit_object (commit_fields address parts.value.now c.from_vec-parents.result c.origin-origin.result parts.clock wire.Merge)) makes c.stage-in-Merge.new.self c.in_ok-stage-in-Merge.field-0 done.free (done.stored ∙ sym whole) added done.address
+
+pub addresses-requires-clause-head : goal.addresses-requires-clause-head
+addresses-requires-clause-head g c κs within =
+    let laws = (g.met.T.Mrdt g.world.𝓛 g.world.𝓜 g.world.𝓡 ((λ s x. x), (λ x. x), (λ x. x), λ x. x)).laws in
+    let core = c.args.versions.now.core in
+    let is = c.branch-branch.ensures.seen in
+    subst (λ n. n < length (store_of core.terms.origin core.history).commits) (sym c.head-head.ensures.head) (commit-there g.T.Mrdt.meaning laws core.terms g.A.Address.address core.history c.requires.settled.valid c.args.prepared.now.seen is c.requires.history c.requires.terms c.args.prepared.now.seen.head is.head)
+
+pub addresses-requires-clause-others : goal.addresses-requires-clause-others
+addresses-requires-clause-others g c κs within =
+    let laws = (g.met.T.Mrdt g.world.𝓛 g.world.𝓜 g.world.𝓡 ((λ s x. x), (λ x. x), (λ x. x), λ x. x)).laws in
+    let core = c.args.versions.now.core in
+    let is = c.branch-branch.ensures.seen in
+    others-there g.T.Mrdt.meaning c.args.prepared.now.seen c.args.prepared.now.work c.in-Join.others c.in-Join.clock c.in-Join.value (subst (λ w. IsWritten g.T.Mrdt.meaning c.args.prepared.now w) c.in-Join.is c.written.ensures) (length (store_of core.terms.origin core.history).commits)
+    (commit-there g.T.Mrdt.meaning laws core.terms g.A.Address.address core.history c.requires.settled.valid c.args.prepared.now.seen is c.requires.history c.requires.terms)
+
+pub returns-in_err-stage-in-Join-clause-refused : goal.returns-in_err-stage-in-Join-clause-refused
+returns-in_err-stage-in-Join-clause-refused g c =
+    let meaning = g.T.Mrdt.meaning in
+    let address = g.A.Address.address in
+    let laws = (g.met.T.Mrdt g.world.𝓛 g.world.𝓜 g.world.𝓡 ((λ s x. x), (λ x. x), (λ x. x), λ x. x)).laws in
+    let versions = c.args.versions.now in
+    let core = versions.core in
+    let fixed = fix meaning core.terms address in
+    let seen = c.args.prepared.now.seen in
+    let work = c.args.prepared.now.work in
+    let parts = c.in-Join in
+    let written = subst (λ w. IsWritten meaning c.args.prepared.now w) parts.is c.written.ensures in
+    let parents = c.from_vec-parents-in-Join.ensures ∙ c.in_ok-parents-in-Join.ensures ∙ ap (λ h. map (λ n. get_or versions.addresses n []) (h ∷ parts.others.now)) c.head-head.ensures.head in
+    let makes =
+    join-makes_pair meaning laws core.terms address core.history c.requires.settled.valid seen c.branch-branch.ensures.seen c.requires.history c.requires.terms versions.addresses c.requires.settled.addressed work c.requires.may parts.others parts.clock parts.value written c.from_vec-parents-in-Join.result c.origin-origin.result parents (c.origin-origin.ensures ∙ ap (λ t. t.origin + c.args.prepared.now.seen.branch) c.requires.terms) in
+    let o = c.args.objects.now in
+    let whole = ap (λ s. o.stored ++ s) c.requires.settled.staged ∙ append-nil o.stored in
+    let e = c.in_err-stage-in-Join.field-0.0 in
+    let p = err_from_is_err_and c.from_residual-in_err-stage-in-Join.result c.from_residual-in_err-stage-in-Join.ensures.1 in
+    rw (p.1, p.2)
+    (staged-refused fixed core.history (o.stored ++ o.staged) (whole ∙ c.requires.settled.stored) work (move_of seen.branch work) (value_object parts.value.now) (commit_object (commit_fields address parts.value.now c.from_vec-parents-in-Join.result c.origin-origin.result parts.clock wire.Merge)) makes seen c.requires.may e c.in_err-stage-in-Join.ensures.collides)
+
+pub returns-in_ok-stage-in-Join-clause-staged : goal.returns-in_ok-stage-in-Join-clause-staged
+returns-in_ok-stage-in-Join-clause-staged g c =
+    let meaning = g.T.Mrdt.meaning in
+    let address = g.A.Address.address in
+    let laws = (g.met.T.Mrdt g.world.𝓛 g.world.𝓜 g.world.𝓡 ((λ s x. x), (λ x. x), (λ x. x), λ x. x)).laws in
+    let versions = c.args.versions.now in
+    let core = versions.core in
+    let fixed = fix meaning core.terms address in
+    let seen = c.args.prepared.now.seen in
+    let work = c.args.prepared.now.work in
+    let parts = c.in-Join in
+    let written = subst (λ w. IsWritten meaning c.args.prepared.now w) parts.is c.written.ensures in
+    let parents = c.from_vec-parents-in-Join.ensures ∙ c.in_ok-parents-in-Join.ensures ∙ ap (λ h. map (λ n. get_or versions.addresses n []) (h ∷ parts.others.now)) c.head-head.ensures.head in
+    let makes =
+    join-makes_pair meaning laws core.terms address core.history c.requires.settled.valid seen c.branch-branch.ensures.seen c.requires.history c.requires.terms versions.addresses c.requires.settled.addressed work c.requires.may parts.others parts.clock parts.value written c.from_vec-parents-in-Join.result c.origin-origin.result parents (c.origin-origin.ensures ∙ ap (λ t. t.origin + c.args.prepared.now.seen.branch) c.requires.terms) in
+    let o = c.args.objects.now in
+    let whole = ap (λ s. o.stored ++ s) c.requires.settled.staged ∙ append-nil o.stored in
+    let done = c.in_ok-stage-in-Join.ensures in
+    let added = done.added ∙ ap (λ s. s ++ fresh (o.stored ++ o.staged) (commit_pair address parts.value.now c.from_vec-parents-in-Join.result c.origin-origin.result parts.clock wire.Merge)) c.requires.settled.staged in
+    staged-one fixed core.history (o.stored ++ o.staged) (whole ∙ c.requires.settled.stored) work (move_of seen.branch work) (value_object parts.value.now) (commit_object (commit_fields address parts.value.now c.from_vec-parents-in-Join.result c.origin-origin.result parts.clock wire.Merge)) makes c.stage-in-Join.new.self c.in_ok-stage-in-Join.field-0 done.free (done.stored ∙ sym whole) added done.address
 
 pub returns-in-Forward-clause-staged : goal.returns-in-Forward-clause-staged
 returns-in-Forward-clause-staged g c =
