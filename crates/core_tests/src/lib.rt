@@ -2,6 +2,8 @@
 #![tactic(auto)]
 
 #[cfg(test)]
+mod branches;
+#[cfg(test)]
 mod files;
 #[cfg(test)]
 mod stores;

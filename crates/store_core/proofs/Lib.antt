@@ -6,6 +6,8 @@ pub mod Waiting
 pub mod Starts
 pub mod Kept
 pub mod Landings
+pub mod Branchings
+pub mod Answered
 pub mod Causes
 pub mod Opened
 pub mod Sure

@@ -7,3 +7,4 @@ pub mod Turns
 pub mod Inits
 pub mod Refusals
 pub mod Opens
+pub mod Answers

@@ -14,8 +14,12 @@ ghost use Rattle.branch_machine.specs.Machine.{full_turn};
 ghost use Rattle.branch_machine.specs.Objects.{end_of};
 ghost use Rattle.branch_machine.specs.Validity.{IsFullyValid};
 ghost use Rattle.branch_files.specs.Reading.{Opens, ReadsAs};
-ghost use Rattle.store_seen.specs.Pairs.{IsPaired, PairRefusedAs};
+ghost use Rattle.machine_answers.specs.Answers.{Takes};
+ghost use Rattle.recorded_history.specs.Machine.{addresses_of, commit_of_address};
+ghost use Rattle.store_seen.specs.Groups.{IsGrouped, GroupRefusedAs};
+ghost use Rattle.store_seen.specs.Pairs.{paired_at, IsPaired, PairRefusedAs};
 ghost use Rattle.store_seen.specs.Turns.{LookRefusedAs};
+ghost use Rattle.store_core.specs.Answers.{place_answer, drop_answer, turn_of, Leaves};
 ghost use Rattle.store_core.specs.Views.{held};
 ghost use Rattle.store_core.specs.Images.{AllStand, WithOrWithout, MayBeLeft, NoneOrEmpty};
 ghost use Rattle.store_core.specs.Contents.{HoldsExactly, IsTorn, LeavesExactly, LeavesTorn};
@@ -23,7 +27,9 @@ ghost use Rattle.store_core.specs.Turns.{step_made, LandsAs, LandRefusedAs, Land
 ghost use Rattle.store_core.specs.Inits.{IsEmpty, InitRefusedAs};
 ghost use Rattle.store_core.specs.Opens.{OpenRefusedAs, ReadsOnlyAs, RefusedOnlyAs, ReadsAsNone};
 
-use crate::answers::{ForkRefused, InitRefused, LandRefused, OpenRefused};
+use crate::answers::{
+    DropRefused, ForkRefused, InitRefused, LandRefused, OpenRefused, PlaceRefused,
+};
 use crate::put::put;
 use crate::reading::read_back;
 use branch_address::Address;
@@ -32,12 +38,12 @@ use branch_files::laws::stands_for_what_is_read;
 use branch_machine::laws::grows_by_full_moves;
 use branch_names::{Name, Terms};
 use heads_journal::Journal;
-use mrdt_model::Mrdt;
+use mrdt_model::{Memory, Mrdt};
 use recorded_history::{Addressed, Recorded};
 use std::alloc::Global;
 use std::marker::Model;
 use std::snapshot::Snapshot;
-use store_seen::{Forked, Landed, LookRefused, Pair, PairRefused, Prepared, Seen};
+use store_seen::{Forked, Group, Landed, LookRefused, Pair, PairRefused, Prepared, Seen};
 
 /// A history of accepted moves, kept on a disk. Contracts see a `StoreView`: the history and the terms, whether the
 /// disk has failed, the disk, and the disk as it was when the core was given.
@@ -215,6 +221,29 @@ impl<T: Mrdt, D: Disk + Drop, A: Address> Core<T, D, A> {
         self.recorded.terms()
     }
 
+    /// The first origin: branch r has the origin that lies r above it.
+    pub fn origin(&self) -> u32
+        ensures { result ≡ self.now.terms.origin }
+    {
+        self.recorded.terms().origin
+    }
+
+    /// The address of a commit's object; `None` exactly past the last commit. It takes no memory.
+    pub fn address(&self, commit: u32) -> Option<[u8; 32]>
+        ensures { let fixed = fix T.meaning self.now.terms A.address in
+            result ≡ slice_get (addresses_of fixed self.now.history) commit }
+    {
+        self.recorded.address(commit)
+    }
+
+    /// The first commit whose object has an address; `None` exactly where none has it. It takes no memory.
+    pub fn commit_at(&self, address: &[u8; 32]) -> Option<u32>
+        ensures { let fixed = fix T.meaning self.now.terms A.address in
+            result ≡ commit_of_address fixed self.now.history address.now }
+    {
+        self.recorded.commit_at(address)
+    }
+
     /// The name and the head of a branch, of a dropped one those that it had; `None` exactly past the last branch. No
     /// other branch has the name of one that was not dropped.
     pub fn branch(&self, number: u32) -> Option<(Name, u32)>
@@ -253,6 +282,30 @@ impl<T: Mrdt, D: Disk + Drop, A: Address> Core<T, D, A> {
         ensures refused { IfErr result (PairRefusedAs T.meaning (held self.now) from.now) }
     {
         self.recorded.pair(seen, from)
+    }
+
+    /// Pairs a look at this core, taken now or earlier, with a commit, also where the disk has failed.
+    pub fn pair_at(&self, seen: &Seen<T>, commit: u32) -> Result<Pair<T>, Memory>
+        requires history { IsPrefix seen.now.history self.now.history }
+        requires terms { seen.now.terms ≡ self.now.terms }
+        requires there { commit < length (store_of self.now.terms.origin self.now.history).commits }
+        ensures { IfOk result (λ pair. pair ≡ paired_at (held self.now) seen.now commit) }
+    {
+        self.recorded.pair_at(seen, commit)
+    }
+
+    /// Groups a look at this core, taken now or earlier, with the heads that branches have now, of one to eight names,
+    /// also where the disk has failed. `UnknownBranch` comes exactly where one of them is no branch's, or that of a
+    /// branch that was dropped, and names the first such.
+    pub fn group(&self, seen: &Seen<T>, from: &[Name]) -> Result<Group<T>, PairRefused>
+        requires history { IsPrefix seen.now.history self.now.history }
+        requires terms { seen.now.terms ≡ self.now.terms }
+        requires some { 1 ≤ length from.now }
+        requires few { length from.now ≤ 8 }
+        ensures grouped { IfOk result (IsGrouped T.meaning (held self.now) seen.now from.now) }
+        ensures refused { IfErr result (GroupRefusedAs T.meaning (held self.now) from.now) }
+    {
+        self.recorded.group(seen, from)
     }
 
     /// Lands what was prepared on a look at this core, now or earlier. It is refused exactly as the machine refuses
@@ -360,6 +413,64 @@ impl<T: Mrdt, D: Disk + Drop, A: Address> Core<T, D, A> {
             return Err(ForkRefused::DiskFault);
         };
         Ok(made.forked)
+    }
+
+    /// Places a new branch at a commit. It is refused exactly as the machine refuses it, and then nothing has changed:
+    /// `Failed` before `NameTaken` before `FullBranches` before `FullMoves`. At every moment a crash leaves the history
+    /// before, or that with the branch; after `Ok`, the latter. Both are valid. What a disk tells is then as after
+    /// `land`.
+    pub fn place(&mut self, name: Name, commit: u32) -> Result<Forked, PlaceRefused>
+        requires { commit < length (store_of self.old.terms.origin self.old.history).commits }
+        ensures takes { Takes (turn_of T.meaning A.address self.old (machine.Place name commit))
+            self.old.history self.new.history (place_answer result) }
+        ensures leaves { Leaves D.Disk T.meaning A.address (machine.Place name commit)
+            self.old self.new (place_answer result) }
+    {
+        if self.failed {
+            let moves = self.recorded.moves();
+            return Err(PlaceRefused::Failed { moves });
+        }
+        let made = self.recorded.place(name, commit)?;
+        let Ok(()) = put(
+            &mut self.recorded,
+            &mut self.journal,
+            &mut self.disk,
+            &mut self.failed,
+            &made.record,
+        ) else {
+            return Err(PlaceRefused::DiskFault);
+        };
+        Ok(made.forked)
+    }
+
+    /// Drops the branch of a look at this core, taken now or earlier, from the head that was seen, and says how many
+    /// moves the history then has. Its name is free again, and its number is not. It is refused exactly as the machine
+    /// refuses it, and then nothing has changed: `Failed` before `Dropped` before `KeepsMain` before `Stale` before
+    /// `FullMoves`. At every moment a crash leaves the history before, or that with the drop; after `Ok`, the latter.
+    /// Both are valid. What a disk tells is then as after `land`.
+    pub fn drop_branch(&mut self, seen: &Seen<T>) -> Result<u64, DropRefused>
+        requires history { IsPrefix seen.now.history self.old.history }
+        requires terms { seen.now.terms ≡ self.old.terms }
+        ensures takes { Takes (turn_of T.meaning A.address self.old (machine.Drop seen.now.branch seen.now.head))
+            self.old.history self.new.history (drop_answer seen.now result) }
+        ensures leaves { Leaves D.Disk T.meaning A.address (machine.Drop seen.now.branch seen.now.head)
+            self.old self.new (drop_answer seen.now result) }
+    {
+        if self.failed {
+            let moves = self.recorded.moves();
+            return Err(DropRefused::Failed { moves });
+        }
+        let made = self.recorded.drop_branch(seen)?;
+        let Ok(()) = put(
+            &mut self.recorded,
+            &mut self.journal,
+            &mut self.disk,
+            &mut self.failed,
+            &made.record,
+        ) else {
+            return Err(DropRefused::DiskFault);
+        };
+        Ok(made.moves)
     }
 
     /// Hands the disk back. It makes no device call, and takes no memory. Each image stands for what `moves` says.
