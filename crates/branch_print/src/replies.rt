@@ -1,7 +1,7 @@
 // The replies to steps that were not refused. After `Memory` a first part of the text has been written.
 ghost use Rattle.std.specs.Prelude.{◌≡◌, ◌++◌, codes, decimal, if◌then◌else◌, OnOk, OnErr};
 ghost use Rattle.mrdt_model.specs.Spelled.{AppendsPart};
-ghost use Rattle.branch_print.specs.Texts.{time_text, sees_text, forked_text, took_text, reply_text, landed_text, merged_text, forward_text, same_text, items_text, entries_text, at_most_one, answer_text, line_end};
+ghost use Rattle.branch_print.specs.Texts.{time_text, sees_text, forked_text, took_text, reply_text, landed_text, merged_text, joined_text, forward_text, same_text, items_text, entries_text, at_most_one, answer_text, line_end};
 
 use crate::pieces::{
     put_count, put_entries, put_entry, put_items, put_number, put_pieces, put_signed, put_text,
@@ -116,6 +116,14 @@ pub fn put_merged(out: &mut Vec<u8>, commit: u32) -> Result<(), Memory>
     ensures err { OnErr result (AppendsPart out.old.items out.new.items (merged_text commit ++ line_end)) }
 {
     put_count(out, b"merged #", u64::from(commit))
+}
+
+/// A merge of several commits at once: `joined #4`.
+pub fn put_joined(out: &mut Vec<u8>, commit: u32) -> Result<(), Memory>
+    ensures ok { OnOk result (out.new.items ≡ out.old.items ++ (joined_text commit ++ line_end)) }
+    ensures err { OnErr result (AppendsPart out.old.items out.new.items (joined_text commit ++ line_end)) }
+{
+    put_count(out, b"joined #", u64::from(commit))
 }
 
 /// A merge that moved the branch up to a commit: `forward #1`.

@@ -1,11 +1,12 @@
 -- What a line of a script says.
-use Rattle.std.specs.Prelude.{◌≡◌, ℕ, Bool, ◌&&◌, bytes_eq, codes, Option, Some, None, Result, Ok, Err, List, [], ◌∷◌, if◌then◌else◌}
+use Rattle.std.specs.Prelude.{◌≡◌, ℕ, Bool, ◌&&◌, bytes_eq, nat_le, codes, Option, Some, None, Result, Ok, Err, List, [], ◌∷◌, length, if◌then◌else◌}
+use Rattle.std.specs.List.{list_all}
 use Rattle.branch_doc.specs.declared.plain.Kind.{Kind}
 use Rattle.branch_doc.specs.declared.plain.PlainOp.{PlainOp}
 use Rattle.branch_doc.specs.declared.plain.PlainQuery.TheVariants.{Keys}
 use Rattle.branch_names.specs.Names.{is_name}
 use Rattle.branch_script.specs.declared.step.Step.{Step}
-use Rattle.branch_script.specs.declared.step.Step.TheVariants.{Look, Fork, Merge, Do, Ask}
+use Rattle.branch_script.specs.declared.step.Step.TheVariants.{Look, Fork, Merge, Join, Do, Ask}
 use Rattle.branch_script.specs.declared.step.LineRefused.{LineRefused}
 use Rattle.branch_script.specs.declared.step.LineRefused.TheVariants.{Syntax, BadName, Memory}
 use Rattle.branch_script.specs.Lines.{words_of, is_silent, is_plain}
@@ -73,12 +74,27 @@ six_words verb name kind key last word =
     else if is (codes "ask") verb then fits (kind_named kind) (λ kind. ask_with_word name kind key last word)
     else Err Syntax
 
+-- the step of three to six words that are no join
+abbrev pub other_words : List (List ℕ) → Result Step LineRefused
+other_words (a ∷ b ∷ c ∷ []) = three_words a b c
+other_words (a ∷ b ∷ c ∷ d ∷ []) = four_words a b c d
+other_words (a ∷ b ∷ c ∷ d ∷ e ∷ []) = five_words a b c d e
+other_words (a ∷ b ∷ c ∷ d ∷ e ∷ f ∷ []) = six_words a b c d e f
+other_words words = Err Syntax
+
+-- the words of a join: its verb, and two to eight branches
+abbrev pub is_join : List ℕ → List (List ℕ) → Bool
+is_join verb branches = is (codes "join") verb && nat_le 2 (length branches) && nat_le (length branches) 8
+
+-- `join SESSION BRANCH BRANCH ..`
+abbrev pub join_words : List ℕ → List (List ℕ) → Result Step LineRefused
+join_words session branches =
+    named session (if list_all is_name branches then Ok (Join session branches) else Err BadName)
+
 -- the step of a line's words: a line that fits no form is refused first, then a bad name, then a bad number
 abbrev pub words_step : List (List ℕ) → Result Step LineRefused
-words_step (a ∷ b ∷ c ∷ []) = three_words a b c
-words_step (a ∷ b ∷ c ∷ d ∷ []) = four_words a b c d
-words_step (a ∷ b ∷ c ∷ d ∷ e ∷ []) = five_words a b c d e
-words_step (a ∷ b ∷ c ∷ d ∷ e ∷ f ∷ []) = six_words a b c d e f
+words_step (verb ∷ session ∷ branches) =
+    if is_join verb branches then join_words session branches else other_words (verb ∷ session ∷ branches)
 words_step words = Err Syntax
 
 abbrev pub some_step : Result Step LineRefused → Result (Option Step) LineRefused

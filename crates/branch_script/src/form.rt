@@ -1,7 +1,8 @@
 // The forms of a line.
-ghost use Rattle.std.specs.Prelude.{◌≡◌, map, Ok, IfOk, IfErr};
-ghost use Rattle.branch_script.specs.Script.{three_words, four_words, do_at_key, ask_at_key, do_with_word, ask_with_word, five_words, six_words, words_step, step_of, IsRefusedAs, IsLineRefusedAs};
+ghost use Rattle.std.specs.Prelude.{◌≡◌, ◌≤◌, map, length, Ok, IfOk, IfErr};
+ghost use Rattle.branch_script.specs.Script.{three_words, four_words, do_at_key, ask_at_key, do_with_word, ask_with_word, five_words, six_words, other_words, is_join, join_words, words_step, step_of, IsRefusedAs, IsLineRefusedAs};
 
+use crate::branches::Branches;
 use crate::step::{LineRefused, Step};
 use crate::tables::{
     kind_named, operation_at_key, operation_with_word, query_at_key, query_with_word,
@@ -168,10 +169,10 @@ fn six_words(
     }
 }
 
-// The step of a line's words.
-fn fit_words(alloc: Global, words: &[&[u8]]) -> Result<Step, LineRefused>
-    ensures ok { IfOk result (λ step. words_step (map (λ word. word.now) words.now) ≡ Ok step) }
-    ensures err { IfErr result (IsRefusedAs (words_step (map (λ word. word.now) words.now))) }
+// The step of three to six words that are no join.
+fn other_words(alloc: Global, words: &[&[u8]]) -> Result<Step, LineRefused>
+    ensures ok { IfOk result (λ step. other_words (map (λ word. word.now) words.now) ≡ Ok step) }
+    ensures err { IfErr result (IsRefusedAs (other_words (map (λ word. word.now) words.now))) }
 {
     match words {
         [verb, first, second] => three_words(verb, first, second),
@@ -180,6 +181,45 @@ fn fit_words(alloc: Global, words: &[&[u8]]) -> Result<Step, LineRefused>
         [verb, name, kind, key, last, word] => {
             six_words(alloc, verb, name, kind, key, last, word)
         }
+        _ => Err(LineRefused::Syntax),
+    }
+}
+
+// Whether the words are a join's: its verb, and two to eight branches.
+fn is_join(verb: &[u8], branches: &[&[u8]]) -> bool
+    ensures { result ≡ is_join verb.now (map (λ word. word.now) branches.now) }
+{
+    verb == b"join".as_slice() && 2 <= branches.len() && branches.len() <= 8
+}
+
+// `join SESSION BRANCH BRANCH ..`.
+fn join_words(alloc: Global, session: &[u8], branches: &[&[u8]]) -> Result<Step, LineRefused>
+    requires some { 2 ≤ length branches.now }
+    requires few { length branches.now ≤ 8 }
+    ensures ok { IfOk result (λ step. join_words session.now (map (λ word. word.now) branches.now) ≡ Ok step) }
+    ensures err { IfErr result (IsRefusedAs (join_words session.now (map (λ word. word.now) branches.now))) }
+{
+    let session = Name::read(session)?;
+    let mut names = Vec::new(alloc);
+    for word in branches {
+        names.push(Name::read(word)?)?;
+    }
+    Ok(Step::Join {
+        session,
+        branches: Branches::of(names),
+    })
+}
+
+// The step of a line's words.
+fn fit_words(alloc: Global, words: &[&[u8]]) -> Result<Step, LineRefused>
+    ensures ok { IfOk result (λ step. words_step (map (λ word. word.now) words.now) ≡ Ok step) }
+    ensures err { IfErr result (IsRefusedAs (words_step (map (λ word. word.now) words.now))) }
+{
+    match words {
+        [verb, session, branches @ ..] if is_join(verb, branches) => {
+            join_words(alloc, session, branches)
+        }
+        [_, _, ..] => other_words(alloc, words),
         _ => Err(LineRefused::Syntax),
     }
 }

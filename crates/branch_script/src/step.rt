@@ -1,8 +1,9 @@
 // What a line of a script asks, and why a line asks nothing.
+use crate::branches::Branches;
 use branch_doc::{PlainOp, PlainQuery};
 use branch_names::{BadName, Name};
 use mrdt_model::Memory;
-use std::alloc::AllocError;
+use std::alloc::{AllocError, AllocFailed};
 use thiserror::Error;
 
 /// One step of a script over the typed document.
@@ -14,6 +15,8 @@ pub enum Step {
     Fork { new: Name, from: Name },
     /// The head of a branch is merged into the branch that a session sees.
     Merge { session: Name, branch: Name },
+    /// The heads of two to eight branches are merged at once into the branch that a session sees.
+    Join { session: Name, branches: Branches },
     /// A session lands an operation on the branch that it sees.
     Do { session: Name, op: PlainOp },
     /// A branch is asked at its head.
@@ -55,6 +58,17 @@ impl From<AllocError> for LineRefused {
     ghost from_gives = { λ _ error. error ≡ refusal.Memory };
 
     fn from(_: AllocError) -> LineRefused {
+        LineRefused::Memory
+    }
+}
+
+impl<T: Drop> From<AllocFailed<T>> for LineRefused {
+    ghost use Rattle.std.specs.Prelude.{◌≡◌};
+    ghost use Rattle.branch_script.specs.declared.step.LineRefused.TheVariants as refusal;
+
+    ghost from_gives = { λ _ error. error ≡ refusal.Memory };
+
+    fn from(_: AllocFailed<T>) -> LineRefused {
         LineRefused::Memory
     }
 }

@@ -11,4 +11,6 @@ mod generated;
 #[cfg(test)]
 mod help;
 #[cfg(test)]
+mod joins;
+#[cfg(test)]
 mod replies;
