@@ -119,9 +119,9 @@ module _ (terms : Terms) (moves : History) (r : ℕ) (there : r < length (store_
       made_twice SeesNew (merge_refusal document terms.limits commits (h ∷ ms)) (commit_refusal terms moves r h) (move.Join r ms) made o outcome
       (λ none. sees_moved (length commits) o (move.Join r ms) refl (join_stands ms (commit-tells document terms moves r h none).0)) is
 
-  pub merge-sees : (h m : ℕ) (outcome : Outcome) (made : OneMove) → turn document terms moves (machine.Merge r h (m ∷ [])) ≡ makes made outcome → SeesNew outcome made
+  pub merge-sees : (h : ℕ) (ms : List ℕ) (outcome : Outcome) (made : OneMove) → turn document terms moves (machine.Merge r h ms) ≡ makes made outcome → SeesNew outcome made
   unfolding turn
-  merge-sees h m outcome made is = merged_sees h (brought (graph_of (store_of terms.origin moves).commits) h (m ∷ [])) outcome made is
+  merge-sees h ms outcome made is = merged_sees h (brought (graph_of (store_of terms.origin moves).commits) h ms) outcome made is
 
 -- who sees a branch's head sees this, and the branch was not dropped
 abbrev pub SeesStanding : Seen → Kind DocReply → Terms → History → Type 0
@@ -133,8 +133,9 @@ lands_step : (terms : Terms) (history : History) (seen : Seen) (does : Work DocO
     → turn document terms history (step_of {Q = DocQuery} seen does) ≡ makes (move_of seen.branch does) (outcome_of k)
     → SeesStanding seen k terms (history ++ move_of seen.branch does ∷ [])
 lands_step terms history seen (work.Operation op reply) k there is = land-sees terms history seen.branch there seen.head op (outcome_of k) (move.Operation seen.branch op reply) is
-lands_step terms history seen (work.Merge commit) k there is = merge-sees terms history seen.branch there seen.head commit (outcome_of k) (move.Merge seen.branch commit) is
-lands_step terms history seen (work.Forward commit) k there is = merge-sees terms history seen.branch there seen.head commit (outcome_of k) (move.Forward seen.branch commit) is
+lands_step terms history seen (work.Merge commit) k there is = merge-sees terms history seen.branch there seen.head (commit ∷ []) (outcome_of k) (move.Merge seen.branch commit) is
+lands_step terms history seen (work.Join commits) k there is = merge-sees terms history seen.branch there seen.head commits (outcome_of k) (move.Join seen.branch commits) is
+lands_step terms history seen (work.Forward commit) k there is = merge-sees terms history seen.branch there seen.head (commit ∷ []) (outcome_of k) (move.Forward seen.branch commit) is
 
 -- after what was prepared has landed, its session sees the branch's new head, and the branch was not dropped
 pub lands-sees : {D : Type 0} (address : List ℕ → List ℕ) (old new : Store D) (seen : Seen) (does : Work DocOp DocReply) (k : Kind DocReply) (moves : ℕ) → seen.branch < length (store_of old.terms.origin old.history).branches
@@ -148,4 +149,5 @@ lands-sees {D} address old new seen does k moves there m =
 pub text-of_kind : (session branch : List ℕ) (k : Kind DocReply) → kind_text k ≡ outcome_text session branch (outcome_of k)
 text-of_kind session branch (kind.Operation commit time reply) = refl
 text-of_kind session branch (kind.Merged commit) = refl
+text-of_kind session branch (kind.Joined commit) = refl
 text-of_kind session branch (kind.Forward commit) = refl

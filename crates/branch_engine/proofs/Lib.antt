@@ -5,3 +5,4 @@ pub mod Landings
 pub mod Does
 pub mod Replies
 pub mod Merges
+pub mod Joins

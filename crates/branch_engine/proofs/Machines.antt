@@ -1,5 +1,5 @@
 -- The machine that keeps objects, beside the one that keeps none.
-use Rattle.std.proofs.Common.{◌≡◌, ◌∙◌, ℕ, List, [], ◌∷◌, refl, ap, None, Some}
+use Rattle.std.proofs.Common.{◌≡◌, ◌∙◌, ℕ, List, [], ◌∷◌, refl, ap, sym, None, Some}
 use Rattle.std.specs.Prelude.{Option}
 use Rattle.branch_history.specs.declared.moves.Move.{Move}
 use Rattle.branch_history.specs.Steps.{Step, Outcome, Refused, Refusal, Turn}
@@ -41,3 +41,14 @@ module _ {S O R Q A : Type 0} (fixed : Fixed S O R Q A) (moves : List (Move O R)
   full-turned made outcome is =
       let t = turn fixed.meaning fixed.terms moves step in
       made-unless (collision_refusal fixed moves) t made outcome (made-not_here (commit_here fixed moves step) (unless_made (collision_refusal fixed moves) t.made t) made outcome is)
+
+  -- a step with the same turn, where neither receives a commit, has the same
+  pub full-same : (other : Step O Q) → commit_here fixed moves step ≡ None → commit_here fixed moves other ≡ None → turn fixed.meaning fixed.terms moves step ≡ turn fixed.meaning fixed.terms moves other
+      → full_turn fixed moves step ≡ full_turn fixed moves other
+  unfolding full_turn
+  full-same other none_here none_there is =
+      let t = turn fixed.meaning fixed.terms moves step in
+      let u = turn fixed.meaning fixed.terms moves other in
+      ap (λ o. unless_here o (unless_made (collision_refusal fixed moves) t.made t)) none_here
+      ∙ ap (λ (t : Turn O R A). unless_made (collision_refusal fixed moves) t.made t) is
+      ∙ sym (ap (λ o. unless_here o (unless_made (collision_refusal fixed moves) u.made u)) none_there)

@@ -26,6 +26,7 @@ merge_of branch head other = machine.Merge branch head (other ∷ [])
 work_step : (pair : Pair) (does : Work DocOp DocReply) → IsWorkOf document pair does → step_of {Q = DocQuery} (seen_of pair) does ≡ merge_of pair.branch pair.head pair.other
 work_step pair (work.Operation op reply) is = absurd is
 work_step pair (work.Merge commit) is = ap (λ n. merge_of pair.branch pair.head n) is.0
+work_step pair (work.Join commits) is = absurd is
 work_step pair (work.Forward commit) is = ap (λ n. merge_of pair.branch pair.head n) is.0
 
 module _ (core : Core) (seen : Seen) (from : List ℕ) (pair : Pair) (paired : IsPaired document core seen from pair) where

@@ -13,16 +13,19 @@ use Rattle.branch_history.specs.Machine.{turn, answers, makes}
 use Rattle.branch_machine.specs.Machine.{commit_here, full_turn}
 use Rattle.branch_machine.specs.Validity.{IsFullyValid}
 use Rattle.branch_files.specs.Laws.{ReadsWhatStands}
-use Rattle.branch_script.specs.declared.step.Step.TheVariants.{Look, Fork, Merge, Do, Ask}
+use Rattle.branch_script.specs.declared.step.Step.TheVariants.{Look, Fork, Merge, Join, Do, Ask}
 use Rattle.branch_print.specs.Texts.{refusal_text, outcome_text, sees_text, forked_text, answer_text, unseen_text, line_end}
 use Rattle.branch_doc.specs.declared.plain.PlainOp.{PlainOp}
 use Rattle.branch_doc.specs.declared.plain.PlainQuery.{PlainQuery}
 use Rattle.branch_doc.specs.Document.{document}
 use Rattle.branch_doc.specs.Forms.{DocOp, DocReply, DocQuery, DocAnswer, doc_op, doc_query, plain_answer}
 use Rattle.store_seen.specs.declared.answers.Kind.{Kind}
+use Rattle.store_seen.specs.declared.answers.PairRefused.TheVariants as pair_refusal
+use Rattle.store_seen.specs.Groups.{AreHeads, GroupRefusedAs}
 use Rattle.store_seen.specs.Turns.{outcome_of}
 use Rattle.store_core.specs.Images.{WithOrWithout}
 use Rattle.store_core.specs.Turns.{Moves}
+use Rattle.store_core.specs.Views.{held}
 use Rattle.branch_engine.specs.Sessions.{seen_by}
 use Rattle.branch_engine.specs.Play.{History, Play, Told, told, turn_told, with_sight, sight_after, step_told}
 use Rattle.branch_engine.specs.Readings.{doc_fixed, ReadAs, ReadAsEither}
@@ -31,7 +34,8 @@ use Rattle.branch_engine.specs.Engines as engines
 use Rattle.branch_engine.proofs.Machines.{full-answers}
 use Rattle.branch_engine.proofs.Played.{IsWhole, turn-at, at-more, at-still, at-put, at-kept}
 use Rattle.branch_engine.proofs.Landings.{text-of_kind}
-use Rattle.branch_engine.proofs.Turned.{told-look, told-fork, told-unseen, told-do, told-unmerged, told-merge, told-merge_unknown, told-ask, told-ask_refused}
+use Rattle.branch_engine.proofs.Joins.{LooksAlike, heads-are, heads-unknown}
+use Rattle.branch_engine.proofs.Turned.{told-look, told-fork, told-unseen, told-do, told-unmerged, told-merge, told-merge_unknown, told-unjoined, told-join, told-join_unknown, told-ask, told-ask_refused}
 use Rattle.branch_engine.proofs.Does.{Members, IsTold, IsHalfTold, told-by, Works}
 
 -- the turn of a fork
@@ -52,6 +56,9 @@ do_telling session op fixed p = step_told fixed p (Do session op)
 
 abbrev pub merge_telling : List ℕ → List ℕ → Telling
 merge_telling session from fixed p = step_told fixed p (Merge session from)
+
+abbrev pub join_telling : List ℕ → List (List ℕ) → Telling
+join_telling session from fixed p = step_told fixed p (Join session from)
 
 abbrev pub turn_telling : List ℕ → ℕ → machine.Step DocOp DocQuery → Telling
 turn_telling session number step fixed p = turn_told fixed p session number step
@@ -208,6 +215,22 @@ module _ {D : Type 0} (m : Members D) (address : List ℕ → List ℕ) (old : E
       told-by m address terms old (step_told (doc_fixed address terms) p (Merge session from)) _ (unseen_text session ++ line_end)
       (told-unmerged (doc_fixed address terms) p session from (sym (at.sights session) ∙ ap (option_map sight_of) none)) at refl
 
+  pub unjoined : (session : List ℕ) (from : List (List ℕ)) → session_named old.sessions session ≡ None → IsTold m address (join_telling session from) old old (unseen_text session ++ line_end)
+  unjoined session from none terms p at =
+      told-by m address terms old (step_told (doc_fixed address terms) p (Join session from)) _ (unseen_text session ++ line_end)
+      (told-unjoined (doc_fixed address terms) p session from (sym (at.sights session) ∙ ap (option_map sight_of) none)) at refl
+
+  -- what the core answers to looks is told over the play
+  looks_alike : (terms : Terms) (p : Play) → Is terms old p → LooksAlike (doc_fixed address terms) p (held old.core)
+  looks_alike terms p at name outcome is =
+      at-play terms p at (machine.Look name) (answers outcome) (full-answers (doc_fixed address old.core.terms) old.core.history (machine.Look name) outcome refl is)
+
+  -- steps with the same turn are told alike
+  pub told-alike : (session : List ℕ) (number : ℕ) (step other : machine.Step DocOp DocQuery) → turn_of step ≡ turn_of other
+      → (terms : Terms) (p : Play) → Is terms old p → turn_told (doc_fixed address terms) p session number step ≡ turn_told (doc_fixed address terms) p session number other
+  told-alike session number step other same terms p at =
+      ap (told p session number (name_of (store_of terms.origin p.moves).branches number)) (at-play terms p at step (turn_of other) same ∙ sym (at-play terms p at other (turn_of other) refl))
+
   -- a step of the machine that is refused, or moves nothing: the session sees what it saw
   pub turn_stays : (session : List ℕ) (number : ℕ) (step : machine.Step DocOp DocQuery) (outcome : machine.Outcome DocAnswer DocReply) → turn_of step ≡ answers outcome
       → sight_after number outcome ≡ None → IsTold m address (turn_telling session number step) old old (outcome_text session (name_of (store_of old.core.terms.origin old.core.history).branches number) outcome ++ line_end)
@@ -275,3 +298,17 @@ module _ {D : Type 0} (m : Members D) (address : List ℕ → List ℕ) (old : E
     merge_unknown from refusal looks terms p at =
         told-by m address terms old (step_told (doc_fixed address terms) p (Merge session from)) _ (refusal_text from refusal ++ line_end)
         (told-merge_unknown (doc_fixed address terms) p session from (sight_of seen) refusal (sight terms p at) (at-play terms p at (machine.Look from) (answers (machine.Refused refusal)) looks)) at refl
+
+    -- and so is a join of the heads of several
+    pub join_as : (from : List (List ℕ)) (heads : List ℕ) → AreHeads document (held old.core) from heads
+        → (terms : Terms) (p : Play) → Is terms old p → step_told (doc_fixed address terms) p (Join session from) ≡ turn_told (doc_fixed address terms) p session seen.branch (machine.Merge seen.branch seen.head heads)
+    join_as from heads are terms p at =
+        told-join (doc_fixed address terms) p session from (sight_of seen) heads (sight terms p at) (heads-are (doc_fixed address terms) p (held old.core) (looks_alike terms p at) from heads are)
+
+    pub join_unknown : (from : List (List ℕ)) (named : List ℕ) → GroupRefusedAs document (held old.core) from (pair_refusal.UnknownBranch named)
+        → IsTold m address (join_telling session from) old old (refusal_text [] (machine.UnknownBranch named) ++ line_end)
+    join_unknown from named refused terms p at =
+        let (before, behind, heads, is, are, unknown) = refused in
+        told-by m address terms old (step_told (doc_fixed address terms) p (Join session from)) _ (refusal_text [] (machine.UnknownBranch named) ++ line_end)
+        (told-join_unknown (doc_fixed address terms) p session from (sight_of seen) named (sight terms p at)
+        (heads-unknown (doc_fixed address terms) p (held old.core) (looks_alike terms p at) from before behind named heads is are unknown)) at refl

@@ -13,11 +13,14 @@ use Rattle.branch_names.specs.declared.terms.Terms.{Terms}
 use Rattle.branch_names.specs.Heads.{head_of}
 use Rattle.branch_history.specs.History.{store_of}
 use Rattle.branch_history.specs.declared.moves.Move.{Move}
+use Rattle.branch_history.specs.Steps.{UnknownBranch}
 use Rattle.store_seen.specs.Views.{CoreView, SeenView}
 use Rattle.store_seen.specs.declared.answers.Kind.{Kind}
 use Rattle.store_seen.specs.declared.answers.Kind.TheVariants as kind
+use Rattle.store_seen.specs.declared.answers.PairRefused.{PairRefused}
+use Rattle.store_seen.specs.declared.answers.PairRefused.TheVariants as pair_refusal
 use Rattle.store_core.specs.Views.{StoreView, held}
-use Rattle.branch_print.specs.Texts.{landed_text, merged_text, forward_text}
+use Rattle.branch_print.specs.Texts.{landed_text, merged_text, joined_text, forward_text, refusal_text, line_end}
 use Rattle.branch_doc.specs.Forms.{DocOp, DocReply, plain_reply}
 use Rattle.branch_engine.specs.Sessions.{Sight, seen_by}
 use Rattle.branch_engine.specs.Play.{DocFixed, History, Play, Told}
@@ -128,4 +131,10 @@ pub record Does {D : Type 0} (may_leave : D → Files → Type 0) (moment : D �
 abbrev pub kind_text : Kind DocReply → List ℕ
 kind_text (kind.Operation commit time reply) = landed_text commit time (plain_reply reply)
 kind_text (kind.Merged commit) = merged_text commit
+kind_text (kind.Joined commit) = joined_text commit
 kind_text (kind.Forward commit) = forward_text commit
+
+-- what is told of a look that was not grouped with branches: the name that no branch has, and of want of memory nothing
+abbrev pub ungrouped_text : PairRefused → List ℕ
+ungrouped_text (pair_refusal.UnknownBranch name) = refusal_text [] (UnknownBranch name) ++ line_end
+ungrouped_text pair_refusal.Memory = []

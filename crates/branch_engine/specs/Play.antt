@@ -10,7 +10,7 @@ use Rattle.branch_history.specs.Steps as machine
 use Rattle.branch_machine.specs.Fixed.{Fixed}
 use Rattle.branch_machine.specs.Machine.{full_turn}
 use Rattle.branch_script.specs.declared.step.Step.{Step}
-use Rattle.branch_script.specs.declared.step.Step.TheVariants.{Look, Fork, Merge, Do, Ask}
+use Rattle.branch_script.specs.declared.step.Step.TheVariants.{Look, Fork, Merge, Join, Do, Ask}
 use Rattle.branch_script.specs.declared.step.LineRefused.{LineRefused}
 use Rattle.branch_script.specs.Script.{step_of}
 use Rattle.branch_print.specs.Texts.{outcome_text, line_refusal_text, unseen_text, line_end}
@@ -77,6 +77,30 @@ abbrev pub merge_told : DocFixed → Play → List ℕ → List ℕ → Option S
 merge_told fixed p session from None = says p (unseen_text session)
 merge_told fixed p session from (Some sight) = head_merged_told fixed p session from sight (full_turn fixed p.moves (machine.Look from)).outcome
 
+-- the heads of the branches with these names, or the first of the names that no branch has
+abbrev pub and_head : List ℕ → machine.Outcome DocAnswer DocReply → Result (List ℕ) (List ℕ) → Result (List ℕ) (List ℕ)
+and_head name (machine.Sees number head) (Ok heads) = Ok (head ∷ heads)
+and_head name (machine.Sees number head) (Err unknown) = Err unknown
+and_head name outcome rest = Err name
+
+abbrev pub heads_named : DocFixed → Play → List (List ℕ) → Result (List ℕ) (List ℕ)
+heads_named fixed p [] = Ok []
+heads_named fixed p (name ∷ names) =
+    and_head name (full_turn fixed p.moves (machine.Look name)).outcome (heads_named fixed p names)
+
+-- a join of branches into the one that a session sees, given their heads: all of them are merged at once
+abbrev pub heads_joined_told : DocFixed → Play → List ℕ → Sight → Result (List ℕ) (List ℕ) → Told
+heads_joined_told fixed p session sight (Err name) =
+    says p (outcome_text session name (machine.Refused (machine.UnknownBranch name)))
+heads_joined_told fixed p session sight (Ok heads) =
+    turn_told fixed p session sight.branch (machine.Merge sight.branch sight.head heads)
+
+-- and given the names of the branches, and what the session sees, if anything
+abbrev pub join_told : DocFixed → Play → List ℕ → List (List ℕ) → Option Sight → Told
+join_told fixed p session from None = says p (unseen_text session)
+join_told fixed p session from (Some sight) =
+    heads_joined_told fixed p session sight (heads_named fixed p from)
+
 -- a query at a branch, given the outcome of a look at it: it is asked at the head
 abbrev pub ask_told : DocFixed → Play → List ℕ → DocQuery → machine.Outcome DocAnswer DocReply → Told
 ask_told fixed p branch query (machine.Sees number head) = says p (outcome_text [] branch (full_turn fixed p.moves (machine.Ask head query)).outcome)
@@ -86,6 +110,7 @@ unfoldable pub step_told : DocFixed → Play → Step → Told
 step_told fixed p (Look session branch) = told p session 0 branch (full_turn fixed p.moves (machine.Look branch))
 step_told fixed p (Fork new from) = told p [] 0 new (full_turn fixed p.moves (machine.Fork new from))
 step_told fixed p (Merge session from) = merge_told fixed p session from (seen_by p.sessions session)
+step_told fixed p (Join session from) = join_told fixed p session from (seen_by p.sessions session)
 step_told fixed p (Do session op) = do_told fixed p session (doc_op op) (seen_by p.sessions session)
 step_told fixed p (Ask branch query) = ask_told fixed p branch (doc_query query) (full_turn fixed p.moves (machine.Look branch)).outcome
 

@@ -1,5 +1,5 @@
 // The engine of a script: a core on a disk, and what each session sees.
-ghost use Rattle.std.specs.Prelude.{◌≡◌, ◌<◌, ◌++◌, [], length, Ok, Err, OnOk, OnErr, false};
+ghost use Rattle.std.specs.Prelude.{◌≡◌, ◌<◌, ◌≤◌, ◌++◌, [], length, Ok, Err, IsErr, OnOk, OnErr, false};
 ghost use mathlib.Core.List.{IsPrefix};
 ghost use Rattle.branch_names.specs.Heads.{name_of, IsKeptBranch};
 ghost use Rattle.branch_history.specs.History.{store_of};
@@ -9,9 +9,10 @@ ghost use Rattle.store_core.specs.Views.{held};
 ghost use Rattle.branch_print.specs.Texts.{refusal_text, line_end};
 ghost use Rattle.mrdt_model.specs.Spelled.{AppendsPart};
 ghost use Rattle.branch_engine.specs.Readings.{doc_fixed};
-ghost use Rattle.branch_engine.specs.Engines.{IsAt, Does, Puts, KeepsLooks, SeesHead, kind_text};
+ghost use Rattle.branch_engine.specs.Engines.{IsAt, Does, Puts, KeepsLooks, SeesHead, kind_text, ungrouped_text};
 ghost use Rattle.branch_engine.specs.Play.{begins, turn_told, step_told, line_told};
 ghost use Rattle.branch_script.specs.declared.step.Step.TheVariants as step;
+ghost use Rattle.store_seen.specs.declared.answers.PairRefused.TheVariants as pair_refusal;
 
 use crate::refused::TellRefused;
 use branch_address::Address;
@@ -24,7 +25,7 @@ use branch_print::refusals::{
     put_line_refusal, put_stale, put_taken, put_too_large, put_unknown, put_unseen,
 };
 use branch_print::replies::{
-    put_answer, put_forked, put_forward, put_landed, put_merged, put_same, put_sees,
+    put_answer, put_forked, put_forward, put_joined, put_landed, put_merged, put_same, put_sees,
 };
 use branch_script::{LineRefused, Step, read_line};
 use mrdt_doc::Doc;
@@ -84,7 +85,20 @@ fn put_kind(out: &mut Vec<u8>, kind: Kind<DocReply>) -> Result<(), Memory>
             reply,
         } => put_landed(out, commit, time, &branch_doc::reply(reply)),
         Kind::Merged { commit } => put_merged(out, commit),
+        Kind::Joined { commit } => put_joined(out, commit),
         Kind::Forward { commit } => put_forward(out, commit),
+    }
+}
+
+// A look was not grouped with branches: the name that no branch has.
+fn put_ungrouped(out: &mut Vec<u8>, refused: PairRefused) -> Result<(), Memory>
+    ensures ok { OnOk result (out.new.items ≡ out.old.items ++ ungrouped_text refused) }
+    ensures err { OnErr result (AppendsPart out.old.items out.new.items (ungrouped_text refused)) }
+    ensures memory { refused ≡ pair_refusal.Memory → (out.new.items ≡ out.old.items) × IsErr result }
+{
+    match refused {
+        PairRefused::UnknownBranch { name } => put_unknown(out, &name),
+        PairRefused::Memory => Err(Memory),
     }
 }
 
@@ -234,6 +248,35 @@ impl<D: Disk + Drop, A: Address> Engine<D, A> {
         }
     }
 
+    // The heads of several branches are merged at once into the branch that a session sees.
+    fn join(&mut self, out: &mut Vec<u8>, session: &Name, from: &[Name]) -> Result<(), TellRefused>
+        requires working { self.old.core.failed ≡ false }
+        requires some { 1 ≤ length from.now }
+        requires few { length from.now ≤ 8 }
+        ensures { Does D.may_leave D.moment D.left_since D.faults A.address (λ fixed p. step_told fixed p (step.Join session.now from.now)) self.old self.new out.old.items out.new.items result }
+    {
+        let Some(seen) = self.sessions.get(session) else {
+            return replied(put_unseen(out, session));
+        };
+        let branch = seen.branch();
+        let group = match self.core.group(seen, from) {
+            Ok(group) => group,
+            Err(refused) => return replied(put_ungrouped(out, refused)),
+        };
+        match group.prepare() {
+            Ok(PairStep::Same) => replied(put_same(out)),
+            Ok(PairStep::Land(prepared)) => {
+                // The core lands in place where no group shares its nodes.
+                drop(group);
+                self.move_on(out, session, branch, prepared)
+            }
+            Err(PairPrepareRefused::ValueTooLarge { length }) => replied(put_too_large(
+                out, length,
+            )),
+            Err(PairPrepareRefused::Memory) => Err(TellRefused::Memory),
+        }
+    }
+
     // Lands what was prepared for a session on the branch of this number. The session then sees the new head.
     fn move_on(
         &mut self,
@@ -287,6 +330,7 @@ impl<D: Disk + Drop, A: Address> Engine<D, A> {
             Step::Look { session, branch } => self.look(out, &session, &branch),
             Step::Fork { new, from } => self.fork(out, &new, &from),
             Step::Merge { session, branch } => self.merge(out, &session, &branch),
+            Step::Join { session, branches } => self.join(out, &session, branches.as_slice()),
             Step::Do { session, op } => self.land(out, &session, op),
             Step::Ask { branch, query } => self.ask(out, &branch, query),
         }

@@ -3,7 +3,7 @@ use Rattle.std.proofs.Common.{◌≡◌, ℕ, List, [], ◌∷◌, ◌++◌, len
 use Rattle.std.specs.List.{AllByRecursion}
 use Rattle.branch_history.specs.declared.moves.Move.{Move}
 use Rattle.store_seen.specs.Turns.{move_of}
-use Rattle.store_seen.specs.Views.{Work, Operation, Merge, Forward}
+use Rattle.store_seen.specs.Views.{Work, Operation, Merge, Join, Forward}
 use Rattle.branch_shared.specs.Keeps.{IsNoDrop}
 
 -- what a list has behind its front
@@ -16,6 +16,7 @@ module _ {O R : Type 0} where
   pub lands-no_drop : (branch : ℕ) (work : Work O R) → IsNoDrop (move_of branch work)
   lands-no_drop branch (Operation op reply) = tt
   lands-no_drop branch (Merge commit) = tt
+  lands-no_drop branch (Join commits) = tt
   lands-no_drop branch (Forward commit) = tt
 
   pub all-more : (moves : List (Move O R)) (made : Move O R) → AllByRecursion IsNoDrop moves → IsNoDrop made → AllByRecursion IsNoDrop (moves ++ made ∷ [])

@@ -9,6 +9,7 @@ ghost use Rattle.branch_history.specs.Machine.{turn, answers};
 ghost use Rattle.branch_history.specs.Steps as machine;
 ghost use Rattle.branch_machine.specs.Fixed.{fix};
 ghost use Rattle.branch_machine.specs.Validity.{IsFullyValid};
+ghost use Rattle.store_seen.specs.Groups.{IsGrouped, GroupRefusedAs};
 ghost use Rattle.store_seen.specs.Pairs.{IsPaired, PairRefusedAs};
 ghost use Rattle.store_seen.specs.Turns.{LookRefusedAs};
 ghost use Rattle.branch_shared.specs.Keeps.{IsNoDrop, faults_since, front_of};
@@ -23,7 +24,8 @@ use branch_names::Name;
 use mrdt_model::Mrdt;
 use std::marker::{Brand, Model, PhantomData};
 use store_core::{
-    Addressed, Core, ForkRefused, Forked, LandRefused, Landed, LookRefused, Pair, PairRefused, Seen,
+    Addressed, Core, ForkRefused, Forked, Group, LandRefused, Landed, LookRefused, Pair,
+    PairRefused, Seen,
 };
 
 /// What lies under the lock of a shared store: its core, and the writer, which knows the core's history and faults.
@@ -90,6 +92,31 @@ impl<T: Mrdt, D: Disk + Drop, A: Address, N: Named<T::Op, T::Reply>> Kept<T, D, 
     {
         see(front, &mut self.writer, pass, &self.core);
         self.core.pair(seen, from)
+    }
+
+    /// Groups a look with the heads that branches have now, for the pass.
+    pub(crate) fn group(
+        &mut self,
+        front: &Front<MoveOf<T>>,
+        pass: &mut Pass<T, N>,
+        seen: &Seen<T>,
+        from: &[Name],
+    ) -> Result<Group<T>, PairRefused>
+        requires front { front.now ≡ front_of N.table N.begun N.parts }
+        requires history { IsPrefix seen.now.history pass.old.moves }
+        requires terms { seen.now.terms ≡ N.terms }
+        requires some { 1 ≤ length from.now }
+        requires few { length from.now ≤ 8 }
+        ensures prefix { IsPrefix pass.old.moves pass.new.moves }
+        ensures begun { IsPrefix N.begun pass.new.moves }
+        ensures valid { IsFullyValid (fix T.meaning N.terms A.address) pass.new.moves }
+        ensures faults { pass.old.faults ≤ pass.new.faults }
+        ensures rest { IsSeenOn pass.old pass.new }
+        ensures grouped { IfOk result (IsGrouped T.meaning (seen_by pass.new N.terms) seen.now from.now) }
+        ensures refused { IfErr result (GroupRefusedAs T.meaning (seen_by pass.new N.terms) from.now) }
+    {
+        see(front, &mut self.writer, pass, &self.core);
+        self.core.group(seen, from)
     }
 
     /// Lands what was prepared, for the pass. It sees first: only so is it known that what was prepared was made on a

@@ -6,6 +6,7 @@ ghost use Rattle.branch_history.specs.Machine.{turn, answers};
 ghost use Rattle.branch_history.specs.Steps as machine;
 ghost use Rattle.branch_machine.specs.Fixed.{fix};
 ghost use Rattle.branch_machine.specs.Validity.{IsFullyValid};
+ghost use Rattle.store_seen.specs.Groups.{IsGrouped, GroupRefusedAs};
 ghost use Rattle.store_seen.specs.Pairs.{IsPaired, PairRefusedAs};
 ghost use Rattle.store_seen.specs.Turns.{LookRefusedAs};
 ghost use Rattle.branch_shared.specs.Keeps.{DropsNone, faults_since};
@@ -25,14 +26,14 @@ use std::alloc::Global;
 use std::marker::{Model, PhantomData};
 use std::sync::{Mutex, Wait};
 use store_core::{
-    Addressed, Core, ForkRefused, Forked, LandRefused, Landed, LookRefused, Pair, PairRefused,
-    Prepared, Seen,
+    Addressed, Core, ForkRefused, Forked, Group, LandRefused, Landed, LookRefused, Pair,
+    PairRefused, Prepared, Seen,
 };
 
 /// A store that threads share by reference. What it began with, its terms and the number of its parts are those that N
 /// names. Contracts see the front's `Opening`.
 ///
-/// `look`, `pair`, `land` and `fork` wait for the one lock, and do under it what one event of the store is. After each
+/// `look`, `pair`, `group`, `land` and `fork` wait for the one lock, and do under it what one event of the store is. After each
 /// of them, refused or not, the pass has seen a beginning of the one history, no shorter than the one that it had seen, and
 /// the answer is the machine's there. That this is all of the history up to the call is how the code goes: no contract can
 /// say it of callers that never met.
@@ -156,6 +157,30 @@ impl<T: Mrdt, D: Disk + Drop, A: Address, N: Named<T::Op, T::Reply>> Shared<T, D
         ensures refused { IfErr result (PairRefusedAs T.meaning (seen_by pass.new N.terms) from.now) }
     {
         self.kept.lock(rt).pair(&self.front, pass, seen, from)
+    }
+
+    /// Groups a look, taken now or earlier, with the heads that one to eight branches have now, also where the disk has
+    /// failed. `UnknownBranch` comes exactly where no branch has one of the names, and tells the first such one.
+    pub fn group<R: Wait>(
+        &self,
+        rt: &R,
+        pass: &mut Pass<T, N>,
+        seen: &Seen<T>,
+        from: &[Name],
+    ) -> Result<Group<T>, PairRefused>
+        requires history { IsPrefix seen.now.history pass.old.moves }
+        requires terms { seen.now.terms ≡ N.terms }
+        requires some { 1 ≤ length from.now }
+        requires few { length from.now ≤ 8 }
+        ensures prefix { IsPrefix pass.old.moves pass.new.moves }
+        ensures begun { IsPrefix N.begun pass.new.moves }
+        ensures valid { IsFullyValid (fix T.meaning N.terms A.address) pass.new.moves }
+        ensures faults { pass.old.faults ≤ pass.new.faults }
+        ensures rest { IsSeenOn pass.old pass.new }
+        ensures grouped { IfOk result (IsGrouped T.meaning (seen_by pass.new N.terms) seen.now from.now) }
+        ensures refused { IfErr result (GroupRefusedAs T.meaning (seen_by pass.new N.terms) from.now) }
+    {
+        self.kept.lock(rt).group(&self.front, pass, seen, from)
     }
 
     /// Lands what was prepared on a look, now or earlier. After `Ok` the last move that the pass has seen is this one.

@@ -2,7 +2,7 @@
 use Rattle.std.proofs.Common.{zero, suc, ◌≡◌, ℕ, ◌==◌, ◌⊎◌, inl, inr, Bool, true, false, List, ◌∷◌, codes, refl, subst, ◌∙◌, if◌then◌else◌, Some}
 use Rattle.std.specs.Prelude.{slice_get, take}
 use Rattle.branch_script.specs.declared.step.Step.{Step}
-use Rattle.branch_script.specs.declared.step.Step.TheVariants.{Look, Fork, Merge, Do, Ask}
+use Rattle.branch_script.specs.declared.step.Step.TheVariants.{Look, Fork, Merge, Join, Do, Ask}
 use Rattle.branch_gen.specs.Draws.{next, pick, Drawn}
 use Rattle.branch_gen.specs.Clients.{own, top, step_for, step, drawn_steps}
 use Rattle.parallel_clients.specs.Played.{Sights, sights_after}
@@ -18,6 +18,7 @@ IsOfBoth branch name = (name ≡ codes "main") ⊎ (name ≡ branch)
 abbrev pub IsDrawn : List ℕ → Step → Type 0
 IsDrawn branch (Do session op) = IsSession session
 IsDrawn branch (Merge session from) = IsSession session × IsOfBoth branch from
+IsDrawn branch (Join session from) = ⊥
 IsDrawn branch (Look session from) = ⊥
 IsDrawn branch (Fork new from) = ⊥
 IsDrawn branch (Ask from query) = ⊥
@@ -50,6 +51,7 @@ module _ (branch : List ℕ) where
   one-sees : (s : Step) (rest : List Step) (sights : Sights) → IsDrawn branch s → sights_after (s ∷ rest) sights ≡ sights_after rest sights
   one-sees (Do session op) rest sights is = refl
   one-sees (Merge session from) rest sights is = refl
+  one-sees (Join session from) rest sights is = absurd is
   one-sees (Look session from) rest sights is = absurd is
   one-sees (Fork new from) rest sights is = absurd is
   one-sees (Ask from query) rest sights is = absurd is

@@ -24,7 +24,7 @@ use Rattle.branch_machine.specs.Laws.{MakesFewerMoves, HasFullyValidPrefixes}
 use Rattle.branch_machine.specs.Validity.{IsFullyValid}
 use Rattle.branch_doc.specs.declared.plain.PlainOp.{PlainOp}
 use Rattle.branch_script.specs.declared.step.Step.{Step}
-use Rattle.branch_script.specs.declared.step.Step.TheVariants.{Look, Fork, Merge, Do, Ask}
+use Rattle.branch_script.specs.declared.step.Step.TheVariants.{Look, Fork, Merge, Join, Do, Ask}
 use Rattle.branch_gen.specs.Clients.{client_branch, own, top, drawn_steps, client_steps}
 use Rattle.branch_shared.specs.Keeps.{IsNoDrop, DropsNone}
 use Rattle.parallel_clients.specs.declared.outcome.ClientRefusal.{ClientRefusal}
@@ -32,7 +32,7 @@ use Rattle.parallel_clients.specs.declared.outcome.ClientRefusal.TheVariants as 
 use Rattle.parallel_clients.specs.declared.outcome.Outcome.{Outcome}
 use Rattle.parallel_clients.specs.declared.outcome.Outcome.TheVariants.{Done, Refused, Unseen}
 use Rattle.parallel_clients.specs.Played.{Sights, no_sights, with_sight, sights_after, WasHead, HasBranch, IsForked, TakesOne, IfSees, PlayedFrom, Played}
-use Rattle.parallel_clients.specs.Outcomes.{Setting, RefusesStep, StepRefused, SeesNone, ComesTo}
+use Rattle.parallel_clients.specs.Outcomes.{Setting, RefusesLook, RefusesJoin, RefusesStep, StepRefused, SeesNone, ComesTo}
 use Rattle.client_runs.specs.Worked.{MayRefuse, MayComeTo}
 use Rattle.client_runs.proofs.Drawn.{IsSession, IsOfBoth, IsDrawn, steps-drawn, steps-see}
 use Rattle.client_runs.proofs.Reasons.{Says, reason-full, says-look, says-fork, says-land, says-merge}
@@ -46,6 +46,7 @@ abbrev Knows : {O R : Type 0} → ℕ → List (Move O R) → Step → Type 0
 Knows origin moves (Look session from) = IsThere origin moves from
 Knows origin moves (Fork new from) = IsThere origin moves from
 Knows origin moves (Merge session from) = IsThere origin moves from
+Knows origin moves (Join session from) = AllByRecursion (IsThere origin moves) from
 Knows origin moves (Do session op) = Unit {0}
 Knows origin moves (Ask from query) = IsThere origin moves from
 
@@ -184,6 +185,7 @@ module _ {O R : Type 0} (origin : ℕ) (old moves : List (Move O R)) (on : GoesO
   drawn-knows : (branch : List ℕ) (s : Step) → IsThere origin moves branch → IsDrawn branch s → Knows origin moves s
   drawn-knows branch (Do session op) there is = tt
   drawn-knows branch (Merge session from) there is = both-there branch from there is.1
+  drawn-knows branch (Join session from) there is = absurd is
   drawn-knows branch (Look session from) there is = absurd is
   drawn-knows branch (Fork new from) there is = absurd is
   drawn-knows branch (Ask from query) there is = absurd is
@@ -221,6 +223,7 @@ session-started branch session is none =
 drawn-sees : (branch : List ℕ) (s : Step) → IsDrawn branch s → SeesNone (started branch) s → ⊥
 drawn-sees branch (Do session op) is none = session-started branch session is none
 drawn-sees branch (Merge session from) is none = session-started branch session is.0 none
+drawn-sees branch (Join session from) is none = absurd is
 drawn-sees branch (Look session from) is none = absurd is
 drawn-sees branch (Fork new from) is none = absurd is
 drawn-sees branch (Ask from query) is none = absurd is
@@ -262,7 +265,16 @@ module _ {S O R Q A : Type 0} (on : Setting S O R Q A) (moves : List (Move O R))
       ⊎ ((number head source commit : ℕ) × WasHead on.fixed.terms.origin moves branch number head × WasHead on.fixed.terms.origin moves from source commit × FullyRefuses on.fixed moves (machine.Merge number head (commit ∷ [])) why)) why
       (λ branch does. ⊎_elim
       (λ look. says-full (machine.Look from) why (says-look on.fixed moves within (λ name. ⊥) from why knows) look)
-      (λ merge. says-full (machine.Merge merge.0 merge.1 (merge.3 ∷ [])) why (says-merge on.fixed moves within (λ name. ⊥) merge.0 merge.1 merge.3 why) merge.6)
+      (λ merge. says-full (machine.Merge merge.0 merge.1 (merge.3 ∷ [])) why (says-merge on.fixed moves within (λ name. ⊥) merge.0 merge.1 (merge.3 ∷ []) why) merge.6)
+      does)
+      is
+  knows-says sights (Join session from) why knows is =
+      says-seen (sights session) (λ branch. RefusesLook on moves from why ⊎ RefusesJoin on moves branch from why) why
+      (λ branch does. ⊎_elim
+      (λ look.
+      let there = all-second (IsThere on.fixed.terms.origin moves) look.first (look.name ∷ look.rest) (subst (AllByRecursion (IsThere on.fixed.terms.origin moves)) look.is knows) in
+      says-full (machine.Look look.name) why (says-look on.fixed moves within (λ name. ⊥) look.name why there.0) look.refused)
+      (λ join. says-full (machine.Merge join.number join.head join.heads) why (says-merge on.fixed moves within (λ name. ⊥) join.number join.head join.heads why) join.refused)
       does)
       is
 

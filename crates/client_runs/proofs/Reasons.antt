@@ -14,11 +14,10 @@ use Rattle.branch_history.specs.Commits.{Commit, graph_of, clock_of, visible, vi
 use Rattle.branch_history.specs.History.{store_of}
 use Rattle.branch_history.specs.Merging.{brought}
 use Rattle.branch_history.specs.Laws.{IsWithin}
-use Rattle.branch_history.specs.Steps.{Step, Look, Fork, Land, Merge, Refusal, UnknownBranch, NameTaken, Dropped, KeepsMain, Stale, Exhausted, FullCommits, FullBranches, FullMoves, ValueTooLarge, OwnOrigin, TimeClash, BadBundle, Collision, Outcome, Sees, Forked, Landed, Merged, Forwarded, Same, Here, Refused, Turn}
+use Rattle.branch_history.specs.Steps.{Step, Look, Fork, Land, Merge, Refusal, UnknownBranch, NameTaken, Dropped, KeepsMain, Stale, Exhausted, FullCommits, FullBranches, FullMoves, ValueTooLarge, OwnOrigin, TimeClash, BadBundle, Collision, Outcome, Sees, Forked, Landed, Merged, Joined, Forwarded, Same, Here, Refused, Turn}
 use Rattle.branch_history.specs.Machine.{refusal_if, event_made, event_length, operation_refusal, merge_refusal, move_refusal, room_refusal, forward_refusal, commit_refusal, fork_refusal, answers, makes, unless, look_turn, fork_turn, merge_turn, turn}
 use Rattle.branch_machine.specs.Fixed.{Fixed}
 use Rattle.branch_machine.specs.Objects.{objects_of, new_objects}
-use Rattle.branch_history.proofs.Merging.{brought-one, brought-none}
 use Rattle.branch_machine.proofs.Stored.{same-eq, same-refl}
 use Rattle.branch_machine.specs.Machine.{collision_refusal, commit_here, unless_here, unless_made, full_turn}
 
@@ -221,29 +220,25 @@ module _ {S O R Q A : Type 0} (fixed : Fixed S O R Q A) (moves : List (Move O R)
   says-same : (why : Refusal) → answers {O = O} {R = R} {A = A} Same ≡ answers (Refused why) → P why
   says-same why e = let told : ◌≡◌ {A = Outcome A R} Same (Refused why) = ap (λ (t : Turn O R A). t.outcome) e in let never : ⊥ = cc in absurd never
 
-  pub says-merge : (r h m : ℕ) (why : Refusal) → turn meaning terms moves (Merge r h (m ∷ [])) ≡ answers (Refused why) → P why
+  pub says-merge : (r h : ℕ) (ms : List ℕ) (why : Refusal) → turn meaning terms moves (Merge r h ms) ≡ answers (Refused why) → P why
   unfolding turn
-  says-merge r h m why is = by-above (reaches graph h m) refl
+  says-merge r h ms why is = by-brought (brought (graph_of commits) h ms) is
     where
-      graph : List (List ℕ)
-      graph = graph_of commits
-
-      up : Turn O R A
-      up = unless (forward_refusal terms moves r h) (makes (move.Forward r m) (Forwarded m))
-
-      apart : Turn O R A
-      apart = unless (merge_refusal meaning terms.limits commits (h ∷ m ∷ [])) (unless (commit_refusal terms moves r h) (makes (move.Merge r m) (Merged (length commits))))
-
-      by-below : (above : Bool) → (if above then up else apart) ≡ answers (Refused why) → P why
-      by-below true e = reason-unless P (forward_refusal terms moves r h) (makes (move.Forward r m) (Forwarded m)) why (says-forward r h) (reason-makes P (move.Forward r m) (Forwarded m) why) e
-      by-below false e =
-          reason-unless P (merge_refusal meaning terms.limits commits (h ∷ m ∷ [])) (unless (commit_refusal terms moves r h) (makes (move.Merge r m) (Merged (length commits)))) why (says-merging (h ∷ m ∷ []))
-          (reason-unless P (commit_refusal terms moves r h) (makes (move.Merge r m) (Merged (length commits))) why (says-commit r h) (reason-makes P (move.Merge r m) (Merged (length commits)) why))
+      -- a new commit with these parents
+      by-new : (parents : List ℕ) (made : Move O R) (outcome : Outcome A R)
+          → unless (merge_refusal meaning terms.limits commits parents) (unless (commit_refusal terms moves r h) (makes made outcome)) ≡ answers (Refused why) → P why
+      by-new parents made outcome e =
+          reason-unless P (merge_refusal meaning terms.limits commits parents) (unless (commit_refusal terms moves r h) (makes made outcome)) why (says-merging parents)
+          (reason-unless P (commit_refusal terms moves r h) (makes made outcome) why (says-commit r h) (reason-makes P made outcome why))
           e
 
-      brings : (ms : List ℕ) → brought graph h (m ∷ []) ≡ ms → merge_turn meaning terms moves r h ms ≡ answers (Refused why)
-      brings ms e = ap (λ ks. merge_turn meaning terms moves r h ks) (sym e) ∙ is
+      by-below : (m : ℕ) (above : Bool)
+          → (if above then unless (forward_refusal terms moves r h) (makes (move.Forward r m) (Forwarded m))
+          else unless (merge_refusal meaning terms.limits commits (h ∷ m ∷ [])) (unless (commit_refusal terms moves r h) (makes (move.Merge r m) (Merged (length commits))))) ≡ answers {O = O} {R = R} {A = A} (Refused why) → P why
+      by-below m true e = reason-unless P (forward_refusal terms moves r h) (makes (move.Forward r m) (Forwarded m)) why (says-forward r h) (reason-makes P (move.Forward r m) (Forwarded m) why) e
+      by-below m false e = by-new (h ∷ m ∷ []) (move.Merge r m) (Merged (length commits)) e
 
-      by-above : (below : Bool) → reaches graph h m ≡ below → P why
-      by-above true at = says-same why (brings [] (brought-none graph h m at))
-      by-above false at = by-below (reaches graph m h) (brings (m ∷ []) (brought-one graph h m at))
+      by-brought : (ks : List ℕ) → merge_turn meaning terms moves r h ks ≡ answers (Refused why) → P why
+      by-brought [] e = says-same why e
+      by-brought (m ∷ []) e = by-below m (reaches (graph_of commits) m h) e
+      by-brought (m ∷ k ∷ ks) e = by-new (h ∷ m ∷ k ∷ ks) (move.Join r (m ∷ k ∷ ks)) (Joined (length commits)) e

@@ -9,14 +9,14 @@ use Rattle.branch_history.specs.declared.moves.Move.TheVariants as move
 use Rattle.branch_history.proofs.Lists.{slice_get-append}
 use Rattle.branch_doc.specs.declared.plain.PlainOp.{PlainOp}
 use Rattle.branch_script.specs.declared.step.Step.{Step}
-use Rattle.branch_script.specs.declared.step.Step.TheVariants.{Look, Fork, Merge, Do, Ask}
+use Rattle.branch_script.specs.declared.step.Step.TheVariants.{Look, Fork, Merge, Join, Do, Ask}
 use Rattle.parallel_clients.specs.declared.outcome.ClientRefusal.{ClientRefusal}
 use Rattle.parallel_clients.specs.declared.outcome.ClientRefusal.TheVariants.{UnknownBranch, Dropped, Exhausted, FullCommits, FullBranches, FullMoves, ValueTooLarge, Collision, DiskFault, Failed, Memory}
 use Rattle.parallel_clients.specs.declared.outcome.Outcome.{Outcome}
 use Rattle.parallel_clients.specs.declared.outcome.Outcome.TheVariants.{Done, Refused, Unseen}
-use Rattle.parallel_clients.specs.Played.{Sights, no_sights, with_sight, sights_after, IsMoveAt, HasBranch, IsDone, IsForked, IsMerged, IsTaken, IsReached, TakesOne, TakesNone, PlayedFrom, Played}
+use Rattle.parallel_clients.specs.Played.{Sights, no_sights, with_sight, sights_after, IsMoveAt, HasBranch, IsDone, IsForked, IsMerged, IsJoined, IsTaken, IsReached, BringsNothing, TakesOne, TakesNone, PlayedFrom, Played}
 use Rattle.parallel_clients.specs.Outcomes.{Setting, HasFailed, StepRefused, ComesTo, StaysOutcome}
-use Rattle.parallel_clients.proofs.Went.{named-later, head-later, sees-more}
+use Rattle.parallel_clients.proofs.Went.{named-later, head-later, joins-later, sees-more}
 
 module _ {O R : Type 0} (op_of : PlainOp → O) (origin : ℕ) (moves later : List (Move O R)) (grows : IsPrefix moves later) where
   move-later : (place : ℕ) (made : Move O R) → IsMoveAt moves place made → IsMoveAt later place made
@@ -39,6 +39,9 @@ module _ {O R : Type 0} (op_of : PlainOp → O) (origin : ℕ) (moves later : Li
     head = head-later origin moves later grows from is.source is.commit is.head;
     made = ⊎_elim (λ m. inl (move-later place (move.Merge is.number is.commit) m)) (λ m. inr (move-later place (move.Forward is.number is.commit) m)) is.made;
   }
+
+  joined-later : (branch : List ℕ) (from : List (List ℕ)) (place : ℕ) → IsJoined origin moves branch from place → IsJoined origin later branch from place
+  joined-later branch from place is = record { made = is.made; joins = joins-later origin moves later grows branch from is.made is.joins; at = move-later place is.made is.at }
 
   none-later : (Holds : List (Move O R) → Type 0) (Rest Rest' : ℕ → List ℕ → Type 0) → ((place : ℕ) (places : List ℕ) → Rest place places → Rest' place places)
       → (last : ℕ) (places : List ℕ) → TakesNone moves Holds Rest last places → TakesNone later Holds Rest' last places
@@ -84,6 +87,17 @@ module _ {O R : Type 0} (op_of : PlainOp → O) (origin : ℕ) (moves later : Li
       (λ branch both. ⊎_elim
       (λ one. inl (takes-later (IsMerged origin moves branch from) (IsMerged origin later branch from) Rest Rest' (merged-later branch from) (played_from-later steps sights) last places one))
       (λ none. inr (none-later (IsReached origin branch from) Rest Rest' (played_from-later steps sights) last places none))
+      both)
+      (sights session) is
+  played_from-later (Join session from ∷ steps) sights last places is =
+      let Rest = PlayedFrom op_of origin moves steps sights in
+      let Rest' = PlayedFrom op_of origin later steps sights in
+      sees-more
+      (λ branch. TakesOne (IsJoined origin moves branch from) Rest last places ⊎ TakesNone moves (BringsNothing origin branch from) Rest last places)
+      (λ branch. TakesOne (IsJoined origin later branch from) Rest' last places ⊎ TakesNone later (BringsNothing origin branch from) Rest' last places)
+      (λ branch both. ⊎_elim
+      (λ one. inl (takes-later (IsJoined origin moves branch from) (IsJoined origin later branch from) Rest Rest' (joined-later branch from) (played_from-later steps sights) last places one))
+      (λ none. inr (none-later (BringsNothing origin branch from) Rest Rest' (played_from-later steps sights) last places none))
       both)
       (sights session) is
 

@@ -3,9 +3,11 @@ pub mod Turned
 pub mod Went
 pub mod Grown
 pub mod Single
+pub mod Brought
 pub mod Sessioned
 pub mod Tried
 pub mod Mergings
+pub mod Joinings
 pub mod Runs
 pub mod Ended
 pub mod Started

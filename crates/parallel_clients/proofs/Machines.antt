@@ -1,5 +1,5 @@
 -- The machine that keeps objects, beside the one that keeps none.
-use Rattle.std.proofs.Common.{◌≡◌, ◌∙◌, ℕ, List, [], ◌∷◌, refl, ap, Option, None, Some}
+use Rattle.std.proofs.Common.{◌≡◌, ◌∙◌, ℕ, List, [], ◌∷◌, refl, ap, sym, Option, None, Some}
 use Rattle.std.specs.Option.{option_map}
 use Rattle.branch_wire.specs.StoredObjects.{collision}
 use Rattle.branch_history.specs.declared.moves.Move.{Move}
@@ -71,3 +71,14 @@ module _ {S O R Q A : Type 0} (fixed : Fixed S O R Q A) (moves : List (Move O R)
   full-refused why other is =
       refused-unless (λ c. Collision (fixed.address c.1) c.0 c.1) plain why (λ c e. other (fixed.address c.1) c.0 c.1 e) (λ made. collision fixed.address (objects_of fixed moves) (new_objects fixed moves made)) plain.made
       (here-refuses kept why (commit_here fixed moves step) is)
+
+-- two steps that receive no commit, and have one turn, have one where objects are kept
+pub full-same : {S O R Q A : Type 0} (fixed : Fixed S O R Q A) (moves : List (Move O R)) (step other : Step O Q) → commit_here fixed moves step ≡ None → commit_here fixed moves other ≡ None
+    → turn fixed.meaning fixed.terms moves step ≡ turn fixed.meaning fixed.terms moves other → full_turn fixed moves step ≡ full_turn fixed moves other
+unfolding full_turn
+full-same {S} {O} {R} {Q} {A} fixed moves step other one two is =
+    let first : Turn O R A = turn fixed.meaning fixed.terms moves step in
+    let second : Turn O R A = turn fixed.meaning fixed.terms moves other in
+    ap (λ o. unless_here o (unless_made (collision_refusal fixed moves) first.made first)) one
+    ∙ ap (λ (t : Turn O R A). unless_made (collision_refusal fixed moves) t.made t) is
+    ∙ sym (ap (λ o. unless_here o (unless_made (collision_refusal fixed moves) second.made second)) two)

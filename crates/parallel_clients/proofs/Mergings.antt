@@ -119,6 +119,7 @@ module _ {S O R Q A : Type 0} (on : Setting S O R Q A) (old mid : PassView (Move
         by : (w : Work O R) → IsWorkOf on.fixed.meaning pair w → step_of {Q = Q} made.seen w ≡ machine.Merge s.seen.branch s.seen.head (pair.other ∷ [])
         by (work.Operation op reply) h = absurd h
         by (work.Merge commit) h = ap (λ (v : SeenView (Move O R)). machine.Merge v.branch v.head (commit ∷ [])) seen-is ∙ ap (λ m. machine.Merge s.seen.branch s.seen.head (m ∷ [])) h.0
+        by (work.Join commits) h = absurd h
         by (work.Forward commit) h = ap (λ (v : SeenView (Move O R)). machine.Merge v.branch v.head (commit ∷ [])) seen-is ∙ ap (λ m. machine.Merge s.seen.branch s.seen.head (m ∷ [])) h.0
 
     pub merge-unlanded : (new : PassView (Move O R)) → IsPrefix mid.moves new.moves → (refusal : ClientRefusal) → IsLandRefused on made new refusal
@@ -154,6 +155,7 @@ module _ {S O R Q A : Type 0} (on : Setting S O R Q A) (old mid : PassView (Move
         kind (work.Merge commit) h moved =
             inl (moved-earlier (move.Merge s.seen.branch pair.other) old mid new places after grows seen
             (subst (λ m. HasMoved m mid new places after) (numbered (λ b. move.Merge b commit) ∙ ap (move.Merge s.seen.branch) h.0) moved))
+        kind (work.Join commits) h moved = absurd h
         kind (work.Forward commit) h moved =
             inr (moved-earlier (move.Forward s.seen.branch pair.other) old mid new places after grows seen
             (subst (λ m. HasMoved m mid new places after) (numbered (λ b. move.Forward b commit) ∙ ap (move.Forward s.seen.branch) h.0) moved))
@@ -174,7 +176,7 @@ module _ {S O R Q A : Type 0} (on : Setting S O R Q A) (old mid : PassView (Move
 
 -- how a client's pass came on by a move, after it had waited, and before it looked again
 module _ {O R : Type 0} (terms : Terms) (old mid after : PassView (Move O R)) (sessions now : Sessions (Move O R)) (places waited noted : List ℕ) (wait : IsWaiting terms old mid sessions now places waited) where
-  moved-few : (made : Move O R) → HasMoved made mid after waited noted → length noted ≤ length places + 1
+  pub moved-few : (made : Move O R) → HasMoved made mid after waited noted → length noted ≤ length places + 1
   moved-few made moved =
       let a : length noted ≡ length waited + 1 = ap length moved.noted ∙ length-append waited (length after.moves ∷ []) in
       let b : length waited ≡ length places = ap length wait.noted in omega arith
@@ -183,7 +185,7 @@ module _ {O R : Type 0} (terms : Terms) (old mid after : PassView (Move O R)) (s
   merged-few sight from merged = ⊎_elim (λ moved. moved-few (move.Merge merged.number merged.commit) moved) (λ moved. moved-few (move.Forward merged.number merged.commit) moved) merged.moved
 
   module _ (new : PassView (Move O R)) (landed : IsPrefix mid.moves after.moves) (faults : mid.faults ≤ after.faults) (looked : IsPrefix after.moves new.moves) (later : after.faults ≤ new.faults) (rest : IsSeenOn after new) where
-    moved-advances : (made : Move O R) → HasMoved made mid after waited noted → Advances old new places noted
+    pub moved-advances : (made : Move O R) → HasMoved made mid after waited noted → Advances old new places noted
     moved-advances made moved =
         let a : length noted ≡ length waited + 1 = ap length moved.noted ∙ length-append waited (length after.moves ∷ []) in
         let b : length waited ≡ length places = ap length wait.noted in

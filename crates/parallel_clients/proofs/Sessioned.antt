@@ -1,5 +1,5 @@
 -- What a client's sessions see, by what becomes of their table.
-use Rattle.std.proofs.Common.{◌≡◌, ℕ, ◌<◌, Bool, true, false, cond, List, ◌++◌, length, refl, ap, sym, subst, ◌∙◌, Option, Some, None, IsTrue}
+use Rattle.std.proofs.Common.{◌≡◌, ℕ, ◌<◌, Bool, true, false, cond, List, [], ◌++◌, length, refl, ap, sym, subst, ◌∙◌, Option, Some, None, IsTrue}
 use Rattle.std.specs.Prelude.{bytes_eq}
 use Rattle.std.specs.Option.{option_map}
 use Rattle.std.specs.Ordering.{nat_cmp, is_eq}
@@ -16,17 +16,19 @@ use Rattle.branch_graph.specs.Graph.{reaches}
 use Rattle.branch_history.specs.declared.moves.Move.{Move}
 use Rattle.branch_history.specs.Commits.{graph_of}
 use Rattle.branch_history.specs.History.{store_of}
+use Rattle.branch_history.specs.Merging.{brought}
 use Rattle.branch_history.specs.Laws.{KeepsOrder, RaisesHeads}
 use Rattle.branch_history.specs.Validity.{IsValid}
 use Rattle.branch_history.proofs.Reach.{reaches-trans}
 use Rattle.branch_history.proofs.Stores.{branch_named-there}
 use Rattle.store_seen.specs.Views.{SeenView}
 use Rattle.parallel_clients.specs.declared.sessions.Session.{Session}
-use Rattle.parallel_clients.specs.Played.{Sights, with_sight, WasNamed, WasHead, IsReached}
+use Rattle.parallel_clients.specs.Played.{Sights, with_sight, WasNamed, WasHead, AreNamedHeads, IsReached, BringsNothing}
 use Rattle.parallel_clients.specs.Sessions.{Sessions, session_named, Puts, sights_of, IsSession, AreSessions}
 use Rattle.branch_history.specs.Steps as machine
 use Rattle.branch_history.specs.Machine.{turn, answers}
 use Rattle.parallel_clients.proofs.Turned.{look-named}
+use Rattle.parallel_clients.proofs.Brought.{brings-nothing}
 
 put_step : {M : Type 0} (t : Bool) (s : Session (SeenView M)) (old : Option (Session (SeenView M))) → option_map (λ s. s.branch) (cond t (Some s) old) ≡ cond t (Some s.branch) (option_map (λ s. s.branch) old)
 put_step true s old = refl
@@ -94,18 +96,24 @@ module _ {O R : Type 0} (terms : Terms) where
     pub session-head : WasHead terms.origin moves s.branch s.seen.branch s.seen.head
     session-head = record { before = s.seen.history; begins = is.begins; named = is.named; head = is.head }
 
+    -- the head of its branch reaches the one that a session sees
+    session-risen : {S Q A : Type 0} (meaning : Meaning S O R Q A) → RaisesHeads meaning → IsValid meaning terms moves
+        → IsTrue (reaches (graph_of (store_of terms.origin moves).commits) (head_of (store_of terms.origin moves).branches s.seen.branch) s.seen.head)
+    session-risen meaning raises valid =
+        let r : ℕ = s.seen.branch in
+        let there : r < length (store_of terms.origin s.seen.history).branches = branch_named-there (store_of terms.origin s.seen.history).branches s.branch r is.named in
+        let grown : s.seen.history ++ is.begins.0 ≡ moves = is.begins.1 in
+        let risen = raises terms s.seen.history is.begins.0 (subst (IsValid meaning terms) (sym grown) valid) r there in
+        subst (λ h. IsTrue (reaches (graph_of (store_of terms.origin moves).commits) (head_of (store_of terms.origin moves).branches r) h)) is.head
+        (subst (λ ms. IsTrue (reaches (graph_of (store_of terms.origin ms).commits) (head_of (store_of terms.origin ms).branches r) (head_of (store_of terms.origin s.seen.history).branches r))) grown risen)
+
     -- what a session's head reaches, the head of its branch reaches
     pub session-reaches : {S Q A : Type 0} (meaning : Meaning S O R Q A) → KeepsOrder meaning → RaisesHeads meaning → IsValid meaning terms moves
         → (from : List ℕ) (source : ℕ) → branch_named (store_of terms.origin moves).branches from ≡ Some source
         → IsTrue (reaches (graph_of (store_of terms.origin moves).commits) s.seen.head (head_of (store_of terms.origin moves).branches source)) → IsReached terms.origin s.branch from moves
     session-reaches meaning order raises valid from source found below =
         let r : ℕ = s.seen.branch in
-        let there : r < length (store_of terms.origin s.seen.history).branches = branch_named-there (store_of terms.origin s.seen.history).branches s.branch r is.named in
-        let grown : s.seen.history ++ is.begins.0 ≡ moves = is.begins.1 in
-        let risen = raises terms s.seen.history is.begins.0 (subst (IsValid meaning terms) (sym grown) valid) r there in
-        let here : IsTrue (reaches (graph_of (store_of terms.origin moves).commits) (head_of (store_of terms.origin moves).branches r) s.seen.head) =
-        subst (λ h. IsTrue (reaches (graph_of (store_of terms.origin moves).commits) (head_of (store_of terms.origin moves).branches r) h)) is.head
-        (subst (λ ms. IsTrue (reaches (graph_of (store_of terms.origin ms).commits) (head_of (store_of terms.origin ms).branches r) (head_of (store_of terms.origin s.seen.history).branches r))) grown risen) in
+        let here = session-risen meaning raises valid in
         record {
           number = r;
           source = source;
@@ -113,3 +121,16 @@ module _ {O R : Type 0} (terms : Terms) where
           other = found;
           reached = reaches-trans (graph_of (store_of terms.origin moves).commits) (order terms moves valid).ranked (head_of (store_of terms.origin moves).branches r) s.seen.head (head_of (store_of terms.origin moves).branches source) here below;
         }
+
+    -- where a merge brings nothing to a session's head, it brings nothing to the head of its branch
+    pub session-brings : {S Q A : Type 0} (meaning : Meaning S O R Q A) → KeepsOrder meaning → RaisesHeads meaning → IsValid meaning terms moves
+        → (from : List (List ℕ)) (heads : List ℕ) → AreNamedHeads terms.origin moves from heads
+        → brought (graph_of (store_of terms.origin moves).commits) s.seen.head heads ≡ [] → BringsNothing terms.origin s.branch from moves
+    session-brings meaning order raises valid from heads others none = record {
+      number = s.seen.branch;
+      heads = heads;
+      named = session-named;
+      others = others;
+      nothing = brings-nothing (graph_of (store_of terms.origin moves).commits) (order terms moves valid).ranked s.seen.head (head_of (store_of terms.origin moves).branches s.seen.branch) heads
+          (session-risen meaning raises valid) none;
+    }

@@ -1,5 +1,5 @@
 -- What one step of a client does to what it has played.
-use Rattle.std.proofs.Common.{◌≡◌, ℕ, ◌+◌, ◌<◌, ◌≤◌, ◌⊎◌, inl, inr, List, [], ◌∷◌, ◌++◌, length, ap, sym, subst, ◌∙◌, Some, arith, length-append, ⊎_elim}
+use Rattle.std.proofs.Common.{◌≡◌, ℕ, ◌+◌, ◌<◌, ◌⊎◌, inl, inr, List, [], ◌∷◌, ◌++◌, length, ap, sym, subst, ◌∙◌, Some, arith, length-append, ⊎_elim}
 use mathlib.Core.List.{IsPrefix}
 use Rattle.branch_front.proofs.Prefixes.{prefix_trans, prefix_more, prefix_length}
 use Rattle.branch_history.specs.declared.moves.Move.{Move}
@@ -7,11 +7,11 @@ use Rattle.branch_history.specs.declared.moves.Move.TheVariants as move
 use Rattle.branch_doc.specs.declared.plain.PlainOp.{PlainOp}
 use Rattle.branch_doc.specs.declared.plain.PlainQuery.{PlainQuery}
 use Rattle.branch_script.specs.declared.step.Step.{Step}
-use Rattle.branch_script.specs.declared.step.Step.TheVariants.{Look, Fork, Merge, Do, Ask}
+use Rattle.branch_script.specs.declared.step.Step.TheVariants.{Look, Fork, Merge, Join, Do, Ask}
 use Rattle.branch_shared.specs.Passes.{PassView}
-use Rattle.parallel_clients.specs.Played.{with_sight, sights_after, IsMoveAt, WasNamed, HasBranch, IsDone, IsForked, IsMerged, IsTaken, IsReached, TakesOne, TakesNone, IfSees, PlayedFrom}
-use Rattle.parallel_clients.specs.Sessions.{Stage, PlaysOn, HasMoved, HasDone, HasMerged}
-use Rattle.parallel_clients.proofs.Went.{named-later, head-later, move-last, played-earlier, plays-still, plays-move}
+use Rattle.parallel_clients.specs.Played.{with_sight, sights_after, IsMoveAt, WasNamed, HasBranch, IsDone, IsForked, IsMerged, IsJoined, IsTaken, IsReached, BringsNothing, TakesOne, TakesNone, IfSees, PlayedFrom}
+use Rattle.parallel_clients.specs.Sessions.{Stage, PlaysOn, HasMoved, HasDone, HasMerged, HasJoined}
+use Rattle.parallel_clients.proofs.Went.{named-later, head-later, joins-later, move-last, played-earlier, plays-still, plays-move}
 
 module _ {O R : Type 0} (op_of : PlainOp → O) (origin : ℕ) (old new : Stage (Move O R)) (mid after : PassView (Move O R)) (from_old : IsPrefix old.moves mid.moves) (to_new : IsPrefix after.moves new.moves) (places noted : List ℕ) (had : old.places ≡ places) (has : new.places ≡ noted) where
   -- a move that landed has its place behind what had been seen, and stands there in any longer history
@@ -86,6 +86,16 @@ module _ {O R : Type 0} (op_of : PlainOp → O) (origin : ℕ) (old new : Stage 
             subst (λ o. IfSees o (λ branch. TakesOne (IsMerged origin later branch from) Rest (length old.moves) (length after.moves ∷ more) ⊎ TakesNone later (IsReached origin branch from) Rest (length old.moves) (length after.moves ∷ more))) (sym done.sees)
             (inl (past made moved, is, kept later rest (length after.moves) more played)))
 
+    pub plays-joined : (session : List ℕ) (from : List (List ℕ)) → HasJoined origin (old.sights session) from mid after places noted → PlaysOn op_of origin (Join session from ∷ []) old new
+    plays-joined session from done =
+        plays-made done.made done.moved (Join session from) same
+        (λ later rest more grows at played.
+        let to_later = prefix_trans after.moves new.moves later to_new grows in
+        let is : IsJoined origin later done.branch from (length after.moves) = record { made = done.made; joins = joins-later origin after.moves later to_later done.branch from done.made done.joins; at = at } in
+        let Rest = PlayedFrom op_of origin later rest old.sights in
+        subst (λ o. IfSees o (λ branch. TakesOne (IsJoined origin later branch from) Rest (length old.moves) (length after.moves ∷ more) ⊎ TakesNone later (BringsNothing origin branch from) Rest (length old.moves) (length after.moves ∷ more))) (sym done.sees)
+        (inl (past done.made done.moved, is, kept later rest (length after.moves) more played)))
+
     pub plays-forked : (name from : List ℕ) (number source : ℕ) → WasNamed origin after.moves from source → HasMoved (move.Fork name number source) mid after places noted → PlaysOn op_of origin (Fork name from ∷ []) old new
     plays-forked name from number source named moved =
         let made : Move O R = move.Fork name number source in
@@ -129,6 +139,14 @@ module _ {O R : Type 0} (op_of : PlainOp → O) (origin : ℕ) (old new : Stage 
           let Rest = PlayedFrom op_of origin later rest old.sights in
           subst (λ o. IfSees o (λ b. TakesOne (IsMerged origin later b from) Rest (length old.moves) more ⊎ TakesNone later (IsReached origin b from) Rest (length old.moves) more)) (sym sees)
           (inr (kept-none (IsReached origin branch from) later rest more reached grows played)))
+
+      pub plays-nothing : (session : List ℕ) (from : List (List ℕ)) (branch : List ℕ) → old.sights session ≡ Some branch → BringsNothing origin branch from after.moves → PlaysOn op_of origin (Join session from ∷ []) old new
+      plays-nothing session from branch sees brings =
+          plays-still op_of origin old new on (Join session from) (has ∙ none ∙ sym had) same
+          (λ later rest more grows played.
+          let Rest = PlayedFrom op_of origin later rest old.sights in
+          subst (λ o. IfSees o (λ b. TakesOne (IsJoined origin later b from) Rest (length old.moves) more ⊎ TakesNone later (BringsNothing origin b from) Rest (length old.moves) more)) (sym sees)
+          (inr (kept-none (BringsNothing origin branch from) later rest more brings grows played)))
 
       pub plays-taken : (name from : List ℕ) → IsTaken origin name from after.moves → PlaysOn op_of origin (Fork name from ∷ []) old new
       plays-taken name from taken =

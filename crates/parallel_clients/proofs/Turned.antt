@@ -1,6 +1,6 @@
 -- What the machine's answers say of names and heads.
 use Rattle.std.proofs.Common.{◌≡◌, ℕ, Bool, true, false, List, [], ◌∷◌, length, refl, ap, sym, ◌∙◌, IsTrue, Option, Some, None}
-use Rattle.std.specs.Prelude.{nat_le}
+use Rattle.std.specs.Prelude.{nat_le, if◌then◌else◌}
 use Rattle.mrdt_model.specs.Laws.{Meaning}
 use Rattle.branch_names.specs.declared.terms.Terms.{Terms}
 use Rattle.branch_names.specs.Heads.{head_of, branch_named}
@@ -9,13 +9,15 @@ use Rattle.branch_history.specs.declared.moves.Move.{Move}
 use Rattle.branch_history.specs.declared.moves.Move.TheVariants as move
 use Rattle.branch_history.specs.Commits.{graph_of}
 use Rattle.branch_history.specs.History.{store_of}
+use Rattle.branch_history.specs.Merging.{brought}
 use Rattle.branch_history.specs.Steps as machine
-use Rattle.branch_history.specs.Machine.{turn, answers, makes, refusal_if, move_refusal, fork_refusal, forward_refusal, merge_refusal, commit_refusal}
+use Rattle.branch_history.specs.Machine.{turn, answers, makes, unless, refusal_if, move_refusal, fork_refusal, forward_refusal, merge_refusal, commit_refusal, merge_turn}
 use Rattle.branch_machine.specs.Fixed.{Fixed}
 use Rattle.branch_machine.specs.Machine.{full_turn}
+use Rattle.store_seen.specs.Groups.{AreHeads}
 use Rattle.recorded_history.specs.Machine.{FullyRefuses}
 use Rattle.branch_history.proofs.Turns.{look-unknown, look-sees, fork-unknown, fork-taken, fork-refused, fork-makes, forward-refused, forward-makes, merge-unprepared, merge-refused, merge-makes}
-use Rattle.parallel_clients.specs.Played.{HasBranch, IsTaken}
+use Rattle.parallel_clients.specs.Played.{AreNamedHeads, HasBranch, IsTaken}
 use Rattle.parallel_clients.proofs.Machines.{full-turned, full-refused}
 
 module _ {S O R Q A : Type 0} (meaning : Meaning S O R Q A) (terms : Terms) (moves : List (Move O R)) where
@@ -40,6 +42,13 @@ module _ {S O R Q A : Type 0} (meaning : Meaning S O R Q A) (terms : Terms) (mov
           let same : k ≡ r = cc in
           let at : head_of (store_of terms.origin moves).branches k ≡ h = cc in
           (some ∙ ap (λ j. Some j) same, ap (head_of (store_of terms.origin moves).branches) (sym same) ∙ at)
+
+  -- and looks at several found the heads of all
+  pub looks-named : (names : List (List ℕ)) (heads : List ℕ) → AreHeads meaning (record { history = moves; terms = terms }) names heads → AreNamedHeads terms.origin moves names heads
+  looks-named [] [] are = tt
+  looks-named [] (head ∷ heads) are = absurd are
+  looks-named (name ∷ names) [] are = absurd are
+  looks-named (name ∷ names) (head ∷ heads) are = let at = look-named name are.0.0 head are.0.1 in ((are.0.0, at.0, at.1), looks-named names heads are.1)
 
   -- so there is one
   pub look-there : (name : List ℕ) (r h : ℕ) → turn meaning terms moves (machine.Look name) ≡ answers (machine.Sees r h) → HasBranch terms.origin name moves
@@ -111,6 +120,45 @@ module _ {S O R Q A : Type 0} (meaning : Meaning S O R Q A) (terms : Terms) (mov
       up true b above below = above
       up false true above below = absurd (forward (forward_refusal terms moves r h) refl above below)
       up false false above below = absurd (apart (merge_refusal meaning terms.limits (store_of terms.origin moves).commits (h ∷ m ∷ [])) (commit_refusal terms moves r h) refl refl above below)
+
+  -- a turn that makes a move, unless it is refused, does not find that there is nothing to merge
+  unless-same : (o : Option machine.Refusal) (t : machine.Turn O R A) → unless o t ≡ answers machine.Same → t ≡ answers machine.Same
+  unless-same None t is = is
+  unless-same (Some refusal) t is = let e : refused refusal ≡ machine.Same = ap outcome is in absurd (let never : ⊥ = cc in never)
+
+  makes-same : (made : Move O R) (o : machine.Outcome A R) → makes made o ≡ answers machine.Same → ⊥
+  makes-same made o is = let no : made ∷ [] ≡ [] = ap (λ (t : machine.Turn O R A). t.made) is in let never : ⊥ = cc in never
+
+  -- a merge of several commits for which there is nothing brings nothing
+  pub merge-nothing : (r h : ℕ) (ms : List ℕ) → turn meaning terms moves (machine.Merge r h ms) ≡ answers machine.Same → brought (graph_of (store_of terms.origin moves).commits) h ms ≡ []
+  unfolding turn
+  merge-nothing r h ms is = by (brought (graph_of (store_of terms.origin moves).commits) h ms) refl is
+    where
+      one : (m : ℕ) (below : Bool)
+          → (if below then unless (forward_refusal terms moves r h) (makes (move.Forward r m) (machine.Forwarded m))
+          else unless (merge_refusal meaning terms.limits (store_of terms.origin moves).commits (h ∷ m ∷ []))
+          (unless (commit_refusal terms moves r h) (makes (move.Merge r m) (machine.Merged (length (store_of terms.origin moves).commits))))) ≡ answers {O = O} {R = R} {A = A} machine.Same → ⊥
+      one m true e = makes-same (move.Forward r m) (machine.Forwarded m) (unless-same (forward_refusal terms moves r h) (makes (move.Forward r m) (machine.Forwarded m)) e)
+      one m false e =
+          let made : machine.Turn O R A = makes (move.Merge r m) (machine.Merged (length (store_of terms.origin moves).commits)) in
+          makes-same (move.Merge r m) (machine.Merged (length (store_of terms.origin moves).commits))
+          (unless-same (commit_refusal terms moves r h) made
+          (unless-same (merge_refusal meaning terms.limits (store_of terms.origin moves).commits (h ∷ m ∷ [])) (unless (commit_refusal terms moves r h) made) e))
+
+      many : (ks : List ℕ)
+          → unless (merge_refusal meaning terms.limits (store_of terms.origin moves).commits (h ∷ ks))
+          (unless (commit_refusal terms moves r h) (makes (move.Join r ks) (machine.Joined (length (store_of terms.origin moves).commits)))) ≡ answers {O = O} {R = R} {A = A} machine.Same → ⊥
+      many ks e =
+          let made : machine.Turn O R A = makes (move.Join r ks) (machine.Joined (length (store_of terms.origin moves).commits)) in
+          makes-same (move.Join r ks) (machine.Joined (length (store_of terms.origin moves).commits))
+          (unless-same (commit_refusal terms moves r h) made
+          (unless-same (merge_refusal meaning terms.limits (store_of terms.origin moves).commits (h ∷ ks)) (unless (commit_refusal terms moves r h) made) e))
+
+      by : (ks : List ℕ) → brought (graph_of (store_of terms.origin moves).commits) h ms ≡ ks → merge_turn meaning terms moves r h ks ≡ answers machine.Same
+          → brought (graph_of (store_of terms.origin moves).commits) h ms ≡ []
+      by [] at e = at
+      by (m ∷ []) at e = absurd (one m (reaches (graph_of (store_of terms.origin moves).commits) m h) e)
+      by (m ∷ k ∷ ks) at e = absurd (many (m ∷ k ∷ ks) e)
 
 module _ {S O R Q A : Type 0} (fixed : Fixed S O R Q A) (moves : List (Move O R)) where
   pub fork-named : (name from : List ℕ) (number head source : ℕ)

@@ -7,8 +7,8 @@ use Rattle.branch_history.specs.declared.moves.Move.{Move}
 use Rattle.branch_history.proofs.Lists.{slice_get-append, slice_get-new}
 use Rattle.branch_doc.specs.declared.plain.PlainOp.{PlainOp}
 use Rattle.branch_script.specs.declared.step.Step.{Step}
-use Rattle.branch_script.specs.declared.step.Step.TheVariants.{Look, Fork, Merge, Do, Ask}
-use Rattle.parallel_clients.specs.Played.{Sights, no_sights, with_sight, sights_after, IsMoveAt, WasNamed, WasHead, HasBranch, IsDone, IsForked, IsMerged, IsTaken, IsReached, TakesOne, TakesNone, IfSees, PlayedFrom, Played}
+use Rattle.branch_script.specs.declared.step.Step.TheVariants.{Look, Fork, Merge, Join, Do, Ask}
+use Rattle.parallel_clients.specs.Played.{Sights, no_sights, with_sight, sights_after, IsMoveAt, WasNamed, WasHead, WereHeads, HasBranch, IsDone, IsForked, IsMerged, Joins, IsJoined, IsTaken, IsReached, BringsNothing, TakesOne, TakesNone, IfSees, PlayedFrom, Played}
 use Rattle.parallel_clients.specs.Outcomes.{ArePast}
 use Rattle.parallel_clients.specs.Sessions.{Stage, GoesOn, PlaysOn}
 
@@ -20,6 +20,21 @@ module _ {O R : Type 0} (origin : ℕ) (moves later : List (Move O R)) (grows : 
 
   pub head-later : (name : List ℕ) (branch commit : ℕ) → WasHead origin moves name branch commit → WasHead origin later name branch commit
   head-later name branch commit was = record { before = was.before; begins = prefix_trans was.before moves later was.begins grows; named = was.named; head = was.head }
+
+  pub heads-later : (names : List (List ℕ)) (heads : List ℕ) → WereHeads origin moves names heads → WereHeads origin later names heads
+  heads-later names heads were = record { before = were.before; begins = prefix_trans were.before moves later were.begins grows; are = were.are }
+
+  pub joins-later : (branch : List ℕ) (from : List (List ℕ)) (made : Move O R) → Joins origin moves branch from made → Joins origin later branch from made
+  joins-later branch from made joins = record {
+    number = joins.number;
+    head = joins.head;
+    heads = joins.heads;
+    before = joins.before;
+    begins = prefix_trans joins.before moves later joins.begins grows;
+    seen = joins.seen;
+    others = joins.others;
+    is_move = joins.is_move;
+  }
 
 -- the last move of a history stands at its length
 pub move-last : {M : Type 0} (before later : List M) (made : M) → IsPrefix (before ++ made ∷ []) later → IsMoveAt later (length (before ++ made ∷ [])) made
@@ -47,6 +62,7 @@ sights-both [] second sights = refl
 sights-both (Look session branch ∷ first) second sights = sights-both first second (with_sight sights session branch)
 sights-both (Fork new from ∷ first) second sights = sights-both first second sights
 sights-both (Merge session branch ∷ first) second sights = sights-both first second sights
+sights-both (Join session branches ∷ first) second sights = sights-both first second sights
 sights-both (Do session op ∷ first) second sights = sights-both first second sights
 sights-both (Ask branch query ∷ first) second sights = sights-both first second sights
 
@@ -80,6 +96,12 @@ module _ {O R : Type 0} (op_of : PlainOp → O) (origin : ℕ) (moves : List (Mo
       sees-more (λ branch. TakesOne (IsMerged origin moves branch from) Rest n places ⊎ TakesNone moves (IsReached origin branch from) Rest n places)
       (λ branch. TakesOne (IsMerged origin moves branch from) Rest m places ⊎ TakesNone moves (IsReached origin branch from) Rest m places)
       (λ branch both. ⊎_elim (λ one. inl (one-earlier (IsMerged origin moves branch from) Rest places one)) (λ none. inr (none-earlier (IsReached origin branch from) Rest places none)) both)
+      (sights session) is
+  played-earlier (Join session from ∷ steps) sights places is =
+      let Rest = PlayedFrom op_of origin moves steps sights in
+      sees-more (λ branch. TakesOne (IsJoined origin moves branch from) Rest n places ⊎ TakesNone moves (BringsNothing origin branch from) Rest n places)
+      (λ branch. TakesOne (IsJoined origin moves branch from) Rest m places ⊎ TakesNone moves (BringsNothing origin branch from) Rest m places)
+      (λ branch both. ⊎_elim (λ one. inl (one-earlier (IsJoined origin moves branch from) Rest places one)) (λ none. inr (none-earlier (BringsNothing origin branch from) Rest places none)) both)
       (sights session) is
 
 -- steps one after another

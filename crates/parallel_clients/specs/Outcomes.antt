@@ -1,5 +1,5 @@
 -- What becomes of a client.
-use Rattle.std.specs.Prelude.{◌≡◌, ℕ, ◌+◌, ◌<◌, ◌≤◌, ◌⊎◌, List, [], ◌∷◌, length, take, slice_get, Some, None}
+use Rattle.std.specs.Prelude.{◌≡◌, ℕ, ◌+◌, ◌<◌, ◌≤◌, ◌⊎◌, List, [], ◌∷◌, ◌++◌, length, take, slice_get, Some, None}
 use Rattle.std.specs.List.{AllByRecursion}
 use mathlib.Core.List.{IsPrefix}
 use Rattle.branch_io.specs.Causes.{Rose}
@@ -8,13 +8,13 @@ use Rattle.branch_history.specs.Steps as machine
 use Rattle.branch_machine.specs.Fixed.{Fixed}
 use Rattle.branch_doc.specs.declared.plain.PlainOp.{PlainOp}
 use Rattle.branch_script.specs.declared.step.Step.{Step}
-use Rattle.branch_script.specs.declared.step.Step.TheVariants.{Look, Fork, Merge, Do, Ask}
+use Rattle.branch_script.specs.declared.step.Step.TheVariants.{Look, Fork, Merge, Join, Do, Ask}
 use Rattle.recorded_history.specs.Machine.{FullyRefuses}
 use Rattle.parallel_clients.specs.declared.outcome.ClientRefusal.{ClientRefusal}
 use Rattle.parallel_clients.specs.declared.outcome.ClientRefusal.TheVariants as client_refusal
 use Rattle.parallel_clients.specs.declared.outcome.Outcome.{Outcome}
 use Rattle.parallel_clients.specs.declared.outcome.Outcome.TheVariants.{Done, Refused, Unseen}
-use Rattle.parallel_clients.specs.Played.{Sights, no_sights, sights_after, WasHead, IfSees, Played}
+use Rattle.parallel_clients.specs.Played.{Sights, no_sights, sights_after, WasHead, AreNamedHeads, WereHeads, IfSees, Played}
 
 -- what is fixed for the clients of a store: the store's meaning, terms and addresses, the operation that a plain form stands for, and the count of the disk's
 -- faults when the store was opened
@@ -26,8 +26,27 @@ pub record Setting (S O R Q A : Type 0) : Type 1 where
 abbrev pub setting : {S O R Q A : Type 0} → Fixed S O R Q A → (PlainOp → O) → ℕ → Setting S O R Q A
 setting fixed op_of opened = record { fixed = fixed; op_of = op_of; opened = opened }
 
+-- the machine refuses a look at one of the branches with these names; those with the names before it are there
+pub record RefusesLook {S O R Q A : Type 0} (on : Setting S O R Q A) (moves : List (Move O R)) (from : List (List ℕ)) (refusal : machine.Refusal) : Type 0 where
+  pub first : List (List ℕ)
+  pub name : List ℕ
+  pub rest : List (List ℕ)
+  pub is : from ≡ first ++ name ∷ rest
+  pub heads : List ℕ
+  pub there : AreNamedHeads on.fixed.terms.origin moves first heads
+  pub refused : FullyRefuses on.fixed moves (machine.Look name) refusal
+
+-- the machine refuses a merge of commits that were the heads of the branches with these names, from a head that a session's branch had
+pub record RefusesJoin {S O R Q A : Type 0} (on : Setting S O R Q A) (moves : List (Move O R)) (branch : List ℕ) (from : List (List ℕ)) (refusal : machine.Refusal) : Type 0 where
+  pub number : ℕ
+  pub head : ℕ
+  pub heads : List ℕ
+  pub seen : WasHead on.fixed.terms.origin moves branch number head
+  pub others : WereHeads on.fixed.terms.origin moves from heads
+  pub refused : FullyRefuses on.fixed moves (machine.Merge number head heads) refusal
+
 -- The machine refuses a client's step after a history: an operation or a merge is made from a head that the session's branch had, and a merge is of a head that the
--- other branch had, if there is one with its name. Of a session that has not looked it is not asked.
+-- other branch had, if there is one with its name, and a join of those of several. Of a session that has not looked it is not asked.
 abbrev pub RefusesStep : {S O R Q A : Type 0} → Setting S O R Q A → List (Move O R) → Sights → Step → machine.Refusal → Type 0
 RefusesStep on moves sights (Look session branch) refusal = FullyRefuses on.fixed moves (machine.Look branch) refusal
 RefusesStep on moves sights (Ask branch query) refusal = FullyRefuses on.fixed moves (machine.Look branch) refusal
@@ -38,6 +57,7 @@ RefusesStep on moves sights (Merge session from) refusal =
     IfSees (sights session) (λ branch. FullyRefuses on.fixed moves (machine.Look from) refusal
     ⊎ ((number head source commit : ℕ) × WasHead on.fixed.terms.origin moves branch number head × WasHead on.fixed.terms.origin moves from source commit
     × FullyRefuses on.fixed moves (machine.Merge number head (commit ∷ [])) refusal))
+RefusesStep on moves sights (Join session from) refusal = IfSees (sights session) (λ branch. RefusesLook on moves from refusal ⊎ RefusesJoin on moves branch from refusal)
 
 -- the disk has failed since the store was opened
 abbrev pub HasFailed : {S O R Q A : Type 0} → Setting S O R Q A → ℕ → Type 0
@@ -72,6 +92,7 @@ pub record IsRefused {S O R Q A : Type 0} (on : Setting S O R Q A) (old new : Li
 abbrev pub SeesNone : Sights → Step → Type 0
 SeesNone sights (Do session op) = sights session ≡ None
 SeesNone sights (Merge session from) = sights session ≡ None
+SeesNone sights (Join session from) = sights session ≡ None
 SeesNone sights step = ⊥
 
 -- the step behind so many names a session without a look, after what the steps before it made at the places

@@ -8,9 +8,10 @@ use Rattle.branch_history.specs.declared.moves.Move.{Move}
 use Rattle.branch_history.specs.declared.moves.Move.TheVariants as move
 use Rattle.branch_history.specs.Commits.{graph_of}
 use Rattle.branch_history.specs.History.{store_of}
+use Rattle.branch_history.specs.Merging.{brought}
 use Rattle.branch_doc.specs.declared.plain.PlainOp.{PlainOp}
 use Rattle.branch_script.specs.declared.step.Step.{Step}
-use Rattle.branch_script.specs.declared.step.Step.TheVariants.{Look, Fork, Merge, Do, Ask}
+use Rattle.branch_script.specs.declared.step.Step.TheVariants.{Look, Fork, Merge, Join, Do, Ask}
 
 -- the branch of each session's last look, by its name
 abbrev pub Sights : Type 0
@@ -28,6 +29,7 @@ sights_after [] sights = sights
 sights_after (Look session branch ∷ steps) sights = sights_after steps (with_sight sights session branch)
 sights_after (Fork new from ∷ steps) sights = sights_after steps sights
 sights_after (Merge session branch ∷ steps) sights = sights_after steps sights
+sights_after (Join session branches ∷ steps) sights = sights_after steps sights
 sights_after (Do session op ∷ steps) sights = sights_after steps sights
 sights_after (Ask branch query ∷ steps) sights = sights_after steps sights
 
@@ -71,6 +73,44 @@ pub record IsMerged {O R : Type 0} (origin : ℕ) (moves : List (Move O R)) (bra
   pub head : WasHead origin moves from source commit
   pub made : IsMoveAt moves place (move.Merge number commit) ⊎ IsMoveAt moves place (move.Forward number commit)
 
+-- these are the heads of the branches that have the names, in order
+abbrev pub AreNamedHeads : {O R : Type 0} → ℕ → List (Move O R) → List (List ℕ) → List ℕ → Type 0
+AreNamedHeads origin moves [] [] = Unit {0}
+AreNamedHeads origin moves [] (head ∷ heads) = ⊥
+AreNamedHeads origin moves (name ∷ names) [] = ⊥
+AreNamedHeads origin moves (name ∷ names) (head ∷ heads) =
+    ((source : ℕ) × (branch_named (store_of origin moves).branches name ≡ Some source) × (head_of (store_of origin moves).branches source ≡ head))
+    × AreNamedHeads origin moves names heads
+
+-- these were their heads, after some first part of a history
+pub record WereHeads {O R : Type 0} (origin : ℕ) (moves : List (Move O R)) (names : List (List ℕ)) (heads : List ℕ) : Type 0 where
+  pub before : List (Move O R)
+  pub begins : IsPrefix before moves
+  pub are : AreNamedHeads origin before names heads
+
+-- the move that brings a branch some commits: of none there is none; one alone is merged, or moved up to; several are joined
+abbrev pub IsMoveOf : {O R : Type 0} → ℕ → List ℕ → Move O R → Type 0
+IsMoveOf number [] made = ⊥
+IsMoveOf number (m ∷ []) made = (made ≡ move.Merge number m) ⊎ (made ≡ move.Forward number m)
+IsMoveOf number (m ∷ k ∷ ks) made = made ≡ move.Join number (m ∷ k ∷ ks)
+
+-- a move that joins into a session's branch: it brings what a merge of commits, which were the heads of others at one time, brings to a head that had been seen then
+pub record Joins {O R : Type 0} (origin : ℕ) (moves : List (Move O R)) (branch : List ℕ) (from : List (List ℕ)) (made : Move O R) : Type 0 where
+  pub number : ℕ
+  pub head : ℕ
+  pub heads : List ℕ
+  pub before : List (Move O R)
+  pub begins : IsPrefix before moves
+  pub seen : WasHead origin before branch number head
+  pub others : AreNamedHeads origin before from heads
+  pub is_move : IsMoveOf number (brought (graph_of (store_of origin before).commits) head heads) made
+
+-- the join into a session's branch of the heads of others
+pub record IsJoined {O R : Type 0} (origin : ℕ) (moves : List (Move O R)) (branch : List ℕ) (from : List (List ℕ)) (place : ℕ) : Type 0 where
+  pub made : Move O R
+  pub joins : Joins origin moves branch from made
+  pub at : IsMoveAt moves place made
+
 -- some branch has the name
 abbrev pub HasBranch : {O R : Type 0} → ℕ → List ℕ → List (Move O R) → Type 0
 HasBranch origin name moves = (number : ℕ) × (branch_named (store_of origin moves).branches name ≡ Some number)
@@ -86,6 +126,14 @@ pub record IsReached {O R : Type 0} (origin : ℕ) (branch from : List ℕ) (mov
   pub named : WasNamed origin moves branch number
   pub other : branch_named (store_of origin moves).branches from ≡ Some source
   pub reached : IsTrue (reaches (graph_of (store_of origin moves).commits) (head_of (store_of origin moves).branches number) (head_of (store_of origin moves).branches source))
+
+-- a merge of the heads of these branches brings nothing to the head of a session's branch
+pub record BringsNothing {O R : Type 0} (origin : ℕ) (branch : List ℕ) (from : List (List ℕ)) (moves : List (Move O R)) : Type 0 where
+  pub number : ℕ
+  pub heads : List ℕ
+  pub named : WasNamed origin moves branch number
+  pub others : AreNamedHeads origin moves from heads
+  pub nothing : brought (graph_of (store_of origin moves).commits) (head_of (store_of origin moves).branches number) heads ≡ []
 
 -- the first of the places is such a one, behind the last, and the others go on from it
 abbrev pub TakesOne : (ℕ → Type 0) → (ℕ → List ℕ → Type 0) → ℕ → List ℕ → Type 0
@@ -119,9 +167,13 @@ PlayedFrom op_of origin moves (Merge session from ∷ steps) sights last places 
     IfSees (sights session) (λ branch.
     TakesOne (IsMerged origin moves branch from) (PlayedFrom op_of origin moves steps sights) last places
     ⊎ TakesNone moves (IsReached origin branch from) (PlayedFrom op_of origin moves steps sights) last places)
+PlayedFrom op_of origin moves (Join session from ∷ steps) sights last places =
+    IfSees (sights session) (λ branch.
+    TakesOne (IsJoined origin moves branch from) (PlayedFrom op_of origin moves steps sights) last places
+    ⊎ TakesNone moves (BringsNothing origin branch from) (PlayedFrom op_of origin moves steps sights) last places)
 
 -- The moves of a history of a store with this first origin at these places, behind its first so many, are those of a client's steps, in order: one for each operation; one for each fork, or none where
--- the name is taken; one for each merge, or none where there is nothing to merge. A look and a query make none. Each step that makes none was done after some first
+-- the name is taken; one for each merge and each join, or none where there is nothing to merge. A look and a query make none. Each step that makes none was done after some first
 -- part of the history, no shorter than that of the step before it: of a look and a query, one that has the branch.
 unfoldable pub Played : {O R : Type 0} → (PlainOp → O) → ℕ → ℕ → List Step → List ℕ → List (Move O R) → Type 0
 Played op_of origin begun steps places moves = PlayedFrom op_of origin moves steps no_sights begun places

@@ -6,6 +6,7 @@ use Rattle.std.specs.Map.{lookup}
 use Rattle.std.specs.Ordering.{nat_cmp, is_eq}
 use Rattle.std.specs.Cmp.Lexicographic.{slice_cmp}
 use mathlib.Core.List.{IsPrefix}
+use Rattle.mrdt_model.specs.Laws.{Meaning}
 use Rattle.branch_names.specs.declared.terms.Terms.{Terms}
 use Rattle.branch_names.specs.Heads.{head_of, branch_named}
 use Rattle.branch_history.specs.declared.moves.Move.{Move}
@@ -14,8 +15,12 @@ use Rattle.branch_history.specs.History.{store_of}
 use Rattle.branch_history.specs.Steps as machine
 use Rattle.branch_doc.specs.declared.plain.PlainOp.{PlainOp}
 use Rattle.branch_script.specs.declared.step.Step.{Step}
+use Rattle.store_seen.specs.declared.answers.PairRefused.{PairRefused}
+use Rattle.store_seen.specs.declared.answers.PairRefused.TheVariants as pair_refusal
+use Rattle.store_seen.specs.declared.pair.PairStep.{PairStep}
+use Rattle.store_seen.specs.Groups.{IsGrouped, GroupRefusedAs, MergesAllAs, IsStepOfAll}
 use Rattle.store_seen.specs.Turns.{step_of}
-use Rattle.store_seen.specs.Views.{SeenView, PreparedView}
+use Rattle.store_seen.specs.Views.{CoreView, SeenView, PreparedView, GroupView}
 use Rattle.recorded_history.specs.Machine.{FullyRefuses}
 use Rattle.branch_shared.specs.Passes.{PassView, IsSeenOn}
 use Rattle.parallel_clients.specs.declared.landing.Landing.{Landing}
@@ -27,7 +32,7 @@ use Rattle.parallel_clients.specs.declared.outcome.ClientRefusal.TheVariants as 
 use Rattle.parallel_clients.specs.declared.outcome.Outcome.{Outcome}
 use Rattle.parallel_clients.specs.declared.outcome.Outcome.TheVariants as outcome
 use Rattle.parallel_clients.specs.declared.sessions.Session.{Session}
-use Rattle.parallel_clients.specs.Played.{Sights, no_sights, sights_after, WasNamed, WasHead, IsReached, PlayedFrom}
+use Rattle.parallel_clients.specs.Played.{Sights, no_sights, sights_after, WasNamed, WasHead, IsReached, Joins, BringsNothing, PlayedFrom}
 use Rattle.parallel_clients.specs.Outcomes.{Setting, ArePast, HasFailed, StepRefused, SeesNone}
 
 -- the sessions of a client: of each, the branch of its last look, and what it sees there
@@ -161,6 +166,51 @@ abbrev pub IsTriedMerge : {O R : Type 0} → ℕ → Option (List ℕ) → List 
 IsTriedMerge origin sight from old new places after Moved = HasMerged origin sight from old new places after
 IsTriedMerge origin sight from old new places after Stale = HasStayed old new places after
 IsTriedMerge origin sight from old new places after Same = HasSame origin sight from old new places after
+
+-- why a client stops whose look was not grouped
+abbrev pub ungrouped_as : PairRefused → ClientRefusal
+ungrouped_as (pair_refusal.UnknownBranch name) = client_refusal.UnknownBranch name
+ungrouped_as pair_refusal.Memory = client_refusal.Memory
+
+-- a look was grouped with the heads that branches have, and this is what was prepared of the group
+pub record IsJoinReady {S O R Q A : Type 0} (meaning : Meaning S O R Q A) (core : CoreView (Move O R)) (seen : SeenView (Move O R)) (from : List (List ℕ)) (step : PairStep S O Q A R) : Type 0 where
+  pub group : GroupView (Move O R)
+  pub grouped : IsGrouped meaning core seen from group
+  pub is : IsStepOfAll meaning group step
+
+-- it was grouped, and a merge of the group is too large
+pub record IsJoinTooLarge {S O R Q A : Type 0} (meaning : Meaning S O R Q A) (core : CoreView (Move O R)) (seen : SeenView (Move O R)) (from : List (List ℕ)) (size : ℕ) : Type 0 where
+  pub group : GroupView (Move O R)
+  pub grouped : IsGrouped meaning core seen from group
+  pub refused : MergesAllAs meaning group (machine.Refused (machine.ValueTooLarge size))
+
+-- why nothing was prepared
+abbrev pub IsJoinUnready : {S O R Q A : Type 0} → Meaning S O R Q A → CoreView (Move O R) → SeenView (Move O R) → List (List ℕ) → ClientRefusal → Type 0
+IsJoinUnready meaning core seen from (client_refusal.UnknownBranch name) = GroupRefusedAs meaning core from (pair_refusal.UnknownBranch name)
+IsJoinUnready meaning core seen from (client_refusal.ValueTooLarge size) = IsJoinTooLarge meaning core seen from size
+IsJoinUnready meaning core seen from client_refusal.Memory = Unit {0}
+IsJoinUnready meaning core seen from other = ⊥
+
+-- heads of other branches were joined into the branch that a session sees
+pub record HasJoined {O R : Type 0} (origin : ℕ) (sight : Option (List ℕ)) (from : List (List ℕ)) (old new : PassView (Move O R)) (places after : List ℕ) : Type 0 where
+  pub branch : List ℕ
+  pub sees : sight ≡ Some branch
+  pub made : Move O R
+  pub joins : Joins origin new.moves branch from made
+  pub moved : HasMoved made old new places after
+
+-- there was nothing to join
+pub record HasNothing {O R : Type 0} (origin : ℕ) (sight : Option (List ℕ)) (from : List (List ℕ)) (old new : PassView (Move O R)) (places after : List ℕ) : Type 0 where
+  pub branch : List ℕ
+  pub sees : sight ≡ Some branch
+  pub brings : BringsNothing origin branch from new.moves
+  pub stayed : HasStayed old new places after
+
+-- what came of a try to join
+abbrev pub IsTriedJoin : {O R : Type 0} → ℕ → Option (List ℕ) → List (List ℕ) → PassView (Move O R) → PassView (Move O R) → List ℕ → List ℕ → Landing → Type 0
+IsTriedJoin origin sight from old new places after Moved = HasJoined origin sight from old new places after
+IsTriedJoin origin sight from old new places after Stale = HasStayed old new places after
+IsTriedJoin origin sight from old new places after Same = HasNothing origin sight from old new places after
 
 -- why a client stops at a step
 abbrev pub IsStopped : {S O R Q A : Type 0} → Setting S O R Q A → Sights → Step → PassView (Move O R) → Stop → Type 0

@@ -1,10 +1,10 @@
 // What is called beside the work of clients.
 use std::sync::Wait;
 
-/// What is called before a client prepares an operation or a merge, and after each of its moves. It may wait, so that
-/// a test can hold a client back.
+/// What is called before a client prepares an operation, a merge or a join, and after each of its moves. It may wait,
+/// so that a test can hold a client back.
 pub trait Gate: Sync {
-    /// A client is about to prepare an operation or a merge.
+    /// A client is about to prepare an operation, a merge or a join.
     fn before_prepare<R: Wait>(&self, rt: &R, client: u64);
 
     /// A move of a client landed, and the history has this many moves then.

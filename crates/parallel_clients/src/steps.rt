@@ -126,6 +126,42 @@ impl<T: Plain, D: Disk + Drop, A: Address, N: Named<T::Op, T::Reply>, G: Gate, R
         unreachable!()
     }
 
+    // Joins the heads of one to eight branches into the branch that a session sees, which looks there again after a move;
+    // whether it could.
+    fn join(
+        &self,
+        pass: &mut Pass<T, N>,
+        sessions: &mut Sessions<T>,
+        places: &mut Vec<u64>,
+        session: &Name,
+        from: &[Name],
+    ) -> Result<bool, Stop>
+        requires sessions { AreSessions N.terms pass.old.moves sessions.old.entries }
+        requires room { length places.old.items < vec_capacity places.old }
+        requires some { 1 ≤ length from.now }
+        requires few { length from.now ≤ 8 }
+        ensures advances { Advances pass.old pass.new places.old.items places.new.items }
+        ensures valid { KeepsValid (fix T.meaning N.terms A.address) pass.old pass.new }
+        ensures capacity { vec_capacity places.old ≤ vec_capacity places.new }
+        ensures sessions { OnOk result (AreSessions N.terms pass.new.moves sessions.new.entries) }
+        ensures plays { OnOk result (PlaysOn T.op_of N.terms.origin (step.Join session.now from.now ∷ []) (stage_of pass.old sessions.old.entries places.old.items) (stage_of pass.new sessions.new.entries places.new.items)) }
+        ensures few { length places.new.items ≤ length places.old.items + 1 }
+        ensures stopped { IfErr result (Stops (setting (fix T.meaning N.terms A.address) T.op_of N.opened) (sights_of sessions.old.entries) (step.Join session.now from.now) pass.old pass.new places.old.items places.new.items) }
+    {
+        for _ in self.rt.forever() {
+            match self.try_join(pass, sessions, places, session, from)? {
+                Landing::Moved => return Ok(self.look_again(pass, sessions, session).is_ok()),
+                Landing::Same => return Ok(true),
+                Landing::Stale => {
+                    if self.look_again(pass, sessions, session).is_err() {
+                        return Err(Stop::Refused(ClientRefusal::Memory));
+                    }
+                }
+            }
+        }
+        unreachable!()
+    }
+
     // Forks a branch from another, unless the name is taken.
     fn fork(
         &self,
@@ -253,6 +289,9 @@ impl<T: Plain, D: Disk + Drop, A: Address, N: Named<T::Op, T::Reply>, G: Gate, R
             }
             Step::Merge { session, branch } => {
                 self.merge(pass, sessions, places, session, branch)
+            }
+            Step::Join { session, branches } => {
+                self.join(pass, sessions, places, session, branches.as_slice())
             }
             Step::Do { session, op } => self.operation(pass, sessions, places, session, op),
             Step::Ask { branch, query } => {

@@ -1,6 +1,7 @@
 use Rattle.std.proofs.Common.{List, ℕ, sym, subst}
 use Rattle.std.specs.Prelude.{Result}
 use Rattle.branch_script.specs.declared.step.Step.{Step}
+use Rattle.branch_script.specs.declared.step.Step.TheVariants as step
 use Rattle.branch_engine.specs.declared.refused.TellRefused.{TellRefused}
 use Rattle.branch_engine.specs.Play.{step_told}
 use Rattle.branch_engine.specs.Engines.{EngineView}
@@ -28,6 +29,14 @@ returns-in-Merge g c =
     let d = g.D.Disk in let laws = g.met.D.Disk in
     let m = members d.may_leave d.moment d.left_since d.faults laws.only_now in
     subst (DoesStep m g.A.Address.address c.args.self.now c.merge.new.self c.args.out.now.items c.merge.new.out.items c.merge.result) (sym c.in-Merge.is) c.merge.ensures
+
+pub returns-in-Join : goal.returns-in-Join
+returns-in-Join g c =
+    let d = g.D.Disk in let laws = g.met.D.Disk in
+    let m = members d.may_leave d.moment d.left_since d.faults laws.only_now in
+    let session = c.in-Join.session in
+    let Told = DoesStep m g.A.Address.address c.args.self.now c.join.new.self c.args.out.now.items c.join.new.out.items c.join.result in
+    subst Told (sym c.in-Join.is) (subst (λ from. Told (step.Join session from)) c.as_slice.ensures.same c.join.ensures)
 
 pub returns-in-Do : goal.returns-in-Do
 returns-in-Do g c =
