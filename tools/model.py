@@ -298,6 +298,31 @@ class Store:
         self.put_record(3, branch, other, name)
         return "merged", number
 
+    def brought(self, seen, others):
+        """What a merge of these commits brings to the one that is seen: each once, and none that this or another reaches."""
+        once = list(dict.fromkeys(others))
+        return [n for n in once if not self.reaches(seen, n) and not any(k != n and self.reaches(k, n) for k in once)]
+
+    def join(self, branch, seen, others):
+        """Merges several commits at once. Gives the kind of the move and the new head."""
+        brought = self.brought(seen, others)
+        if not brought:
+            return "same", seen
+        if len(brought) == 1:
+            return self.merge(branch, seen, brought[0])
+        parents = [seen] + brought
+        reach = 0
+        for parent in parents:
+            reach |= self.commits[parent].reach
+        value = document([c.event for at, c in enumerate(self.commits) if c.event and reach >> at & 1])
+        self.check_value(len(value))
+        self.check_land(branch, seen, True)
+        clock = max(self.commits[parent].clock for parent in parents)
+        number, _ = self.add_commit(parents, self.origin + branch, clock, None, b"\2", value)
+        self.branches[branch][1] = number
+        self.put_record(5, branch, len(brought), b"".join(u32(n) for n in brought))
+        return "joined", number
+
     def fork(self, new, of):
         number = self.find(of)
         for taken, branch in enumerate(self.branches):
@@ -343,6 +368,8 @@ def fits(words):
     verb = words[4].decode() if len(words) > 4 else ""
     if words[0] in (b"look", b"fork", b"merge"):
         return len(words) == 3
+    if words[0] == b"join":
+        return 4 <= len(words) <= 10
     if words[0] == b"ask" and len(words) == 4:
         return kind in KINDS and words[3] == b"keys"
     table = {b"do": DO, b"ask": ASK}.get(words[0])
@@ -359,7 +386,7 @@ def read_line(line):
     words = line.split(b" ")
     if any(b < 32 or b > 126 for b in line) or b"" in words or not fits(words):
         raise Refused("error syntax")
-    names = words[1:3] if words[0] in (b"look", b"fork", b"merge") else words[1:2]
+    names = words[1:] if words[0] in (b"look", b"fork", b"merge", b"join") else words[1:2]
     if not all(NAME.match(name) for name in names):
         raise Refused("error name")
     if words[0] == b"do" and words[2] == b"counter" and words[4] == b"add":
@@ -428,6 +455,13 @@ class Engine:
         number, seen = self.seen(session)
         other = self.store.branches[self.store.find(branch)][1]
         kind, head = self.store.merge(number, seen, other)
+        self.sessions[session] = (number, head)
+        return kind if kind == "same" else f"{kind} #{head}"
+
+    def join(self, session, *branches):
+        number, seen = self.seen(session)
+        others = [self.store.branches[self.store.find(branch)][1] for branch in branches]
+        kind, head = self.store.join(number, seen, others)
         self.sessions[session] = (number, head)
         return kind if kind == "same" else f"{kind} #{head}"
 
