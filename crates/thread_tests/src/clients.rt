@@ -29,18 +29,6 @@ const STEPS_OF_EACH_KIND: [&str; 8] = [
     "ask main counter hits value",
 ];
 
-const STEPS_OF_A_JOIN: [&str; 9] = [
-    "fork p main",
-    "fork q main",
-    "look a p",
-    "look b q",
-    "look m main",
-    "do a counter hits add 1",
-    "do b counter hits add 2",
-    "join m p q",
-    "join m q p",
-];
-
 // What becomes of a client alone in a store, and the store after it.
 fn alone<R: Threads + Wait + Abort + Sync>(
     rt: &R,
@@ -97,15 +85,8 @@ fn one_client_and_each_limit(rt: HostRuntime) -> Result<(), Fail> {
 
 #[test]
 fn one_client_and_each_step(rt: HostRuntime) -> Result<(), Fail> {
-    let rows: [(&[u64], &[&str], &str); 12] = [
+    let rows: [(&[u64], &[&str], &str); 9] = [
         (&[], &STEPS_OF_EACH_KIND, "done [1, 2, 3]"),
-        (&[], &STEPS_OF_A_JOIN, "done [1, 2, 3, 4, 5]"),
-        (
-            &[],
-            &["fork p main", "look m main", "join m p q"],
-            "refused 2 UnknownBranch [1]",
-        ),
-        (&[], &["join m p q"], "unseen 0 []"),
         (&[], &["look a p"], "refused 0 UnknownBranch []"),
         (
             &[],
