@@ -30,7 +30,7 @@ use branch_disk::{Disk, DiskFailed, Part};
 use branch_history::Move;
 use branch_names::{Name, Terms};
 use heads_journal::Record;
-use mrdt_model::{Memory, Mrdt};
+use mrdt_model::{Listing, Memory, Mrdt};
 use object_store::Objects;
 use std::alloc::Global;
 use std::marker::Model;
@@ -89,6 +89,14 @@ impl<T: Mrdt, A: Address> Recorded<T, A> {
         ensures valid { IsFullyValid (fix T.meaning self.now.terms A.address) (self.now.written ++ self.now.pending) }
     {
         self.versions.moves()
+    }
+
+    /// The moves that are written, in order, where none is pending. It takes no memory.
+    pub fn into_moves(self) -> Listing<Move<T::Op, T::Reply>>
+        requires { self.pending ≡ [] }
+        ensures { result ≡ self.written }
+    {
+        self.versions.into_moves()
     }
 
     /// How many commits the store holds, commit 0 counted, and that of the pending move.

@@ -96,6 +96,13 @@ impl<T: Mrdt> Versions<T> {
         self.moves.len() as u64
     }
 
+    /// The moves of the history, in order. It takes no memory.
+    pub fn into_moves(self) -> Listing<Move<T::Op, T::Reply>>
+        ensures { result ≡ self.core.history }
+    {
+        Listing::from_vec(self.moves)
+    }
+
     /// How many commits the store holds, commit 0 counted. Each has an address.
     pub fn commits(&self) -> u32
         ensures count { result ≡ length (store_of self.now.core.terms.origin self.now.core.history).commits }
