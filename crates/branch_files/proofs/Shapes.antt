@@ -27,9 +27,10 @@ use Rattle.heads_journal.specs.declared.record.Record.{Record}
 use Rattle.branch_objects_codec.specs.Grammar.{IsCommit}
 use Rattle.branch_wire.specs.Objects.{HasParents}
 use Rattle.branch_objects_codec.proofs.Body.{same_commit}
-use Rattle.branch_files.specs.Records.{record_of}
+use Rattle.branch_files.specs.Records.{record_of, last_in}
 use Rattle.branch_files.specs.Stands.{Spans}
-use Rattle.branch_files.specs.Next.{MakesCommit, Does, IsValuePart, HasShape, bytes_behind}
+use Rattle.branch_files.specs.Next.{MakesCommit, Does, AreFewIn, IsValuePart, HasShape, bytes_behind}
+use Rattle.branch_files.proofs.Longer.{known-last}
 use Rattle.branch_files.proofs.Next.{accepted, unseen, kept, next, end-more, end-there, bytes-are}
 
 module _ {S O R Q A : Type 0} {form : Form} (fixed : FixedIn form S O R Q A) (old new other : Store O R) (e : other ≡ new) where
@@ -126,11 +127,11 @@ module _ {S O R Q A : Type 0} {form : Form} (fixed : FixedIn form S O R Q A) (la
         let body = body-short in
         (omega (arith, whole, body), omega (arith, whole, body))
 
-    has-shape : (r : Record) → HasParents c.action (length one.made.parents) → Does fixed r c.action → HasShape fixed r (region fixed moves m)
-    has-shape r count does =
+    has-shape : (r : Record) → HasParents c.action (length one.made.parents) → Does fixed r c.action → AreFewIn form.version c.parents → HasShape fixed r (region fixed moves m)
+    has-shape r count does fewer =
         ⊎_elim
-        (λ is. ([], pair.commit, inl refl, (c, is-commit count, does, refl), is))
-        (λ is. (pair.value, pair.commit, inr (spelling, value-short is, laws.spelling_inside (visible (s.commits ++ one.made ∷ []) (length s.commits)) lawful (value-short is), refl), (c, is-commit count, does, refl), is))
+        (λ is. ([], pair.commit, inl refl, (c, is-commit count, does, fewer, refl), is))
+        (λ is. (pair.value, pair.commit, inr (spelling, value-short is, laws.spelling_inside (visible (s.commits ++ one.made ∷ []) (length s.commits)) lawful (value-short is), refl), (c, is-commit count, does, fewer, refl), is))
         (region-one fixed laws size moves m spans.valid one)
 
   abbrev operation-one : (r : ℕ) (op : O) (reply : R) → Spans fixed (moves ++ move.Operation r op reply ∷ []) files → MakesOne fixed (store_after fixed moves) (store_after fixed (moves ++ move.Operation r op reply ∷ []))
@@ -225,22 +226,30 @@ module _ {S O R Q A : Type 0} {form : Form} (fixed : FixedIn form S O R Q A) (la
       let many = is.few in
       (omega arith, omega arith)
 
+  -- files of version 1 have no record of a join
+  join-later : (r : ℕ) (ks : List ℕ) (spans : Spans fixed (moves ++ move.Join r ks ∷ []) files) → form.version ≡ 1 → ⊥
+  join-later r ks spans is =
+      let within = (known-last fixed moves (move.Join r ks) spans.known).within in
+      let known : 5 ≤ last_in 1 = subst (λ (version : ℕ). 5 ≤ last_in version) is within in
+      omega (arith, known)
+
   -- the region of a move that makes a commit has the shape that its record asks for
   shape-region : (m : Move O R) → Spans fixed (moves ++ m ∷ []) files → MakesCommit (record_of fixed moves m) → HasShape fixed (record_of fixed moves m) (region fixed moves m)
   shape-region (move.Fork name count from) spans makes = absurd makes
   shape-region (move.Operation r op reply) spans makes =
       let m : Move O R = move.Operation r op reply in
-      has-shape m spans (operation-one r op reply spans) (record_of fixed moves m) refl (operation-does r op reply spans)
+      has-shape m spans (operation-one r op reply spans) (record_of fixed moves m) refl (operation-does r op reply spans) (λ is. omega arith)
   shape-region (move.Merge r k) spans makes =
       let m : Move O R = move.Merge r k in
-      has-shape m spans (merge-one r k spans) (record_of fixed moves m) (omega arith, omega arith) tt
+      has-shape m spans (merge-one r k spans) (record_of fixed moves m) (omega arith, omega arith) tt (λ is. omega arith)
   shape-region (move.Join r ks) spans makes =
       let m : Move O R = move.Join r ks in
-      has-shape m spans (join-one r ks spans) (record_of fixed moves m) (join-count r ks spans) tt
+      has-shape m spans (join-one r ks spans) (record_of fixed moves m) (join-count r ks spans) tt (λ is. absurd (join-later r ks spans is))
   shape-region (move.Forward r k) spans makes = absurd makes
   shape-region (move.Received parents origin clock act) spans makes =
       let m : Move O R = move.Received parents origin clock act in
       has-shape m spans (received-one parents origin clock act spans) (record_of fixed moves m) (received-count parents origin clock act spans) (received-does parents origin clock act spans)
+      (λ is. absurd ((known-last fixed moves m spans.known).made_here refl))
   shape-region (move.Place name count k) spans makes = absurd makes
   shape-region (move.Drop r) spans makes = absurd makes
 

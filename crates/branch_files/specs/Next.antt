@@ -116,9 +116,13 @@ Does fixed r action = ⊥
 abbrev pub IsValuePart : {S O R Q A : Type 0} {form : Form} → FixedIn form S O R Q A → List ℕ → Type 0
 IsValuePart fixed bytes = (bytes ≡ []) ⊎ ((v : List ℕ) × HasLength64 v × fixed.meaning.is_state_spelling v × (bytes ≡ value_object v))
 
--- the object of a commit that does what the record says
+-- a commit has as many parents as it may have in files of a version: in version 1 two at the most
+abbrev pub AreFewIn : ℕ → List (List ℕ) → Type 0
+AreFewIn version parents = version ≡ 1 → length parents ≤ 2
+
+-- the object of a commit that does what the record says, with as many parents as files of the form may have
 abbrev pub IsCommitPart : {S O R Q A : Type 0} {form : Form} → FixedIn form S O R Q A → Record → List ℕ → Type 0
-IsCommitPart fixed r bytes = (c : CommitFields) × IsCommit c × Does fixed r c.action × (bytes ≡ commit_object c)
+IsCommitPart {form = form} fixed r bytes = (c : CommitFields) × IsCommit c × Does fixed r c.action × AreFewIn form.version c.parents × (bytes ≡ commit_object c)
 
 -- an object of a value, or none, and then the object of a commit
 abbrev pub HasShape : {S O R Q A : Type 0} {form : Form} → FixedIn form S O R Q A → Record → List ℕ → Type 0
