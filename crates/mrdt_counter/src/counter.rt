@@ -1,11 +1,11 @@
 // The counter, its operations and its laws.
 ghost use Rattle.std.specs.Prelude.{◌≡◌, ◌∷◌, [], IfOk};
-ghost use Rattle.live_set.specs.Payloads.{IsAmount};
 ghost use Rattle.live_set.specs.Entries.{kept_times, IsRising, MergesEntries};
 ghost use Rattle.mrdt_counter.specs.Counter.{sum_of};
 
+use crate::adds::Adds;
 use branch_wire::{Cursor, put_i64};
-use live_set::{Kept, Live, unit_reply};
+use live_set::unit_reply;
 use mrdt_model::{Memory, Mrdt, Time, Unread};
 use std::alloc::Global;
 use std::marker::Model;
@@ -15,7 +15,7 @@ use std::marker::Model;
 #[derive(Drop)]
 pub struct Counter {
     alloc: Global,
-    adds: Live<i64>,
+    adds: Adds,
 }
 
 impl Model for Counter {
@@ -43,43 +43,22 @@ pub enum CounterQuery {
     Value,
 }
 
-// The amount of an entry.
-fn amount_of(kept: &Kept<i64>) -> i64
-    ensures value { result ≡ kept.now.payload }
-    ensures in_range { IsAmount kept.now.payload }
-{
-    kept.payload
-}
-
-// The sum of the amounts of entries.
-fn sum_of(entries: &[Kept<i64>]) -> i128
-    ensures { result ≡ sum_of entries.now }
-{
-    let mut sum: i128 = 0;
-    for kept in entries {
-        sum += i128::from(amount_of(kept));
-    }
-    sum
-}
-
 impl Counter {
     /// The sum of the amounts that no reset has seen, with no wrapping. It takes no memory.
     pub fn value(&self) -> i128
         ensures { result ≡ sum_of self.now }
     {
-        sum_of(self.adds.items())
+        self.adds.sum()
     }
 
-    // The counter with one amount more.
+    // The counter with one amount more. It shares all entries that it had.
     fn with_add(&self, amount: i64, time: Time) -> Result<Counter, Memory>
         ensures merges { IfOk result (MergesEntries [] self.now (record { time = time; payload = amount } ∷ [])) }
         ensures rising { IfOk result (λ counter. IsRising (kept_times counter)) }
     {
-        let mut added = Live::new(self.alloc);
-        added.add(time, amount)?;
         Ok(Counter {
             alloc: self.alloc,
-            adds: Live::merge(&Live::new(self.alloc), &self.adds, &added)?,
+            adds: self.adds.with(time, amount)?,
         })
     }
 
@@ -89,7 +68,7 @@ impl Counter {
     {
         Counter {
             alloc: self.alloc,
-            adds: Live::new(self.alloc),
+            adds: Adds::new(self.alloc),
         }
     }
 }
@@ -111,7 +90,7 @@ impl Mrdt for Counter {
     fn initial(alloc: Global) -> Counter {
         Counter {
             alloc,
-            adds: Live::new(alloc),
+            adds: Adds::new(alloc),
         }
     }
 
@@ -136,7 +115,7 @@ impl Mrdt for Counter {
     fn merge(base: &Counter, left: &Counter, right: &Counter) -> Result<Counter, Memory> {
         Ok(Counter {
             alloc: left.alloc,
-            adds: Live::merge(&base.adds, &left.adds, &right.adds)?,
+            adds: Adds::merge(&base.adds, &left.adds, &right.adds)?,
         })
     }
 
@@ -153,7 +132,7 @@ impl Mrdt for Counter {
     fn get(alloc: Global, bytes: &[u8]) -> Result<Counter, Unread> {
         Ok(Counter {
             alloc,
-            adds: Live::get(alloc, bytes)?,
+            adds: Adds::get(alloc, bytes)?,
         })
     }
 

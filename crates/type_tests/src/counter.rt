@@ -1,7 +1,7 @@
 // Counters with resets, and sums without.
-use crate::steps::{at, is_op_spelled, is_op_spelling, is_spelled, is_spelling, merged};
+use crate::steps::{after_all, at, is_op_spelled, is_op_spelling, is_spelled, is_spelling, merged};
 use mrdt_counter::{Counter, CounterOp, CounterQuery, Sum, SumOp};
-use mrdt_model::Mrdt;
+use mrdt_model::{Memory, Mrdt};
 use std::test::Fail;
 
 // 7 at 3.2.
@@ -40,6 +40,33 @@ fn a_reset_leaves_what_it_has_not_seen(rt: HostRuntime) -> Result<(), Fail> {
     let right = [(ADD_LEAST, at(2, 2)), (ADD_LEAST, at(3, 2))];
     let both: Counter = merged(rt.alloc(), &base, &[(RESET, at(2, 1))], &right)?;
     assert!(rt; both.value() == -18_446_744_073_709_551_616);
+    Ok(())
+}
+
+// The counter with a hundred Adds of 1 by one origin.
+fn grown(base: &Counter, origin: u32) -> Result<Counter, Memory> {
+    let mut counter = base.copy()?;
+    for clock in 2..102 {
+        let (next, _reply) = counter.apply(&CounterOp::Add(1), at(clock, origin))?;
+        counter = next;
+    }
+    Ok(counter)
+}
+
+// Two sides of a hundred Adds each, more than one part of a counter holds, merge to the same value in both orders,
+// and the base that they were made from stays as it was.
+#[test]
+fn long_counters_merge_in_both_orders(rt: HostRuntime) -> Result<(), Fail> {
+    let alloc = rt.alloc();
+    let base: Counter = after_all(alloc, &Counter::initial(alloc), &[(ADD_FIVE, at(1, 1))])?;
+    let left = grown(&base, 1)?;
+    let right = grown(&base, 2)?;
+    let one = Counter::merge(&base, &left, &right)?;
+    let other = Counter::merge(&base, &right, &left)?;
+    assert!(rt; base.value() == 5 && left.value() == 105 && one.value() == 205 && one.same(&other));
+    let mut bytes = Vec::new(alloc);
+    one.put(&mut bytes)?;
+    assert!(rt; bytes.len() == 4028 && is_spelling::<Counter>(alloc, bytes.as_slice()));
     Ok(())
 }
 
