@@ -14,6 +14,8 @@ mod log;
 #[cfg(test)]
 mod model;
 #[cfg(test)]
+mod old_document;
+#[cfg(test)]
 mod product;
 #[cfg(test)]
 mod queue;

@@ -1,0 +1,3 @@
+pub mod SumsRenewed
+pub mod MapsRenewed
+pub mod SidesRenewed
