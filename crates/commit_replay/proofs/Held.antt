@@ -4,7 +4,6 @@ use Rattle.std.specs.Prelude.{All, slice_get}
 use Rattle.std.proofs.lemmas.List.{take_at}
 use Rattle.std.proofs.Math.Seq.{drop-append_seam, drop-append-add}
 use Rattle.branch_disk.specs.Disk.{Files}
-use Rattle.branch_wire.specs.Fields.{version}
 use Rattle.branch_wire.specs.StoredObjects.{Begins}
 use Rattle.branch_history.specs.declared.moves.Move.{Move}
 use Rattle.heads_journal.specs.declared.record.Record.{Record}
@@ -16,8 +15,8 @@ use Rattle.heads_journal.specs.Reading.{IsOpen, StopsAt, ReadsAs}
 use Rattle.heads_journal.proofs.Spelled.{length-spelled}
 use Rattle.heads_journal.proofs.Records.{spelled-same}
 use Rattle.heads_journal.proofs.Readings.{record-same}
-use Rattle.branch_machine.specs.Fixed.{Fixed}
-use Rattle.branch_files.specs.Records.{records_of, header_for, history_text, gate_of}
+use Rattle.branch_machine.specs.Fixed.{Form, FixedIn}
+use Rattle.branch_files.specs.Records.{header_in, records_of, history_text, gate_of}
 use Rattle.branch_files.specs.Stands.{Spans}
 use Rattle.branch_files.specs.Next.{IsOpenAt, IsNext}
 use Rattle.branch_files.proofs.Longer.{begins-more, more-begins}
@@ -52,7 +51,7 @@ open_records-append (r ∷ rs) qs = ap (λ (l : List ℕ). 1 ∷ (record_fields 
 heads-append : (h : Header) (rs qs : List Record) → heads_text h (rs ++ qs) ≡ heads_text h rs ++ open_records qs
 heads-append h rs qs = ap (λ (l : List ℕ). 1 ∷ (header_fields h ++ l)) (open_records-append rs qs) ∙ ap (λ (l : List ℕ). 1 ∷ l) (sym (append_assoc (header_fields h) (open_records rs) (open_records qs)))
 
-module _ {S O R Q A : Type 0} (fixed : Fixed S O R Q A) (moves : List (Move O R)) (records : List Record) (files : Files) (holds : Holds (header_for fixed.terms) records files.heads) (follows : Follows fixed moves records files.objects) where
+module _ {S O R Q A : Type 0} {form : Form} (fixed : FixedIn form S O R Q A) (moves : List (Move O R)) (records : List Record) (files : Files) (holds : Holds (header_in form fixed.terms) records files.heads) (follows : Follows fixed moves records files.objects) where
   abbrev n : ℕ
   n = length moves
 
@@ -61,16 +60,16 @@ module _ {S O R Q A : Type 0} (fixed : Fixed S O R Q A) (moves : List (Move O R)
 
   -- the bytes behind all records
   abbrev behind : List ℕ
-  behind = (begins-more (heads_text (header_for fixed.terms) records) files.heads holds.text).more
+  behind = (begins-more (heads_text (header_in form fixed.terms) records) files.heads holds.text).more
 
-  parted : heads_text (header_for fixed.terms) records ≡ text ++ open_records (drop n records)
+  parted : heads_text (header_in form fixed.terms) records ≡ text ++ open_records (drop n records)
   parted =
-      ap (heads_text (header_for fixed.terms)) (sym (take-append-drop n records)) ∙ heads-append (header_for fixed.terms) (take n records) (drop n records)
-      ∙ ap (λ (rs : List Record). heads_text (header_for fixed.terms) rs ++ open_records (drop n records)) (sym follows.recorded)
+      ap (heads_text (header_in form fixed.terms)) (sym (take-append-drop n records)) ∙ heads-append (header_in form fixed.terms) (take n records) (drop n records)
+      ∙ ap (λ (rs : List Record). heads_text (header_in form fixed.terms) rs ++ open_records (drop n records)) (sym follows.recorded)
 
   heads-are : files.heads ≡ text ++ (open_records (drop n records) ++ behind)
   heads-are =
-      (begins-more (heads_text (header_for fixed.terms) records) files.heads holds.text).is ∙ ap (λ (l : List ℕ). l ++ behind) parted
+      (begins-more (heads_text (header_in form fixed.terms) records) files.heads holds.text).is ∙ ap (λ (l : List ℕ). l ++ behind) parted
       ∙ append_assoc text (open_records (drop n records)) behind
 
   pub spans : Spans fixed moves files
@@ -93,10 +92,10 @@ module _ {S O R Q A : Type 0} (fixed : Fixed S O R Q A) (moves : List (Move O R)
         ∙ ap (λ (l : List ℕ). text ++ 1 ∷ l) (append_assoc (record_fields r) (open_records (drop (suc n) records)) behind)
 
     fits : Fits r
-    fits = (All-at (IsRecord version) records n r holds.fit comes).0
+    fits = (All-at (IsRecord form.version) records n r holds.fit comes).0
 
     long-behind : 0 < length behind
-    long-behind = let less = holds.gate in omega (arith, ap length (begins-more (heads_text (header_for fixed.terms) records) files.heads holds.text).is, length-append (heads_text (header_for fixed.terms) records) behind)
+    long-behind = let less = holds.gate in omega (arith, ap length (begins-more (heads_text (header_in form fixed.terms) records) files.heads holds.text).is, length-append (heads_text (header_in form fixed.terms) records) behind)
 
     at-gate : drop (gate_of fixed moves) files.heads ≡ 1 ∷ (record_fields r ++ after)
     at-gate = ap (drop (gate_of fixed moves)) next-are ∙ drop-append_seam text (1 ∷ (record_fields r ++ after))
@@ -121,5 +120,5 @@ module _ {S O R Q A : Type 0} (fixed : Fixed S O R Q A) (moves : List (Move O R)
 
   -- a history of all the records
   module _ (all : records_of fixed moves ≡ records) where
-    pub whole-text : history_text fixed moves ≡ heads_text (header_for fixed.terms) records
-    whole-text = ap (heads_text (header_for fixed.terms)) all
+    pub whole-text : history_text fixed moves ≡ heads_text (header_in form fixed.terms) records
+    whole-text = ap (heads_text (header_in form fixed.terms)) all

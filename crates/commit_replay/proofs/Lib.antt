@@ -1,5 +1,7 @@
 pub mod Lists
 pub mod Joined
+pub mod Forms
+pub mod Versions
 pub mod Held
 pub mod Read
 pub mod Parted

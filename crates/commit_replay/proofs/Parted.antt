@@ -8,8 +8,8 @@ use Rattle.branch_objects_codec.specs.Grammar.{object_bytes, IsObject}
 use Rattle.branch_objects_codec.specs.Parts.{NoneAt}
 use Rattle.branch_objects_codec.proofs.OneWay.{objects}
 use Rattle.heads_journal.specs.declared.record.Record.{Record}
-use Rattle.branch_machine.specs.Fixed.{Fixed}
-use Rattle.branch_files.specs.Next.{Does, IsValuePart, HasShape}
+use Rattle.branch_machine.specs.Fixed.{Form, FixedIn}
+use Rattle.branch_files.specs.Next.{Does, AreFewIn, IsValuePart, HasShape}
 use Rattle.commit_replay.specs.Parts.{value_text, IsShort, AreParts, IsOfType}
 
 abbrev as_object : CommitFields → Object
@@ -56,13 +56,13 @@ parts-same bytes (Some x) (Some y) c d p q =
     let whole : commit_object c ++ [] ≡ commit_object d ++ [] = append-nil (commit_object c) ∙ first.1 ∙ sym (append-nil (commit_object d)) in
     (ap (λ (z : List ℕ). Some z) (same-value x y first.0), same-commit c d (objects.one (as_object c) (as_object d) [] [] p.commit q.commit whole).0)
 
-module _ {S O R Q A : Type 0} (fixed : Fixed S O R Q A) (r : Record) (bytes : List ℕ) where
+module _ {S O R Q A : Type 0} {form : Form} (fixed : FixedIn form S O R Q A) (r : Record) (bytes : List ℕ) where
   pub value-part : (value : Option (List ℕ)) → IsShort value → IsOfType fixed.meaning value → IsValuePart fixed (value_text value)
   value-part None short inside = inl refl
   value-part (Some v) short inside = inr (v, short, inside, refl)
 
-  pub parts-shape : (value : Option (List ℕ)) (c : CommitFields) → AreParts bytes value c → IsOfType fixed.meaning value → Does fixed r c.action → HasShape fixed r bytes
-  parts-shape value c parts inside does = (value_text value, commit_object c, value-part value parts.short inside, (c, parts.commit, does, refl), parts.whole)
+  pub parts-shape : (value : Option (List ℕ)) (c : CommitFields) → AreParts bytes value c → IsOfType fixed.meaning value → Does fixed r c.action → AreFewIn form.version c.parents → HasShape fixed r bytes
+  parts-shape value c parts inside does few = (value_text value, commit_object c, value-part value parts.short inside, (c, parts.commit, does, few, refl), parts.whole)
 
   -- the parts of bytes that have the shape
   pub record IsShapedBy : Type 0 where
@@ -71,21 +71,24 @@ module _ {S O R Q A : Type 0} (fixed : Fixed S O R Q A) (r : Record) (bytes : Li
     pub are : AreParts bytes value commit
     pub inside : IsOfType fixed.meaning value
     pub does : Does fixed r commit.action
+    pub few : AreFewIn form.version commit.parents
 
   pub shape-parts : HasShape fixed r bytes → IsShapedBy
-  shape-parts (first, second, inl none, (c, commit, does, is), whole) = record {
+  shape-parts (first, second, inl none, (c, commit, does, few, is), whole) = record {
     value = None;
     commit = c;
     are = record { short = tt; commit = commit; whole = whole ∙ ap (λ (l : List ℕ). l ++ second) none ∙ is };
     inside = tt;
     does = does;
+    few = few;
   }
-  shape-parts (first, second, inr (v, short, inside, same), (c, commit, does, is), whole) = record {
+  shape-parts (first, second, inr (v, short, inside, same), (c, commit, does, few, is), whole) = record {
     value = Some v;
     commit = c;
     are = record { short = short; commit = commit; whole = whole ∙ ap (λ (l : List ℕ). l ++ second) same ∙ ap (λ (l : List ℕ). value_object v ++ l) is };
     inside = inside;
     does = does;
+    few = few;
   }
 
   -- what was read of the bytes decides the shape
@@ -96,6 +99,11 @@ module _ {S O R Q A : Type 0} (fixed : Fixed S O R Q A) (r : Record) (bytes : Li
   not-done value c parts none shape =
       let own = shape-parts shape in
       none (subst (λ (d : CommitFields). Does fixed r d.action) (parts-same bytes own.value value own.commit c own.are parts).1 own.does)
+
+  pub not-few : (value : Option (List ℕ)) (c : CommitFields) → AreParts bytes value c → (AreFewIn form.version c.parents → ⊥) → HasShape fixed r bytes → ⊥
+  not-few value c parts none shape =
+      let own = shape-parts shape in
+      none (subst (λ (d : CommitFields). AreFewIn form.version d.parents) (parts-same bytes own.value value own.commit c own.are parts).1 own.few)
 
   pub not-valued : (value : Option (List ℕ)) (c : CommitFields) → AreParts bytes value c → (IsOfType fixed.meaning value → ⊥) → HasShape fixed r bytes → ⊥
   not-valued value c parts none shape =

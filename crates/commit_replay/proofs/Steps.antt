@@ -28,13 +28,13 @@ use Rattle.heads_journal.specs.declared.record.Record.{Record}
 use Rattle.heads_journal.specs.declared.record.Record.TheVariants.{Fork, Operation, Merge, Forward, Join, Received, Place, Drop}
 use Rattle.heads_journal.specs.Format.{fields_of, record_fields, Fits}
 use Rattle.heads_journal.proofs.Spelled.{length-spelled}
-use Rattle.branch_machine.specs.Fixed.{Fixed}
+use Rattle.branch_machine.specs.Fixed.{Form, FixedIn, Fixed}
 use Rattle.branch_machine.specs.Objects.{store_after, objects_text, region, end_of}
 use Rattle.branch_machine.specs.Machine.{collision_refusal, commit_here, unless_made, full_turn}
 use Rattle.branch_machine.specs.Laws.{HasSize}
 use Rattle.branch_machine.specs.Validity.{IsFullMove, IsFullyValid}
 use Rattle.branch_machine.proofs.Valid.{full_move-is, valid-before, valid-second, valid-more}
-use Rattle.branch_files.specs.Records.{record_of, records_of, IsKnown, AreKnown, history_text}
+use Rattle.branch_files.specs.Records.{record_of, records_of, IsKnownIn, AreKnown, history_text}
 use Rattle.branch_files.specs.Stands.{Spans}
 use Rattle.branch_files.specs.Next.{end_at, MakesCommit, IsNext, bytes_behind, Suits, Does, IsValuePart, HasShape, IsMade}
 use Rattle.branch_files.proofs.Longer.{more-begins, records-more, known-more, objects_text-more}
@@ -185,26 +185,26 @@ module _ {S O R Q A : Type 0} (fixed : Fixed S O R Q A) (moves : List (Move O R)
       let same : m ≡ again.made = cc e in
       other (ap (record_of fixed moves) same ∙ again.recorded) (ap (region fixed moves) same ∙ again.stored)
 
-  -- a move of the machine with this record and the region behind the history: records that the history follows go on with it
-  pub follows-more : (objects : List ℕ) (records : List Record) (r : Record) (m : Move O R) → Follows fixed moves records objects → slice_get records (length moves) ≡ Some r → IsKnown r → IsFullMove fixed moves m → record_of fixed moves m ≡ r → region fixed moves m ≡ bytes_behind fixed moves objects r → Follows fixed (moves ++ m ∷ []) records objects
-  follows-more objects records r m follows comes known full same is =
-      let count : length (moves ++ m ∷ []) ≡ suc (length moves) = omega (arith, length-append moves (m ∷ [])) in
-      let there = slice_get_within records (length moves) r comes in
-      let k : ℕ = end_at r - end_of fixed moves in
-      let rest : List ℕ = drop (end_of fixed moves) objects in record {
-        valid = valid-more fixed moves m follows.valid full;
-        within = omega (arith, count, there);
-        recorded = records-more fixed moves m ∙ ap (λ (q : Record). records_of fixed moves ++ q ∷ []) same ∙ ap (λ (l : List Record). l ++ r ∷ []) follows.recorded
-            ∙ sym (take-at records (length moves) r comes) ∙ ap (λ (n : ℕ). take n records) (sym count);
-        known = known-more fixed moves m follows.known (subst IsKnown (sym same) known);
-        stored = more-begins (objects_text fixed (moves ++ m ∷ [])) objects
-            (record {
-              more = drop k rest;
-              is = sym (take-append-drop (end_of fixed moves) objects) ∙ ap (λ (l : List ℕ). l ++ rest) follows.stored
-                  ∙ ap (λ (l : List ℕ). objects_text fixed moves ++ l) (sym (take-append-drop k rest) ∙ ap (λ (l : List ℕ). l ++ drop k rest) (sym is))
-                  ∙ sym (append_assoc (objects_text fixed moves) (region fixed moves m) (drop k rest)) ∙ ap (λ (l : List ℕ). l ++ drop k rest) (sym (objects_text-more fixed moves m));
-            });
-      }
+-- a move of the machine with this record and the region behind the history: records that the history follows go on with it
+pub follows-more : {S O R Q A : Type 0} {form : Form} (fixed : FixedIn form S O R Q A) (moves : List (Move O R)) (objects : List ℕ) (records : List Record) (r : Record) (m : Move O R) → Follows fixed moves records objects → slice_get records (length moves) ≡ Some r → IsKnownIn form.version r → IsFullMove fixed moves m → record_of fixed moves m ≡ r → region fixed moves m ≡ bytes_behind fixed moves objects r → Follows fixed (moves ++ m ∷ []) records objects
+follows-more {S} {O} {R} {Q} {A} {form} fixed moves objects records r m follows comes known full same is =
+    let count : length (moves ++ m ∷ []) ≡ suc (length moves) = omega (arith, length-append moves (m ∷ [])) in
+    let there = slice_get_within records (length moves) r comes in
+    let k : ℕ = end_at r - end_of fixed moves in
+    let rest : List ℕ = drop (end_of fixed moves) objects in record {
+      valid = valid-more fixed moves m follows.valid full;
+      within = omega (arith, count, there);
+      recorded = records-more fixed moves m ∙ ap (λ (q : Record). records_of fixed moves ++ q ∷ []) same ∙ ap (λ (l : List Record). l ++ r ∷ []) follows.recorded
+          ∙ sym (take-at records (length moves) r comes) ∙ ap (λ (n : ℕ). take n records) (sym count);
+      known = known-more fixed moves m follows.known (subst (IsKnownIn form.version) (sym same) known);
+      stored = more-begins (objects_text fixed (moves ++ m ∷ [])) objects
+          (record {
+            more = drop k rest;
+            is = sym (take-append-drop (end_of fixed moves) objects) ∙ ap (λ (l : List ℕ). l ++ rest) follows.stored
+                ∙ ap (λ (l : List ℕ). objects_text fixed moves ++ l) (sym (take-append-drop k rest) ∙ ap (λ (l : List ℕ). l ++ drop k rest) (sym is))
+                ∙ sym (append_assoc (objects_text fixed moves) (region fixed moves m) (drop k rest)) ∙ ap (λ (l : List ℕ). l ++ drop k rest) (sym (objects_text-more fixed moves m));
+          });
+    }
 
 -- files that have the history and the record, and these objects
 module _ {S O R Q A : Type 0} (fixed : Fixed S O R Q A) (moves : List (Move O R)) (objects : List ℕ) (r : Record) (valid : IsFullyValid fixed moves) (begins : Begins (objects_text fixed moves) objects) (known : AreKnown fixed moves) (fits : Fits r) (may : MayCome fixed moves r) where
@@ -447,11 +447,11 @@ module _ {S O R Q A : Type 0} (fixed : Fixed S O R Q A) (moves : List (Move O R)
   -- why bytes were refused, of which these parts were read
   pub why-refused : (p : Plan O) (value : Option (List ℕ)) (c : CommitFields) (action : Action) → IsPlanOf fixed.meaning r action p → AreParts bytes value c → c.action ≡ action → Does fixed r action → (Remakes fixed moves (step_for fixed.terms moves p) r bytes → ⊥) → (why : NotRemade) → IsWhyNot fixed.meaning value why → NotRemadeAs fixed moves r bytes why
   why-refused p value c action planned are does done none unmade.Object inside = not-valued fixed r bytes value c are inside
-  why-refused p value c action planned are does done none unmade.Commit inside = (parts-shape fixed r bytes value c are inside (subst (Does fixed r) (sym does) done), planned-not r refl action p planned value c are inside does none)
+  why-refused p value c action planned are does done none unmade.Commit inside = (parts-shape fixed r bytes value c are inside (subst (Does fixed r) (sym does) done) (λ one. absurd (omega (arith, one))), planned-not r refl action p planned value c are inside does none)
   why-refused p value c action planned are does done none unmade.Memory inside = tt
 
 -- bytes that are not read are refused for it
-pub why-unread : {S O R Q A : Type 0} (fixed : Fixed S O R Q A) (moves : List (Move O R)) (r : Record) (bytes : List ℕ) (why : Unread) → (why ≡ unread.NotCanonical → HasShape fixed r bytes → ⊥) → NotRemadeAs fixed moves r bytes (unread_as why)
+pub why-unread : {S O R Q A : Type 0} {form : Form} (fixed : FixedIn form S O R Q A) (moves : List (Move O R)) (r : Record) (bytes : List ℕ) (why : Unread) → (why ≡ unread.NotCanonical → HasShape fixed r bytes → ⊥) → NotRemadeAs fixed moves r bytes (unread_as why)
 why-unread fixed moves r bytes unread.NotCanonical none = none refl
 why-unread fixed moves r bytes unread.Memory none = tt
 

@@ -1,5 +1,5 @@
 -- The objects of one commit as they stand: that of its value, if that was not stored before, and its own.
-use Rattle.std.specs.Prelude.{◌≡◌, ℕ, List, [], ◌++◌}
+use Rattle.std.specs.Prelude.{◌≡◌, ℕ, List, [], ◌++◌, length}
 use Rattle.std.specs.declared.option.Option.{Option}
 use Rattle.std.specs.declared.option.Option.TheVariants.{None, Some}
 use Rattle.mrdt_model.specs.Laws.{Meaning}
@@ -27,9 +27,10 @@ pub record AreParts (bytes : List ℕ) (value : Option (List ℕ)) (c : CommitFi
   pub commit : IsCommit c
   pub whole : bytes ≡ value_text value ++ commit_object c
 
--- the commit's object does this
+-- the commit's object does this, and has so many parents
 pub record IsDoneIn (bytes : List ℕ) (parts : Parts) : Type 0 where
   pub commit : CommitFields
+  pub counted : length commit.parents ≡ parts.parents
   pub does : commit.action ≡ parts.action
   pub are : AreParts bytes parts.value commit
 

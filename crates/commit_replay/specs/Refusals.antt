@@ -5,7 +5,7 @@ use Rattle.branch_wire.specs.StoredObjects.{Begins}
 use Rattle.branch_disk.specs.declared.part.Part.TheVariants.{Objects, Heads}
 use Rattle.branch_history.specs.declared.moves.Move.{Move}
 use Rattle.heads_journal.specs.declared.record.Record.{Record}
-use Rattle.branch_machine.specs.Fixed.{Fixed}
+use Rattle.branch_machine.specs.Fixed.{Form, FixedIn}
 use Rattle.branch_machine.specs.Objects.{store_after, objects_text, end_of}
 use Rattle.branch_files.specs.Next.{end_at, MakesCommit, bytes_behind, HasShape, IsMade}
 use Rattle.commit_replay.specs.Follows.{Follows, MayCome}
@@ -13,14 +13,14 @@ use Rattle.commit_replay.specs.declared.refused.ReplayRefused.{ReplayRefused}
 use Rattle.commit_replay.specs.declared.refused.ReplayRefused.TheVariants.{NotAStore, BadRecord, Truncated, BadObject, BadCommit, Memory}
 
 -- the history allows the record behind it, and it is of a move that makes a commit, whose objects are all there
-pub record ComesWhole {S O R Q A : Type 0} (fixed : Fixed S O R Q A) (moves : List (Move O R)) (objects : List ℕ) (r : Record) : Type 0 where
+pub record ComesWhole {S O R Q A : Type 0} {form : Form} (fixed : FixedIn form S O R Q A) (moves : List (Move O R)) (objects : List ℕ) (r : Record) : Type 0 where
   pub may : MayCome fixed moves r
   pub long : end_at r ≤ length objects
   pub makes : MakesCommit r
 
 -- Why a record behind a history goes no further: the history does not allow it; the objects end too soon; they are
 -- no objects of such a move; or they are not those of a move of the machine.
-abbrev pub StopsAs : {S O R Q A : Type 0} → Fixed S O R Q A → List (Move O R) → List ℕ → Record → ReplayRefused → Type 0
+abbrev pub StopsAs : {S O R Q A : Type 0} {form : Form} → FixedIn form S O R Q A → List (Move O R) → List ℕ → Record → ReplayRefused → Type 0
 StopsAs fixed moves objects r NotAStore = ⊥
 StopsAs fixed moves objects r (BadRecord number) = (number ≡ length moves + 1) × ¬ MayCome fixed moves r
 StopsAs fixed moves objects r (Truncated Objects place) = (place ≡ end_of fixed moves) × MayCome fixed moves r × (length objects < end_at r)
@@ -33,7 +33,7 @@ StopsAs fixed moves objects r (BadCommit number) =
 StopsAs fixed moves objects r Memory = Unit {0}
 
 -- The objects do not begin with those of the empty history; or the record that comes behind some history goes no further.
-abbrev pub ReplayRefusedAs : {S O R Q A : Type 0} → Fixed S O R Q A → List Record → List ℕ → ReplayRefused → Type 0
+abbrev pub ReplayRefusedAs : {S O R Q A : Type 0} {form : Form} → FixedIn form S O R Q A → List Record → List ℕ → ReplayRefused → Type 0
 ReplayRefusedAs fixed records objects NotAStore = Begins (objects_text fixed []) objects → ⊥
 ReplayRefusedAs fixed records objects Memory = Unit {0}
 ReplayRefusedAs {S} {O} {R} fixed records objects refusal =

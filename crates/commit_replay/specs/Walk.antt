@@ -4,7 +4,7 @@ use Rattle.branch_history.specs.declared.moves.Move.{Move}
 use Rattle.branch_history.specs.History.{Store}
 use Rattle.branch_history.specs.Steps.{Step}
 use Rattle.heads_journal.specs.declared.record.Record.{Record}
-use Rattle.branch_machine.specs.Fixed.{Fixed}
+use Rattle.branch_machine.specs.Fixed.{Form, FixedIn, Fixed}
 use Rattle.branch_machine.specs.Objects.{store_after, end_of, region}
 use Rattle.branch_machine.specs.Validity.{IsFullMove, IsFullyValid}
 use Rattle.branch_files.specs.Records.{record_of}
@@ -52,13 +52,13 @@ IsKeptIfSame fixed old new made r bytes true =
 IsKeptIfSame fixed old new made r bytes false = (new ≡ record old { pending = [] }) × (record_of fixed old.written made ≡ r → region fixed old.written made ≡ bytes → ⊥)
 
 -- why the bytes are not those of a move of the machine with this record
-abbrev pub NotRemadeAs : {S O R Q A : Type 0} → Fixed S O R Q A → List (Move O R) → Record → List ℕ → NotRemade → Type 0
+abbrev pub NotRemadeAs : {S O R Q A : Type 0} {form : Form} → FixedIn form S O R Q A → List (Move O R) → Record → List ℕ → NotRemade → Type 0
 NotRemadeAs fixed history r bytes unmade.Object = ¬ HasShape fixed r bytes
 NotRemadeAs fixed history r bytes unmade.Commit = HasShape fixed r bytes × ¬ IsMade fixed history r bytes
 NotRemadeAs fixed history r bytes unmade.Memory = Unit {0}
 
 -- so many of the records are those of the history, which has nothing pending
-pub record IsWalked {S O R Q A : Type 0} (fixed : Fixed S O R Q A) (r : RecordedView (Move O R)) (count : ℕ) (records : List Record) (objects : List ℕ) : Type 0 where
+pub record IsWalked {S O R Q A : Type 0} {form : Form} (fixed : FixedIn form S O R Q A) (r : RecordedView (Move O R)) (count : ℕ) (records : List Record) (objects : List ℕ) : Type 0 where
   pub settled : r.pending ≡ []
   pub terms : r.terms ≡ fixed.terms
   pub counted : length r.written ≡ count

@@ -1,11 +1,11 @@
 // One record of a move that makes a commit, with the bytes of its objects.
-ghost use Rattle.std.specs.Prelude.{◌≡◌, ◌+◌, [], length, IfErr, OnOk};
-ghost use Rattle.branch_machine.specs.Fixed.{fix};
+ghost use Rattle.std.specs.Prelude.{◌≡◌, ◌↔◌, ◌+◌, ◌≤◌, [], length, IfErr, IsTrue, OnOk};
+ghost use Rattle.branch_machine.specs.Fixed.{fix, fix_in};
 ghost use Rattle.branch_machine.specs.Objects.{end_of};
 ghost use Rattle.branch_files.specs.Next.{end_at};
 ghost use Rattle.branch_files.specs.Records.{AreKnown};
 ghost use Rattle.heads_journal.specs.Format.{Fits};
-ghost use Rattle.commit_replay.specs.Follows.{MayCome};
+ghost use Rattle.commit_replay.specs.Follows.{form_of, MayCome};
 ghost use Rattle.commit_replay.specs.Parts.{IsWhyNot, unread_as};
 ghost use Rattle.commit_replay.specs.Walk.{GoesOn, NotRemadeAs};
 
@@ -39,9 +39,23 @@ fn unread(why: Unread) -> NotRemade
     }
 }
 
-// Makes a commit anew from what its object says is done there.
+// The version whose merges are of two commits alone.
+const OLD: u32 = 1;
+
+// How many parents a commit has there at the most.
+const OLD_PARENTS: usize = 2;
+
+// Whether a commit in files of a version may have as many parents.
+fn are_few(version: u32, parents: usize) -> bool
+    ensures { IsTrue result ↔ (version ≡ 1 → parents ≤ 2) }
+{
+    version != OLD || parents <= OLD_PARENTS
+}
+
+// Makes a commit anew from what its object says is done there, in files of a version.
 pub fn remake_commit<T: Mrdt, A: Address>(
     alloc: Global,
+    version: u32,
     recorded: &mut Recorded<T, A>,
     next: &Record,
     bytes: &[u8],
@@ -52,13 +66,17 @@ pub fn remake_commit<T: Mrdt, A: Address>(
     requires may { MayCome (fix T.meaning recorded.old.terms A.address) recorded.old.written next.now }
     requires long { end_of (fix T.meaning recorded.old.terms A.address) recorded.old.written + length bytes.now ≡ end_at next.now }
     ensures went { OnOk result (GoesOn (fix T.meaning recorded.old.terms A.address) recorded.old recorded.new next.now bytes.now) }
-    ensures not { IfErr result (NotRemadeAs (fix T.meaning recorded.old.terms A.address) recorded.old.written next.now bytes.now) }
+    ensures not { let own = fix_in (form_of version) T.meaning recorded.old.terms A.address in
+        IfErr result (NotRemadeAs own recorded.old.written next.now bytes.now) }
 {
     let _moves = recorded.moves();
     let parts = match parted(alloc, bytes) {
         Ok(parts) => parts,
         Err(why) => return Err(unread(why)),
     };
+    if !are_few(version, parts.parents) {
+        return Err(NotRemade::Object);
+    }
     let plan = match planned::<T>(alloc, next, &parts.action) {
         Ok(plan) => plan,
         Err(why) => return Err(unread(why)),

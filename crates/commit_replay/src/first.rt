@@ -1,22 +1,24 @@
 // The objects of a new store.
 ghost use Rattle.std.specs.Prelude.{◌≡◌, [], IfOk};
 ghost use Rattle.branch_names.specs.declared.terms.Terms.{Terms as SpecTerms};
-ghost use Rattle.branch_machine.specs.Fixed.{fix};
+ghost use Rattle.branch_machine.specs.Fixed.{fix_in};
 ghost use Rattle.branch_machine.specs.Objects.{objects_text};
-ghost use Rattle.branch_wire.specs.StoredObjects.{header};
+ghost use Rattle.branch_wire.specs.StoredObjects.{header_of};
+ghost use Rattle.commit_replay.specs.Follows.{form_of};
 
 use branch_address::Address;
 use branch_objects_codec::{Action, Object, put_value};
-use branch_wire::{VERSION, put_u32};
+use branch_wire::put_u32;
 use mrdt_model::{Listing, Memory, Mrdt};
 use std::alloc::Global;
 
 const LETTERS: &[u8] = b"MRDTOBJS";
 
-// The bytes of the objects file of a new store: its header, the object of the first value, and that of the root
-// commit.
-pub fn first_text<T: Mrdt, A: Address>(alloc: Global) -> Result<Vec<u8>, Memory>
-    ensures { IfOk result (λ text. (terms : SpecTerms) → text.items ≡ objects_text (fix T.meaning terms A.address) []) }
+/// The bytes of the objects file of a new store in a version: its header, the object of the first value, and that
+/// of the root commit.
+pub fn first_text<T: Mrdt, A: Address>(alloc: Global, version: u32) -> Result<Vec<u8>, Memory>
+    ensures { IfOk result (λ text. (terms : SpecTerms)
+        → text.items ≡ objects_text (fix_in (form_of version) T.meaning terms A.address) []) }
 {
     let mut spelling = Vec::new(alloc);
     T::initial(alloc).put(&mut spelling)?;
@@ -29,18 +31,18 @@ pub fn first_text<T: Mrdt, A: Address>(alloc: Global) -> Result<Vec<u8>, Memory>
         value: A::of(&value),
         action: Action::Root,
     };
-    let mut text = header_text(alloc)?;
+    let mut text = header_text(alloc, version)?;
     text.extend_from_slice(&value)?;
     root.put(&mut text)?;
     Ok(text)
 }
 
-// The header.
-fn header_text(alloc: Global) -> Result<Vec<u8>, Memory>
-    ensures { IfOk result (λ text. text.items ≡ header) }
+// The header of a version.
+fn header_text(alloc: Global, version: u32) -> Result<Vec<u8>, Memory>
+    ensures { IfOk result (λ text. text.items ≡ header_of version) }
 {
     let mut text = Vec::from_slice(alloc, LETTERS)?;
-    put_u32(VERSION, &mut text)?;
+    put_u32(version, &mut text)?;
     put_u32(0, &mut text)?;
     Ok(text)
 }

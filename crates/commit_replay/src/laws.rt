@@ -1,14 +1,20 @@
 // What replayed records and objects say of files. Each law stands on a function with an empty body.
-ghost use Rattle.commit_replay.specs.Laws.{ReadsAsReplayed, ReadsAsNoStore};
+ghost use Rattle.commit_replay.specs.Laws.{ReadsAsReplayed, ReadsAsNoStore, ReadsAsStore};
 
 use mrdt_model::Mrdt;
 
-/// What the records of the heads and the objects of files are replayed to, the files read as.
+/// What the records of the heads and the objects of files are replayed to, the files read as, in each form.
 pub fn reads_as_replayed<T: Mrdt>()
     ensures { ReadsAsReplayed T.meaning }
 {}
 
-/// Files whose heads have no header of the version that is written today, and of the kind 0, read as no store.
+/// Files whose heads have no header of a form read as no store in that form.
 pub fn reads_as_no_store<T: Mrdt>()
     ensures { ReadsAsNoStore T.meaning }
+{}
+
+/// Files whose heads have a header of a form and a byte behind it read as no store in that form exactly where the
+/// objects do not begin with those of a new store.
+pub fn reads_as_store<T: Mrdt>()
+    ensures { ReadsAsStore T.meaning }
 {}

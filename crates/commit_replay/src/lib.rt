@@ -16,5 +16,6 @@ mod remake;
 mod rules;
 mod walk;
 
+pub use first::first_text;
 pub use refused::ReplayRefused;
 pub use walk::replay;

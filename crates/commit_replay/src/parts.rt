@@ -1,5 +1,5 @@
 // The objects of one commit, as they are read.
-ghost use Rattle.std.specs.Prelude.{◌≡◌, List, ℕ, IfOk, IsErrOf};
+ghost use Rattle.std.specs.Prelude.{◌≡◌, List, ℕ, length, IfOk, IsErrOf};
 ghost use Rattle.std.specs.declared.option.Option.{Option as SpecOption};
 ghost use Rattle.std.specs.declared.option.Option.TheVariants.{Some};
 ghost use Rattle.branch_wire.specs.Objects.{CommitFields, commit_object};
@@ -11,10 +11,11 @@ use branch_wire::Cursor;
 use mrdt_model::{Bytes, Unread};
 use std::alloc::Global;
 
-// The spelling of a commit's value, where its object stands there, and what the commit does.
+// The spelling of a commit's value, where its object stands there, how many parents the commit has, and what it does.
 #[derive(Drop)]
 pub struct Parts {
     pub value: Option<Bytes>,
+    pub parents: usize,
     pub action: Action,
 }
 
@@ -25,10 +26,17 @@ pub fn parted(alloc: Global, bytes: &[u8]) -> Result<Parts, Unread>
 {
     let mut cursor = Cursor::new(bytes);
     match Object::take(alloc, &mut cursor) {
-        Ok(Object::Commit { action, .. }) => {
+        Ok(
+            Object::Commit {
+                parents,
+                action,
+                ..
+            },
+        ) => {
             if cursor.is_at_end() {
                 Ok(Parts {
                     value: None,
+                    parents: parents.as_slice().len(),
                     action,
                 })
             } else {
@@ -40,15 +48,23 @@ pub fn parted(alloc: Global, bytes: &[u8]) -> Result<Parts, Unread>
     }
 }
 
-// A value's spelling, and what the commit does whose object is the whole of the bytes.
+// A value's spelling, and the rest of the parts of the commit whose object is the whole of the bytes.
 fn behind(alloc: Global, value: Bytes, bytes: &[u8]) -> Result<Parts, Unread>
-    ensures commit { IfOk result (λ parts. (c : CommitFields) × (c.action ≡ parts.action) × IsCommit c × (bytes.now ≡ commit_object c)) }
+    ensures commit { IfOk result (λ parts. (c : CommitFields) × (c.action ≡ parts.action)
+        × (length c.parents ≡ parts.parents) × IsCommit c × (bytes.now ≡ commit_object c)) }
     ensures value { IfOk result (λ parts. parts.value ≡ Some value) }
     ensures none { IsErrOf result Unread.NotCanonical → (c : CommitFields) → IsCommit c → bytes.now ≡ commit_object c → ⊥ }
 {
     match Object::get(alloc, bytes) {
-        Ok(Object::Commit { action, .. }) => Ok(Parts {
+        Ok(
+            Object::Commit {
+                parents,
+                action,
+                ..
+            },
+        ) => Ok(Parts {
             value: Some(value),
+            parents: parents.as_slice().len(),
             action,
         }),
         Ok(Object::Value(_)) => Err(Unread::NotCanonical),

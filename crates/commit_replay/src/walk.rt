@@ -1,11 +1,11 @@
 // The walk over the records.
 ghost use Rattle.std.specs.Prelude.{◌≡◌, ℕ, [], All, length, IfOk, IfErr, OnOk};
-ghost use Rattle.branch_machine.specs.Fixed.{fix};
+ghost use Rattle.branch_machine.specs.Fixed.{fix, fix_in};
 ghost use Rattle.branch_files.specs.Next.{bytes_behind, end_at, MakesCommit};
 ghost use Rattle.heads_journal.specs.declared.record.Record.TheVariants as entry;
 ghost use Rattle.branch_files.specs.Records.{records_of, IsKnown, AreKnown};
-ghost use Rattle.heads_journal.specs.Format.{Fits};
-ghost use Rattle.commit_replay.specs.Follows.{Follows, MayCome};
+ghost use Rattle.heads_journal.specs.Format.{Fits, IsRecord};
+ghost use Rattle.commit_replay.specs.Follows.{form_of, Follows, MayCome};
 ghost use Rattle.commit_replay.specs.Refusals.{ReplayRefusedAs, StopsAs};
 ghost use Rattle.commit_replay.specs.Walk.{GoesOn};
 
@@ -27,27 +27,32 @@ use std::alloc::Global;
 // How many folds of bases are kept while a history is read back.
 const FOLDS: u32 = 4096;
 
-/// The history that the records and the bytes of objects stand for, under these terms. It is refused exactly where
-/// there is none: `NotAStore` where the objects do not begin with those of a new store, and else for the first record
-/// that goes no further.
+/// The history that the records and the bytes of objects stand for in a version of the files, under these terms. It is
+/// refused exactly where there is none: `NotAStore` where the objects do not begin with those of a new store, and else
+/// for the first record that goes no further.
 ///
 /// Each move is made anew: an operation is read from its commit's object, and its reply, the value, their spellings
 /// and the addresses are those that the machine makes. What the bytes say of them is only compared.
 ///
-/// The numbers of the records must have room in their bytes, as those of records that `heads_journal::read_all` has read.
+/// The records must be such as files of the version have, as those that `heads_journal::read_all` has read are.
 pub fn replay<T: Mrdt, A: Address>(
     alloc: Global,
+    version: u32,
     terms: Terms,
     records: &[Record],
     objects: &[u8],
 ) -> Result<Recorded<T, A>, ReplayRefused>
-    requires { All Fits records.now }
-    ensures settled { IfOk result (λ recorded. recorded ≡ record { written = recorded.written; pending = []; terms = terms }) }
-    ensures replayed { IfOk result (λ recorded. Follows (fix T.meaning terms A.address) recorded.written records.now objects.now) }
-    ensures all { IfOk result (λ recorded. records_of (fix T.meaning terms A.address) recorded.written ≡ records.now) }
-    ensures refused { IfErr result (ReplayRefusedAs (fix T.meaning terms A.address) records.now objects.now) }
+    requires { All (IsRecord version) records.now }
+    ensures settled { IfOk result (λ recorded.
+        recorded ≡ record { written = recorded.written; pending = []; terms = terms }) }
+    ensures replayed { let fixed = fix_in (form_of version) T.meaning terms A.address in
+        IfOk result (λ recorded. Follows fixed recorded.written records.now objects.now) }
+    ensures all { let fixed = fix_in (form_of version) T.meaning terms A.address in
+        IfOk result (λ recorded. records_of fixed recorded.written ≡ records.now) }
+    ensures refused { let fixed = fix_in (form_of version) T.meaning terms A.address in
+        IfErr result (ReplayRefusedAs fixed records.now objects.now) }
 {
-    let Ok(first) = first_text::<T, A>(alloc) else {
+    let Ok(first) = first_text::<T, A>(alloc, version) else {
         return Err(ReplayRefused::Memory);
     };
     if !objects.starts_with(&first) {
@@ -60,7 +65,7 @@ pub fn replay<T: Mrdt, A: Address>(
         return Err(ReplayRefused::Memory);
     };
     for next in records {
-        if let Err(refused) = replay_record(alloc, &mut recorded, next, objects) {
+        if let Err(refused) = replay_record(alloc, version, &mut recorded, next, objects) {
             return Err(refused);
         }
     }
@@ -68,19 +73,21 @@ pub fn replay<T: Mrdt, A: Address>(
     Ok(recorded)
 }
 
-// Goes on by the move of one record.
+// Goes on by the move of one record of a version.
 fn replay_record<T: Mrdt, A: Address>(
     alloc: Global,
+    version: u32,
     recorded: &mut Recorded<T, A>,
     next: &Record,
     objects: &[u8],
 ) -> Result<(), ReplayRefused>
     requires settled { recorded.old.pending ≡ [] }
     requires known { AreKnown (fix T.meaning recorded.old.terms A.address) recorded.old.written }
-    requires fits { Fits next.now }
+    requires of { IsRecord version next.now }
     ensures went { OnOk result (GoesOn (fix T.meaning recorded.old.terms A.address) recorded.old recorded.new next.now (bytes_behind (fix T.meaning recorded.old.terms A.address) recorded.old.written objects.now next.now)) }
     ensures read { OnOk result (IsKnown next.now) }
-    ensures stops { IfErr result (StopsAs (fix T.meaning recorded.old.terms A.address) recorded.old.written objects.now next.now) }
+    ensures stops { let own = fix_in (form_of version) T.meaning recorded.old.terms A.address in
+        IfErr result (StopsAs own recorded.old.written objects.now next.now) }
 {
     let Ok(may) = may_come(recorded, next) else {
         return Err(ReplayRefused::Memory);
@@ -95,15 +102,17 @@ fn replay_record<T: Mrdt, A: Address>(
             Ok(()) => Ok(()),
             Err(Memory) => Err(ReplayRefused::Memory),
         },
-        Record::Operation { end, .. } => replay_commit(alloc, recorded, next, *end, objects),
-        Record::Merge { end, .. } => replay_commit(alloc, recorded, next, *end, objects),
+        Record::Operation { end, .. } => replay_commit(
+            alloc, version, recorded, next, *end, objects,
+        ),
+        Record::Merge { end, .. } => replay_commit(alloc, version, recorded, next, *end, objects),
         Record::Forward { branch, to, .. } => {
             match replay_forward(recorded, next, *branch, *to) {
                 Ok(()) => Ok(()),
                 Err(Memory) => Err(ReplayRefused::Memory),
             }
         }
-        Record::Join { end, .. } => replay_commit(alloc, recorded, next, *end, objects),
+        Record::Join { end, .. } => replay_commit(alloc, version, recorded, next, *end, objects),
         Record::Place { commit, name, .. } => match replay_place(recorded, next, *commit, *name) {
             Ok(()) => Ok(()),
             Err(Memory) => Err(ReplayRefused::Memory),
@@ -204,9 +213,10 @@ fn replay_drop<T: Mrdt, A: Address>(
     }
 }
 
-// Makes the commit of a record that may come, from its objects.
+// Makes the commit of a record of a version that may come, from its objects.
 fn replay_commit<T: Mrdt, A: Address>(
     alloc: Global,
+    version: u32,
     recorded: &mut Recorded<T, A>,
     next: &Record,
     end: u64,
@@ -216,10 +226,11 @@ fn replay_commit<T: Mrdt, A: Address>(
     requires end { end ≡ end_at next.now }
     requires makes { MakesCommit next.now }
     requires known { AreKnown (fix T.meaning recorded.old.terms A.address) recorded.old.written }
-    requires fits { Fits next.now }
+    requires of { IsRecord version next.now }
     requires may { MayCome (fix T.meaning recorded.old.terms A.address) recorded.old.written next.now }
     ensures went { OnOk result (GoesOn (fix T.meaning recorded.old.terms A.address) recorded.old recorded.new next.now (bytes_behind (fix T.meaning recorded.old.terms A.address) recorded.old.written objects.now next.now)) }
-    ensures stops { IfErr result (StopsAs (fix T.meaning recorded.old.terms A.address) recorded.old.written objects.now next.now) }
+    ensures stops { let own = fix_in (form_of version) T.meaning recorded.old.terms A.address in
+        IfErr result (StopsAs own recorded.old.written objects.now next.now) }
 {
     let now = standing_of(recorded);
     let place = now.end;
@@ -230,7 +241,7 @@ fn replay_commit<T: Mrdt, A: Address>(
         });
     }
     let bytes = &objects[place as usize..end as usize];
-    match remake_commit(alloc, recorded, next, bytes) {
+    match remake_commit(alloc, version, recorded, next, bytes) {
         Ok(()) => Ok(()),
         Err(NotRemade::Object) => Err(ReplayRefused::BadObject { place }),
         Err(NotRemade::Commit) => Err(ReplayRefused::BadCommit {

@@ -10,4 +10,5 @@ pub mod Branchings
 pub mod Answered
 pub mod Causes
 pub mod Opened
+pub mod Beginnings
 pub mod Sure
