@@ -1,4 +1,5 @@
 mod Accepted
 mod Behind
 mod Drops
+mod Dropping
 pub mod Crosses
