@@ -45,8 +45,6 @@ pub enum Command {
         /// The number from which they are.
         number: u64,
     },
-    /// Make of a store of version 1 one of today's version, on the second disk.
-    Upgrade,
     /// Tell this text, of help or of the version.
     Tell(String),
 }
@@ -132,7 +130,6 @@ fn command_named(
             }),
             None => Err(CommandRefused::Usage),
         },
-        "upgrade" => Ok(Command::Upgrade),
         "help" => tell_help(alloc, given.get_str("command")),
         _ => Err(CommandRefused::Usage),
     }

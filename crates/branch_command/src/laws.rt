@@ -1,7 +1,7 @@
 //! What the definition of the words' command says of some words, and of options in general.
 ghost use Rattle.std.specs.Prelude.{◌≡◌, Some, None, [], ◌∷◌, codes, option_map};
 ghost use Rattle.clap.specs.Walk.{Text};
-ghost use Rattle.branch_command.specs.Commands.{Init, Script, Check, Generate, Clients, Upgrade, Help, command_of, init_with};
+ghost use Rattle.branch_command.specs.Commands.{Init, Script, Check, Generate, Clients, Help, command_of, init_with};
 ghost use Rattle.branch_command.specs.Numbers.{usual, number_of, all_five};
 
 /// The commands of some words, and words that say none.
@@ -39,9 +39,6 @@ pub fn words()
     ensures clients_help { command_of (codes "clients" ∷ codes "--help" ∷ []) ≡ Some Help }
     ensures clients_great_number { command_of (codes "clients" ∷ codes "1" ∷ codes "1" ∷ codes "18446744073709551616" ∷ []) ≡ None }
     ensures clients_many_steps { command_of (codes "clients" ∷ codes "1" ∷ codes "1000001" ∷ codes "0" ∷ []) ≡ None }
-    ensures upgrade { command_of (codes "upgrade" ∷ []) ≡ Some Upgrade }
-    ensures upgrade_help { command_of (codes "upgrade" ∷ codes "--help" ∷ []) ≡ Some Help }
-    ensures upgrade_more { command_of (codes "upgrade" ∷ codes "x" ∷ []) ≡ None }
     ensures nothing { command_of [] ≡ None }
     ensures unknown { command_of (codes "client" ∷ []) ≡ None }
     ensures more { command_of (codes "script" ∷ codes "x" ∷ []) ≡ None }

@@ -162,11 +162,6 @@ pub(crate) fn program<'a>(alloc: Global) -> Result<Command<'a>, AllocError>
     let check = plain(alloc, "check", "Open the store and print its report")?;
     let generate = generate(alloc)?;
     let clients = clients(alloc)?;
-    let upgrade = plain(
-        alloc,
-        "upgrade",
-        "Make of a store of version 1 one of version 2, in the files PATH.second.objects and PATH.second.heads",
-    )?;
     let help = help(alloc)?;
     Command::new(alloc, "bucketplum")
         .bin_name("bucketplum PATH")?
@@ -183,6 +178,5 @@ pub(crate) fn program<'a>(alloc: Global) -> Result<Command<'a>, AllocError>
         .subcommand(check)?
         .subcommand(generate)?
         .subcommand(clients)?
-        .subcommand(upgrade)?
         .subcommand(help)
 }

@@ -6,4 +6,3 @@ pub mod Does
 pub mod Replies
 pub mod Merges
 pub mod Joins
-pub mod Drops

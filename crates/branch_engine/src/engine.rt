@@ -22,11 +22,10 @@ use branch_files::laws::reads_what_stands;
 use branch_names::Name;
 use branch_print::refusals::{
     put_collision, put_dropped, put_exhausted, put_full_branches, put_full_commits, put_full_moves,
-    put_keeps_main, put_line_refusal, put_stale, put_taken, put_too_large, put_unknown, put_unseen,
+    put_line_refusal, put_stale, put_taken, put_too_large, put_unknown, put_unseen,
 };
 use branch_print::replies::{
-    put_answer, put_dropped_branch, put_forked, put_forward, put_joined, put_landed, put_merged,
-    put_same, put_sees,
+    put_answer, put_forked, put_forward, put_joined, put_landed, put_merged, put_same, put_sees,
 };
 use branch_script::{LineRefused, Step, read_line};
 use mrdt_doc::Doc;
@@ -35,8 +34,8 @@ use std::alloc::Global;
 use std::collections::BTreeMap;
 use std::marker::Model;
 use store_core::{
-    Core, DropRefused, ForkRefused, Kind, LandRefused, LookRefused, PairPrepareRefused,
-    PairRefused, PairStep, PrepareRefused, Prepared, Seen,
+    Core, ForkRefused, Kind, LandRefused, LookRefused, PairPrepareRefused, PairRefused, PairStep,
+    PrepareRefused, Prepared, Seen,
 };
 
 /// A core of documents on a disk, and what each session sees. Contracts see an `EngineView`: the core's view, and
@@ -101,15 +100,6 @@ fn put_ungrouped(out: &mut Vec<u8>, refused: PairRefused) -> Result<(), Memory>
         PairRefused::UnknownBranch { name } => put_unknown(out, &name),
         PairRefused::Memory => Err(Memory),
     }
-}
-
-// The name of the branch of this number; of a dropped one the name that it had.
-fn name_at<D: Disk + Drop, A: Address>(core: &Core<Doc, D, A>, branch: u32) -> Name
-    requires { branch < length (store_of core.now.terms.origin core.now.history).branches }
-    ensures { result ≡ name_of (store_of core.now.terms.origin core.now.history).branches branch }
-{
-    let (name, _) = core.branch(branch).unwrap();
-    name
 }
 
 // The answer of a call that wrote a reply, or was short of memory.
@@ -287,34 +277,6 @@ impl<D: Disk + Drop, A: Address> Engine<D, A> {
         }
     }
 
-    // The branch that a session sees is dropped, from the head that it sees. The session goes on seeing it.
-    fn drop_seen(&mut self, out: &mut Vec<u8>, session: &Name) -> Result<(), TellRefused>
-        requires { self.old.core.failed ≡ false }
-        ensures { Does D.may_leave D.moment D.left_since D.faults A.address (λ fixed p. step_told fixed p (step.Drop session.now)) self.old self.new out.old.items out.new.items result }
-    {
-        reads_what_stands::<Doc>();
-        let _ = self.core.moves();
-        let Some(seen) = self.sessions.get(session) else {
-            return replied(put_unseen(out, session));
-        };
-        let branch = seen.branch();
-        let head = seen.head();
-        let name = name_at(&self.core, branch);
-        match self.core.drop_branch(seen) {
-            Ok(_) => {
-                let _ = self.core.moves();
-                replied(put_dropped_branch(out, &name, head))
-            }
-            Err(DropRefused::Dropped { branch }) => replied(put_dropped(out, branch)),
-            Err(DropRefused::KeepsMain) => replied(put_keeps_main(out)),
-            Err(DropRefused::Stale { newest }) => replied(put_stale(out, &name, newest)),
-            Err(DropRefused::FullMoves { count }) => replied(put_full_moves(out, count)),
-            Err(DropRefused::DiskFault) => Err(TellRefused::DiskFault),
-            Err(DropRefused::Failed { .. }) => unreachable!(),
-            Err(DropRefused::Memory) => Err(TellRefused::Memory),
-        }
-    }
-
     // Lands what was prepared for a session on the branch of this number. The session then sees the new head.
     fn move_on(
         &mut self,
@@ -369,7 +331,6 @@ impl<D: Disk + Drop, A: Address> Engine<D, A> {
             Step::Fork { new, from } => self.fork(out, &new, &from),
             Step::Merge { session, branch } => self.merge(out, &session, &branch),
             Step::Join { session, branches } => self.join(out, &session, branches.as_slice()),
-            Step::Drop { session } => self.drop_seen(out, &session),
             Step::Do { session, op } => self.land(out, &session, op),
             Step::Ask { branch, query } => self.ask(out, &branch, query),
         }

@@ -7,18 +7,7 @@ use std::process::ExitCode;
 
 fn main(rt: HostRuntime) -> ExitCode {
     match read_words(&rt) {
-        Ok(
-            Words {
-                path,
-                second,
-                command,
-            },
-        ) => run_command(
-            &rt,
-            &command,
-            FileDisk::new(&rt, path),
-            FileDisk::new(&rt, second),
-        ),
+        Ok(Words { path, command }) => run_command(&rt, &command, FileDisk::new(&rt, path)),
         Err(ended) => ended,
     }
 }

@@ -3,10 +3,10 @@
 ghost use Rattle.std.specs.Prelude.{◌≡◌, ◌++◌, [], OnOk, OnErr};
 ghost use Rattle.hex.specs.Hex.{encode_lower};
 ghost use Rattle.mrdt_model.specs.Spelled.{AppendsPart};
-ghost use Rattle.branch_history.specs.Steps.{UnknownBranch, Dropped, KeepsMain, Stale, NameTaken, Exhausted, FullCommits, FullBranches, FullMoves, ValueTooLarge, Collision};
+ghost use Rattle.branch_history.specs.Steps.{UnknownBranch, Dropped, Stale, NameTaken, Exhausted, FullCommits, FullBranches, FullMoves, ValueTooLarge, Collision};
 ghost use Rattle.branch_print.specs.Texts.{refusal_text, line_refusal_text, unseen_text, line_end};
 
-use crate::pieces::{put_count, put_pieces, put_text};
+use crate::pieces::{put_count, put_pieces};
 use branch_names::Name;
 use branch_script::LineRefused;
 use itoa::Buffer;
@@ -57,16 +57,6 @@ pub fn put_dropped(out: &mut Vec<u8>, number: u32) -> Result<(), Memory>
         (refusal_text [] (Dropped number) ++ line_end)) }
 {
     put_count(out, b"error dropped ", u64::from(number))
-}
-
-/// The first branch is not dropped: `error keeps main`.
-pub fn put_keeps_main(out: &mut Vec<u8>) -> Result<(), Memory>
-    ensures ok { OnOk result (out.new.items ≡ out.old.items
-        ++ (refusal_text [] KeepsMain ++ line_end)) }
-    ensures err { OnErr result (AppendsPart out.old.items out.new.items
-        (refusal_text [] KeepsMain ++ line_end)) }
-{
-    put_text(out, b"error keeps main\n")
 }
 
 /// The head of the branch with this name is not the one that was seen, but a newer one: `stale main at #1`.

@@ -1,7 +1,7 @@
 // The replies to steps that were not refused. After `Memory` a first part of the text has been written.
 ghost use Rattle.std.specs.Prelude.{◌≡◌, ◌++◌, codes, decimal, if◌then◌else◌, OnOk, OnErr};
 ghost use Rattle.mrdt_model.specs.Spelled.{AppendsPart};
-ghost use Rattle.branch_print.specs.Texts.{time_text, sees_text, forked_text, took_text, reply_text, landed_text, merged_text, joined_text, forward_text, same_text, dropped_text, items_text, entries_text, at_most_one, answer_text, line_end};
+ghost use Rattle.branch_print.specs.Texts.{time_text, sees_text, forked_text, took_text, reply_text, landed_text, merged_text, joined_text, forward_text, same_text, items_text, entries_text, at_most_one, answer_text, line_end};
 
 use crate::pieces::{
     put_count, put_entries, put_entry, put_items, put_number, put_pieces, put_signed, put_text,
@@ -140,26 +140,6 @@ pub fn put_same(out: &mut Vec<u8>) -> Result<(), Memory>
     ensures err { OnErr result (AppendsPart out.old.items out.new.items (same_text ++ line_end)) }
 {
     put_text(out, b"same\n")
-}
-
-/// A branch was dropped, at its last head: `dropped q at #1`.
-pub fn put_dropped_branch(out: &mut Vec<u8>, branch: &Name, head: u32) -> Result<(), Memory>
-    ensures ok { OnOk result (out.new.items ≡ out.old.items
-        ++ (dropped_text branch.now head ++ line_end)) }
-    ensures err { OnErr result (AppendsPart out.old.items out.new.items
-        (dropped_text branch.now head ++ line_end)) }
-{
-    let mut digits = Buffer::new();
-    put_pieces(
-        out,
-        &[
-            b"dropped ",
-            branch.as_bytes(),
-            b" at #",
-            digits.format(head).as_bytes(),
-            b"\n",
-        ],
-    )
 }
 
 // One of two words.

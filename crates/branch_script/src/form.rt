@@ -1,6 +1,6 @@
 // The forms of a line.
 ghost use Rattle.std.specs.Prelude.{◌≡◌, ◌≤◌, map, length, Ok, IfOk, IfErr};
-ghost use Rattle.branch_script.specs.Script.{two_words, three_words, four_words, do_at_key, ask_at_key, do_with_word, ask_with_word, five_words, six_words, other_words, is_join, join_words, words_step, step_of, IsRefusedAs, IsLineRefusedAs};
+ghost use Rattle.branch_script.specs.Script.{three_words, four_words, do_at_key, ask_at_key, do_with_word, ask_with_word, five_words, six_words, other_words, is_join, join_words, words_step, step_of, IsRefusedAs, IsLineRefusedAs};
 
 use crate::branches::Branches;
 use crate::step::{LineRefused, Step};
@@ -12,18 +12,6 @@ use branch_doc::{Kind, PlainQuery};
 use branch_names::Name;
 use mrdt_model::Bytes;
 use std::alloc::Global;
-
-// `drop SESSION`.
-fn two_words(verb: &[u8], session: &[u8]) -> Result<Step, LineRefused>
-    ensures { result ≡ two_words verb.now session.now }
-{
-    if verb != b"drop".as_slice() {
-        return Err(LineRefused::Syntax);
-    }
-    Ok(Step::Drop {
-        session: Name::read(session)?,
-    })
-}
 
 // `look SESSION BRANCH`, `fork NEW BRANCH` or `merge SESSION BRANCH`.
 fn three_words(verb: &[u8], first: &[u8], second: &[u8]) -> Result<Step, LineRefused>
@@ -181,13 +169,12 @@ fn six_words(
     }
 }
 
-// The step of two to six words that are no join.
+// The step of three to six words that are no join.
 fn other_words(alloc: Global, words: &[&[u8]]) -> Result<Step, LineRefused>
     ensures ok { IfOk result (λ step. other_words (map (λ word. word.now) words.now) ≡ Ok step) }
     ensures err { IfErr result (IsRefusedAs (other_words (map (λ word. word.now) words.now))) }
 {
     match words {
-        [verb, session] => two_words(verb, session),
         [verb, first, second] => three_words(verb, first, second),
         [verb, branch, kind, query] => four_words(verb, branch, kind, query),
         [verb, name, kind, key, last] => five_words(alloc, verb, name, kind, key, last),

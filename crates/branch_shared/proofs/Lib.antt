@@ -1,5 +1,4 @@
 mod Accepted
 mod Behind
 mod Drops
-mod Dropping
 pub mod Crosses

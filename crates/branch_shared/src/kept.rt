@@ -12,9 +12,8 @@ ghost use Rattle.branch_machine.specs.Validity.{IsFullyValid};
 ghost use Rattle.store_seen.specs.Groups.{IsGrouped, GroupRefusedAs};
 ghost use Rattle.store_seen.specs.Pairs.{IsPaired, PairRefusedAs};
 ghost use Rattle.store_seen.specs.Turns.{LookRefusedAs};
-ghost use Rattle.store_core.specs.Answers.{drop_answer};
 ghost use Rattle.branch_shared.specs.Keeps.{IsNoDrop, faults_since, front_of};
-ghost use Rattle.branch_shared.specs.Passes.{seen_by, IsSeenOn, LandedAt, LandRefusedAt, ForkedAt, ForkRefusedAt, AnsweredAt};
+ghost use Rattle.branch_shared.specs.Passes.{seen_by, IsSeenOn, LandedAt, LandRefusedAt, ForkedAt, ForkRefusedAt};
 
 use crate::name::{MoveOf, Named};
 use crate::pass::Pass;
@@ -25,7 +24,7 @@ use branch_names::Name;
 use mrdt_model::Mrdt;
 use std::marker::{Brand, Model, PhantomData};
 use store_core::{
-    Addressed, Core, DropRefused, ForkRefused, Forked, Group, LandRefused, Landed, LookRefused, Pair,
+    Addressed, Core, ForkRefused, Forked, Group, LandRefused, Landed, LookRefused, Pair,
     PairRefused, Seen,
 };
 
@@ -47,7 +46,7 @@ impl<T: Mrdt, D: Disk + Drop, A: Address, N: Named<T::Op, T::Reply>> Model for K
 
     ghost view = { λ k. k.core };
 
-    ghost invariant = { λ k. IsKept D.faults N.table N.begun N.terms N.opened N.drops k.core k.writer };
+    ghost invariant = { λ k. IsKept D.faults N.table N.begun N.terms N.opened k.core k.writer };
 }
 
 impl<T: Mrdt, D: Disk + Drop, A: Address, N: Named<T::Op, T::Reply>> Kept<T, D, A, N> {
@@ -179,35 +178,6 @@ impl<T: Mrdt, D: Disk + Drop, A: Address, N: Named<T::Op, T::Reply>> Kept<T, D, 
         }
         outcome
     }
-
-    /// Drops the branch of a look, for the pass.
-    pub(crate) fn drop_branch(
-        &mut self,
-        front: &Front<MoveOf<T>>,
-        pass: &mut Pass<T, N>,
-        seen: &Seen<T>,
-    ) -> Result<u64, DropRefused>
-        requires front { front.now ≡ front_of N.table N.begun N.parts }
-        requires drops { N.drops ≡ true }
-        requires history { IsPrefix seen.now.history pass.old.moves }
-        requires terms { seen.now.terms ≡ N.terms }
-        ensures prefix { IsPrefix pass.old.moves pass.new.moves }
-        ensures begun { IsPrefix N.begun pass.new.moves }
-        ensures valid { IsFullyValid (fix T.meaning N.terms A.address) pass.new.moves }
-        ensures faults { pass.old.faults ≤ pass.new.faults }
-        ensures parts { pass.new.parts ≡ pass.old.parts }
-        ensures answered { AnsweredAt (fix T.meaning N.terms A.address) N.opened pass.old pass.new
-            (machine.Drop seen.now.branch seen.now.head) (drop_answer seen.now result) }
-    {
-        see(front, &mut self.writer, pass, &self.core);
-        let outcome = self.core.drop_branch(seen);
-        if outcome.is_ok() {
-            add(front, &mut self.writer, pass, &self.core);
-        } else {
-            see(front, &mut self.writer, pass, &self.core);
-        }
-        outcome
-    }
 }
 
 // The pass sees the core's history, and the writer and the pass how often its disk has failed.
@@ -270,14 +240,14 @@ fn add<T: Mrdt, D: Disk + Drop, A: Address, N: Named<T::Op, T::Reply>>(
     requires front { front.now ≡ front_of N.table N.begun N.parts }
     requires table { writer.old.table ≡ N.table }
     requires idle { IsIdle writer.old }
-    requires grown { (made : Move T.Op T.Reply) × (core.now.history ≡ (N.begun ++ writer.old.moves) ++ made ∷ []) × (N.drops ≡ false → IsNoDrop made) }
-    requires drops_none { N.drops ≡ false → AllByRecursion IsNoDrop writer.old.moves }
+    requires grown { (made : Move T.Op T.Reply) × (core.now.history ≡ (N.begun ++ writer.old.moves) ++ made ∷ []) × IsNoDrop made }
+    requires drops_none { AllByRecursion IsNoDrop writer.old.moves }
     requires rise { writer.old.faults ≤ faults_since D.faults core.now }
     requires room { length core.now.history ≤ 2 ^ 48 }
     ensures table { writer.new.table ≡ writer.old.table }
     ensures history { core.now.history ≡ N.begun ++ writer.new.moves }
     ensures writer { (writer.new.faults ≡ faults_since D.faults core.now) × IsIdle writer.new }
-    ensures drops_none { N.drops ≡ false → AllByRecursion IsNoDrop writer.new.moves }
+    ensures drops_none { AllByRecursion IsNoDrop writer.new.moves }
     ensures pass { pass.new ≡ record pass.old { moves = core.now.history; mine = pass.old.mine ++ length core.now.history ∷ []; faults = faults_since D.faults core.now; receipts = pass.old.receipts + 1 } }
     ensures valid { IsFullyValid (fix T.meaning core.now.terms A.address) core.now.history }
 {

@@ -5,7 +5,6 @@ pub mod Told
 pub mod FirstEnd
 pub mod Ends
 pub mod Once
-pub mod Upgraded
 pub mod Inits
 pub mod Reports
 pub mod Opening

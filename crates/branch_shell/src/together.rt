@@ -6,14 +6,14 @@ ghost use Rattle.branch_doc.specs.Document.{document};
 ghost use Rattle.store_core.specs.Opens.{ReadsAsNone};
 ghost use Rattle.branch_shell.specs.Counts.{HasReason, SaysReason};
 ghost use Rattle.branch_shell.specs.Once.{Answers};
-ghost use Rattle.branch_shell.specs.Documents.{DocStore, SaysUnopened};
+ghost use Rattle.branch_shell.specs.Stores.{SaysRefused};
+ghost use Rattle.branch_shell.specs.Documents.{DocStore};
 ghost use Rattle.branch_shell.specs.Statuses.{Holds};
 ghost use Rattle.branch_shell.specs.Together.{FindsBranch, FindsAll, IsFault, TellsFault, SomeTellFault, StopsFor, TellsClients, RanOver, RanTogether, LeftTogether, client_line, client_lines, machine_refusal};
 ghost use Rattle.branch_print.specs.Texts.{refusal_text, line_end};
 
 use crate::answer::{put_report, refuse, say};
 use crate::status::Status;
-use crate::unopened::open_store;
 use branch_address::Address;
 use branch_disk::Disk;
 use branch_files::laws::reads_what_stands;
@@ -21,11 +21,10 @@ use branch_io::Sink;
 use branch_print::clients::{put_client, put_client_done};
 use branch_print::refusals::{
     put_collision, put_dropped, put_exhausted, put_full_branches, put_full_commits, put_full_moves,
-    put_keeps_main, put_too_large,
+    put_too_large,
 };
 use client_runs::{Finished, Work, run_on};
 use mrdt_doc::Doc;
-use mrdt_old_doc::Doc1;
 use parallel_clients::{ClientRefusal, Outcome};
 use std::alloc::Global;
 use std::sync::Wait;
@@ -41,7 +40,6 @@ fn put_client_refusal(out: &mut Vec<u8>, refusal: &ClientRefusal) -> Result<(), 
 {
     match refusal {
         ClientRefusal::Dropped { branch } => Ok(put_dropped(out, *branch)?),
-        ClientRefusal::KeepsMain => Ok(put_keeps_main(out)?),
         ClientRefusal::Exhausted { clock } => Ok(put_exhausted(out, *clock)?),
         ClientRefusal::FullCommits { count } => Ok(put_full_commits(out, *count)?),
         ClientRefusal::FullBranches { count } => Ok(put_full_branches(out, *count)?),
@@ -172,7 +170,7 @@ pub(crate) fn run_together<
     R: Threads + Wait + Sync,
 >(rt: &R, alloc: Global, work: Work, sink: &mut K, disk: D) -> (Status, D)
     ensures wrote { Answers (RanTogether D.may_leave A.address (D.contents disk) (record { count = work.count; work = record { steps = work.steps; number = work.number } }) result.1)
-        (SaysUnopened A.address (D.contents disk)) result.0 (K.given sink.old) (K.given sink.new) }
+        (SaysRefused document A.address (D.contents disk)) result.0 (K.given sink.old) (K.given sink.new) }
     // However clients end, each image of the disk reads as the store with the history that it came to by them; where the
     // disk failed, also as it with one move more.
     ensures crashes { (store : DocStore) → Holds D.contents D.may_leave A.address disk store
@@ -190,8 +188,8 @@ pub(crate) fn run_together<
     // Where the sink failed, the disk did not.
     ensures no_fault { result.0 ≡ Status.WriteFault → D.faults result.1 ≡ D.faults disk }
 {
-    match open_store::<Doc, Doc1, D, A>(alloc, disk) {
+    match Core::<Doc, D, A>::open(alloc, disk) {
         Ok(core) => together_over(rt, alloc, core, work, sink),
-        Err((why, disk)) => (refuse(alloc, sink, why), disk),
+        Err((refusal, disk)) => (refuse(alloc, sink, refusal), disk),
     }
 }

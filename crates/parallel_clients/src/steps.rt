@@ -1,11 +1,11 @@
 // The steps of a client.
-ghost use Rattle.std.specs.Prelude.{◌≡◌, ◌<◌, ◌≤◌, ◌+◌, true, [], ◌∷◌, length, vec_capacity, IfErr, OnOk};
+ghost use Rattle.std.specs.Prelude.{◌≡◌, ◌<◌, ◌≤◌, ◌+◌, [], ◌∷◌, length, vec_capacity, IfErr, OnOk};
 ghost use mathlib.Core.List.{IsPrefix};
 ghost use Rattle.branch_machine.specs.Fixed.{fix};
 ghost use Rattle.branch_script.specs.declared.step.Step.TheVariants as step;
 ghost use Rattle.branch_shared.specs.Passes.{IsSeenOn};
 ghost use Rattle.parallel_clients.specs.Clients.{KeepsValid};
-ghost use Rattle.parallel_clients.specs.Outcomes.{MayDrop, setting};
+ghost use Rattle.parallel_clients.specs.Outcomes.{setting};
 ghost use Rattle.parallel_clients.specs.Sessions.{AreSessions, Advances, IsStopped, PlaysOn, Stops, sights_of, stage_of};
 
 use crate::client::{Client, Sessions};
@@ -13,7 +13,6 @@ use crate::gate::Gate;
 use crate::landing::{Landing, Stop, note};
 use crate::outcome::ClientRefusal;
 use crate::plain::Plain;
-use crate::sessions::{Session, set_session};
 use branch_address::Address;
 use branch_disk::Disk;
 use branch_doc::{PlainOp, PlainQuery};
@@ -34,8 +33,8 @@ impl<T: Plain, D: Disk + Drop, A: Address, N: Named<T::Op, T::Reply>, G: Gate, R
     G,
     R,
 > {
-    // A session looks at its branch again. Where no branch has the name any more, or another one, it sees what it saw:
-    // its next landing tells that the branch was dropped.
+    // A session looks at its branch again. Where no branch has the name any more, it sees what it saw: its next landing
+    // tells that the branch was dropped.
     fn look_again(
         &self,
         pass: &mut Pass<T, N>,
@@ -50,26 +49,14 @@ impl<T: Plain, D: Disk + Drop, A: Address, N: Named<T::Op, T::Reply>, G: Gate, R
         ensures sessions { AreSessions N.terms pass.new.moves sessions.new.entries }
         ensures sights { sights_of sessions.new.entries ≡ sights_of sessions.old.entries }
     {
-        let (branch, number) = match sessions.get(session) {
-            Some(at) => {
-                let number = at.seen.branch();
-                (at.branch, number)
-            }
+        let branch = match sessions.get(session) {
+            Some(at) => at.branch,
             None => return Ok(()),
         };
-        let seen = match self.shared.look(self.rt, pass, &branch) {
-            Ok(seen) => seen,
-            Err(LookRefused::UnknownBranch { .. }) => return Ok(()),
-            Err(LookRefused::Memory) => return Err(Memory),
-        };
-        let now = seen.branch();
-        if now != number {
-            return Ok(());
-        }
-        let looked = Session { branch, seen };
-        match set_session(sessions, session, looked) {
+        match self.look_at(pass, sessions, session, &branch) {
             Ok(()) => Ok(()),
-            Err(memory) => Err(memory),
+            Err(LookRefused::UnknownBranch { .. }) => Ok(()),
+            Err(LookRefused::Memory) => Err(Memory),
         }
     }
 
@@ -175,42 +162,6 @@ impl<T: Plain, D: Disk + Drop, A: Address, N: Named<T::Op, T::Reply>, G: Gate, R
         unreachable!()
     }
 
-    // Drops the branch that a session sees, which does not look again behind the drop.
-    fn drop_branch(
-        &self,
-        pass: &mut Pass<T, N>,
-        sessions: &mut Sessions<T>,
-        places: &mut Vec<u64>,
-        session: &Name,
-    ) -> Result<(), Stop>
-        requires drops { N.drops ≡ true }
-        requires sessions { AreSessions N.terms pass.old.moves sessions.old.entries }
-        requires room { length places.old.items < vec_capacity places.old }
-        ensures advances { Advances pass.old pass.new places.old.items places.new.items }
-        ensures valid { KeepsValid (fix T.meaning N.terms A.address) pass.old pass.new }
-        ensures capacity { vec_capacity places.old ≤ vec_capacity places.new }
-        ensures sessions { OnOk result (AreSessions N.terms pass.new.moves sessions.new.entries) }
-        ensures plays { OnOk result (PlaysOn T.op_of N.terms.origin (step.Drop session.now ∷ [])
-            (stage_of pass.old sessions.old.entries places.old.items)
-            (stage_of pass.new sessions.new.entries places.new.items)) }
-        ensures few { length places.new.items ≤ length places.old.items + 1 }
-        ensures stopped { IfErr result (Stops (setting (fix T.meaning N.terms A.address) T.op_of N.opened)
-            (sights_of sessions.old.entries) (step.Drop session.now)
-            pass.old pass.new places.old.items places.new.items) }
-    {
-        for _ in self.rt.forever() {
-            match self.try_drop(pass, sessions, places, session)? {
-                Landing::Moved => return Ok(()),
-                Landing::Stale | Landing::Same => {
-                    if self.look_again(pass, sessions, session).is_err() {
-                        return Err(Stop::Refused(ClientRefusal::Memory));
-                    }
-                }
-            }
-        }
-        unreachable!()
-    }
-
     // Forks a branch from another, unless the name is taken.
     fn fork(
         &self,
@@ -270,7 +221,7 @@ impl<T: Plain, D: Disk + Drop, A: Address, N: Named<T::Op, T::Reply>, G: Gate, R
         ensures stopped { IfErr result (IsStopped (setting (fix T.meaning N.terms A.address) T.op_of N.opened) (sights_of sessions.old.entries) (step.Look session.now branch.now) pass.new) }
     {
         match self.look_at(pass, sessions, session, branch) {
-            Ok(_) => Ok(()),
+            Ok(()) => Ok(()),
             Err(LookRefused::UnknownBranch { .. }) => {
                 Err(Stop::Refused(ClientRefusal::UnknownBranch { name: *branch }))
             }
@@ -317,7 +268,6 @@ impl<T: Plain, D: Disk + Drop, A: Address, N: Named<T::Op, T::Reply>, G: Gate, R
         places: &mut Vec<u64>,
         step: &Step,
     ) -> Result<bool, Stop>
-        requires drops { MayDrop N.drops step.now }
         requires sessions { AreSessions N.terms pass.old.moves sessions.old.entries }
         requires room { length places.old.items < vec_capacity places.old }
         ensures advances { Advances pass.old pass.new places.old.items places.new.items }
@@ -344,10 +294,6 @@ impl<T: Plain, D: Disk + Drop, A: Address, N: Named<T::Op, T::Reply>, G: Gate, R
                 self.join(pass, sessions, places, session, branches.as_slice())
             }
             Step::Do { session, op } => self.operation(pass, sessions, places, session, op),
-            Step::Drop { session } => {
-                self.drop_branch(pass, sessions, places, session)?;
-                Ok(true)
-            }
             Step::Ask { branch, query } => {
                 self.ask(pass, sessions, branch, query)?;
                 Ok(true)
