@@ -1,13 +1,9 @@
-// Sets without Clear, and documents of version 1.
+// Sets without Clear, which documents of version 1 have.
 use crate::steps::{
-    are_joined, at, does_reply, is_op_spelled, is_op_spelling, is_reply_spelling, is_spelled,
-    is_spelling, merged,
+    are_joined, at, is_op_spelled, is_op_spelling, is_reply_spelling, is_spelling, merged,
 };
-use mrdt_both::Side;
-use mrdt_counter::{CounterOp, CounterQuery, SumOp};
-use mrdt_map::{MapAnswer, MapQuery, OnKey};
 use mrdt_model::{Bytes, Memory, Mrdt};
-use mrdt_old_doc::{Doc1, Elements, ElementsOp, OldDocOp, renewed};
+use mrdt_old_doc::{Elements, ElementsOp};
 use mrdt_set::{SetAnswer, SetOp, SetQuery};
 use std::alloc::Global;
 use std::test::Fail;
@@ -24,41 +20,6 @@ const ADD_X: &[u8] = b"\x01x";
 const ADD_Y: &[u8] = b"\x01y";
 
 const REMOVE_X: &[u8] = b"\x02x";
-
-// A document of version 1 with nothing in it: 104 bytes.
-const NOTHING: &[u8] = b"\
-\x00\x00\x00\x00\x00\x00\x00\x08\x00\x00\x00\x00\x00\x00\x00\x00\
-\x00\x00\x00\x00\x00\x00\x00\x08\x00\x00\x00\x00\x00\x00\x00\x00\
-\x00\x00\x00\x00\x00\x00\x00\x08\x00\x00\x00\x00\x00\x00\x00\x00\
-\x00\x00\x00\x00\x00\x00\x00\x08\x00\x00\x00\x00\x00\x00\x00\x00\
-\x00\x00\x00\x00\x00\x00\x00\x08\x00\x00\x00\x00\x00\x00\x00\x00\
-\x00\x00\x00\x00\x00\x00\x00\x08\x00\x00\x00\x00\x00\x00\x00\x00\
-\x00\x00\x00\x00\x00\x00\x00\x00";
-
-// One whose counter `hits` is 5: 140 bytes.
-const FIVE_HITS: &[u8] = b"\
-\x00\x00\x00\x00\x00\x00\x00\x2c\
-\x00\x00\x00\x00\x00\x00\x00\x01\
-\x00\x00\x00\x00\x00\x00\x00\x04hits\
-\x00\x00\x00\x00\x00\x00\x00\x10\
-\x00\x00\x00\x00\x00\x00\x00\x00\x00\x00\x00\x00\x00\x00\x00\x05\
-\x00\x00\x00\x00\x00\x00\x00\x08\x00\x00\x00\x00\x00\x00\x00\x00\
-\x00\x00\x00\x00\x00\x00\x00\x08\x00\x00\x00\x00\x00\x00\x00\x00\
-\x00\x00\x00\x00\x00\x00\x00\x08\x00\x00\x00\x00\x00\x00\x00\x00\
-\x00\x00\x00\x00\x00\x00\x00\x08\x00\x00\x00\x00\x00\x00\x00\x00\
-\x00\x00\x00\x00\x00\x00\x00\x08\x00\x00\x00\x00\x00\x00\x00\x00\
-\x00\x00\x00\x00\x00\x00\x00\x00";
-
-// Adds 5, 3 and 2 to the counter `hits`.
-const ADD_FIVE: &[u8] = b"\x01\x00\x00\x00\x00\x00\x00\x00\x04hits\x00\x00\x00\x00\x00\x00\x00\x05";
-
-const ADD_THREE: &[u8] =
-    b"\x01\x00\x00\x00\x00\x00\x00\x00\x04hits\x00\x00\x00\x00\x00\x00\x00\x03";
-
-const ADD_TWO: &[u8] = b"\x01\x00\x00\x00\x00\x00\x00\x00\x04hits\x00\x00\x00\x00\x00\x00\x00\x02";
-
-// No bytes behind the key, which are a Reset in a document.
-const RESET: &[u8] = b"\x01\x00\x00\x00\x00\x00\x00\x00\x04hits";
 
 fn add(alloc: Global, element: &[u8]) -> Result<ElementsOp, Memory> {
     Ok(ElementsOp::Add(Bytes::from_slice(alloc, element)?))
@@ -100,56 +61,5 @@ fn elements_are_read(rt: HostRuntime) -> Result<(), Fail> {
     assert!(rt; !is_op_spelling::<Elements>(alloc, b"\x03"));
     assert!(rt; matches!(add(alloc, b"x")?.renewed(), SetOp::Add(_)));
     assert!(rt; is_reply_spelling::<Elements>(alloc, b""));
-    Ok(())
-}
-
-#[test]
-fn old_documents_are_read(rt: HostRuntime) {
-    let alloc = rt.alloc();
-    assert!(rt; is_spelled(alloc, &Doc1::initial(alloc), NOTHING));
-    assert!(rt; is_spelling::<Doc1>(alloc, FIVE_HITS));
-    assert!(rt; is_op_spelling::<Doc1>(alloc, ADD_FIVE));
-    assert!(rt; !is_op_spelling::<Doc1>(alloc, RESET));
-    assert!(rt; is_reply_spelling::<Doc1>(alloc, b"\x01"));
-}
-
-fn query_hits(alloc: Global) -> Result<MapQuery<CounterQuery>, Memory> {
-    let key = Bytes::from_slice(alloc, b"hits")?;
-    Ok(MapQuery::AtKey(key, CounterQuery::Value))
-}
-
-#[test]
-fn old_documents_are_merged(rt: HostRuntime) -> Result<(), Fail> {
-    let alloc = rt.alloc();
-    let left = [(ADD_THREE, at(1, 0))];
-    let both: Doc1 = merged(alloc, &[], &left, &[(ADD_TWO, at(1, 1))])?;
-    assert!(rt; is_spelled(alloc, &both, FIVE_HITS) && both.copy()?.same(&both));
-    let hits = both.answer(&Side::First(query_hits(alloc)?))?;
-    assert!(rt; matches!(hits, Side::First(MapAnswer::OnValue(5))));
-    Ok(())
-}
-
-fn add_five(alloc: Global) -> Result<OldDocOp, Memory> {
-    Ok(Side::First(OnKey {
-        key: Bytes::from_slice(alloc, b"hits")?,
-        operation: SumOp::Add(5),
-    }))
-}
-
-#[test]
-fn old_operations_are_renewed(rt: HostRuntime) -> Result<(), Fail> {
-    let alloc = rt.alloc();
-    let op = add_five(alloc)?;
-    assert!(rt; is_op_spelled::<Doc1>(alloc, &op, ADD_FIVE));
-    assert!(rt; does_reply(alloc, &Doc1::initial(alloc), &op, b"\x01"));
-    match renewed(op) {
-        Side::First(
-            OnKey {
-                key,
-                operation: CounterOp::Add(5),
-            },
-        ) => assert!(rt; key.as_slice() == b"hits".as_slice()),
-        _ => panic!(rt; "another operation"),
-    }
     Ok(())
 }
