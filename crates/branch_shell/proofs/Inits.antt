@@ -5,8 +5,10 @@ use Rattle.branch_disk.specs.Disk.{Files, LeavesOnly}
 use Rattle.branch_disk.specs.Moments.{weakened}
 use Rattle.branch_names.specs.declared.terms.Terms.{Terms}
 use Rattle.branch_wire.specs.Fields.{version}
-use Rattle.branch_machine.specs.Fixed.{fix}
+use Rattle.branch_machine.specs.Fixed.{fix, present}
 use Rattle.branch_machine.specs.Validity.{IsFullyValid}
+use Rattle.branch_files.specs.Reading.{NotAStore}
+use Rattle.branch_files.specs.Forms.{ReadsAsToday}
 use Rattle.branch_files.specs.Laws.{ReadsWhatStands}
 use Rattle.commit_replay.specs.Laws.{ReadsAsNoStore}
 use Rattle.store_core.specs.Images.{AllStand, NoneOrEmpty}
@@ -20,7 +22,8 @@ has_bytes n files has empty =
     let heads : length files.heads ≡ 0 = ap length empty.1 in
     has.1 (omega (arith, has.0, objects, heads))
 
-module _ {S O R Q A : Type 0} (m : Meaning S O R Q A) (address : List ℕ → List ℕ) (stands : ReadsWhatStands m) (no_store : ReadsAsNoStore m) where
+module _ {S O R Q A : Type 0} (m : Meaning S O R Q A) (address : List ℕ → List ℕ) (stands : ReadsWhatStands m) (no_store : ReadsAsNoStore m)
+    (today : ReadsAsToday m) where
   no_moves : (terms : Terms) → IsFullyValid (fix m terms address) []
   unfolding IsFullyValid
   no_moves terms = tt
@@ -29,7 +32,8 @@ module _ {S O R Q A : Type 0} (m : Meaning S O R Q A) (address : List ℕ → Li
   empty_store terms P is images all c image = (terms, is, stands terms address [] c (no_moves terms) (all c image))
 
   none_or_empty : (terms : Terms) (P : Terms → Type 0) → P terms → (c : Files) → NoneOrEmpty (fix m terms address) c → ReadsAsNoneOrEmpty m address P c
-  none_or_empty terms P is c (inl none) = inl (no_store address c (λ there has. none (record { version = version; terms = there; kind = 0 }) has))
+  none_or_empty terms P is c (inl none) = inl ((today address c NotAStore).0
+      (no_store present address c (λ there has. none (record { version = version; terms = there; kind = 0 }) has)))
   none_or_empty terms P is c (inr empty) = inr (terms, is, stands terms address [] c (no_moves terms) empty)
 
   module _ {D : Type 0} (may_leave : D → Files → Type 0) (moment : D → ℕ) (left_since : D → ℕ → Files → Type 0) where

@@ -16,6 +16,7 @@ use crate::script::give_all;
 use crate::status::Status;
 use branch_address::Address;
 use branch_disk::Disk;
+use branch_files::forms::reads_as_today;
 use branch_files::laws::reads_what_stands;
 use branch_io::{Sink, SinkFailed};
 use branch_names::{Limits, Terms};
@@ -194,6 +195,7 @@ pub(crate) fn run_init<T: Mrdt, K: Sink, D: Disk + Drop, A: Address>(
 {
     reads_what_stands::<T>();
     reads_as_no_store::<T>();
+    reads_as_today::<T>();
     let terms = Terms::under(limits);
     match Core::<T, D, A>::init(alloc, disk, terms) {
         Ok(core) => (say(sink, b"ready\n", Status::Done), core.close()),

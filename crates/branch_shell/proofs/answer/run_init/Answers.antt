@@ -12,7 +12,7 @@ returns-in-Ok-clause-any_moment g c empty =
     let terms = c.under-terms.result in
     let under : AreUnder c.args.limits terms = record { limits_are = c.under-terms.ensures.limits; origin = c.under-terms.ensures.origin } in
     let same = c.close.ensures.same in
-    rw same (made_empty g.T.Mrdt.meaning g.A.Address.address c.reads_what_stands.ensures c.reads_as_no_store.ensures d.may_leave d.moment d.left_since terms (AreUnder c.args.limits) under c.args.disk c.in-Ok.core.disk
+    rw same (made_empty g.T.Mrdt.meaning g.A.Address.address c.reads_what_stands.ensures c.reads_as_no_store.ensures c.reads_as_today.ensures d.may_leave d.moment d.left_since terms (AreUnder c.args.limits) under c.args.disk c.in-Ok.core.disk
     (c.in-Ok.ensures.any_moment empty))
 
 pub returns-in-Ok-clause-made : goal.returns-in-Ok-clause-made
@@ -20,7 +20,7 @@ returns-in-Ok-clause-made g c done f left =
     let d = g.D.Disk in
     let terms = c.under-terms.result in
     let under : AreUnder c.args.limits terms = record { limits_are = c.under-terms.ensures.limits; origin = c.under-terms.ensures.origin } in
-    empty_store g.T.Mrdt.meaning g.A.Address.address c.reads_what_stands.ensures c.reads_as_no_store.ensures terms (AreUnder c.args.limits) under (d.may_leave c.in-Ok.core.disk) c.in-Ok.ensures.stands f (subst (λ d'. d.may_leave d' f) c.close.ensures.same left)
+    empty_store g.T.Mrdt.meaning g.A.Address.address c.reads_what_stands.ensures c.reads_as_no_store.ensures c.reads_as_today.ensures terms (AreUnder c.args.limits) under (d.may_leave c.in-Ok.core.disk) c.in-Ok.ensures.stands f (subst (λ d'. d.may_leave d' f) c.close.ensures.same left)
 
 pub returns-in-Err-NotEmpty-default-clause-wrote : goal.returns-in-Err-NotEmpty-default-clause-wrote
 returns-in-Err-NotEmpty-default-clause-wrote g c =
@@ -34,7 +34,7 @@ returns-in-Err-NotEmpty-default-clause-any_moment g c empty =
     let d = g.D.Disk in
     let terms = c.under-terms.result in
     let under : AreUnder c.args.limits terms = record { limits_are = c.under-terms.ensures.limits; origin = c.under-terms.ensures.origin } in
-    made_empty g.T.Mrdt.meaning g.A.Address.address c.reads_what_stands.ensures c.reads_as_no_store.ensures d.may_leave d.moment d.left_since terms (AreUnder c.args.limits) under c.args.disk c.in-Err-NotEmpty-default.disk
+    made_empty g.T.Mrdt.meaning g.A.Address.address c.reads_what_stands.ensures c.reads_as_no_store.ensures c.reads_as_today.ensures d.may_leave d.moment d.left_since terms (AreUnder c.args.limits) under c.args.disk c.in-Err-NotEmpty-default.disk
     (c.in-Err-NotEmpty-default.ensures.any_moment_err empty)
 
 pub returns-in-Err-DiskFault-default-clause-any_moment : goal.returns-in-Err-DiskFault-default-clause-any_moment
@@ -42,7 +42,7 @@ returns-in-Err-DiskFault-default-clause-any_moment g c empty =
     let d = g.D.Disk in
     let terms = c.under-terms.result in
     let under : AreUnder c.args.limits terms = record { limits_are = c.under-terms.ensures.limits; origin = c.under-terms.ensures.origin } in
-    made_empty g.T.Mrdt.meaning g.A.Address.address c.reads_what_stands.ensures c.reads_as_no_store.ensures d.may_leave d.moment d.left_since terms (AreUnder c.args.limits) under c.args.disk c.in-Err-DiskFault-default.disk
+    made_empty g.T.Mrdt.meaning g.A.Address.address c.reads_what_stands.ensures c.reads_as_no_store.ensures c.reads_as_today.ensures d.may_leave d.moment d.left_since terms (AreUnder c.args.limits) under c.args.disk c.in-Err-DiskFault-default.disk
     (c.in-Err-DiskFault-default.ensures.any_moment_err empty)
 
 pub returns-in-Err-Memory-default-clause-any_moment : goal.returns-in-Err-Memory-default-clause-any_moment
@@ -50,7 +50,7 @@ returns-in-Err-Memory-default-clause-any_moment g c empty =
     let d = g.D.Disk in
     let terms = c.under-terms.result in
     let under : AreUnder c.args.limits terms = record { limits_are = c.under-terms.ensures.limits; origin = c.under-terms.ensures.origin } in
-    made_empty g.T.Mrdt.meaning g.A.Address.address c.reads_what_stands.ensures c.reads_as_no_store.ensures d.may_leave d.moment d.left_since terms (AreUnder c.args.limits) under c.args.disk c.in-Err-Memory-default.disk
+    made_empty g.T.Mrdt.meaning g.A.Address.address c.reads_what_stands.ensures c.reads_as_no_store.ensures c.reads_as_today.ensures d.may_leave d.moment d.left_since terms (AreUnder c.args.limits) under c.args.disk c.in-Err-Memory-default.disk
     (c.in-Err-Memory-default.ensures.any_moment_err empty)
 
 pub returns-in-Ok-clause-wrote : goal.returns-in-Ok-clause-wrote
