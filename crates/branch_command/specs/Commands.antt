@@ -25,6 +25,8 @@ pub data Said : Type 0 where
   Generate : Work → Said
   -- run so many clients side by side
   Clients : ClientsGiven → Said
+  -- make of a store of version 1 one of today's version, on the second disk
+  Upgrade : Said
   -- tell the text of help or of the version
   Help : Said
 
@@ -52,6 +54,7 @@ said_by name given =
     else if bytes_eq name (codes "check") then Some Check
     else if bytes_eq name (codes "generate") then option_map Generate (work_of given)
     else if bytes_eq name (codes "clients") then option_map Clients (clients_of given)
+    else if bytes_eq name (codes "upgrade") then Some Upgrade
     else if bytes_eq name (codes "help") then asked_by (fault_of program (help_words (first_of (codes "command") given)))
     else None
 
@@ -79,6 +82,7 @@ Means Script read.Script = Unit {0}
 Means Check read.Check = Unit {0}
 Means (Generate work) (read.Generate steps number) = work ≡ record { steps = steps; number = number }
 Means (Clients given) (read.Clients count steps number) = given ≡ record { count = count; work = record { steps = steps; number = number } }
+Means Upgrade read.Upgrade = Unit {0}
 Means Help (read.Tell text) = Unit {0}
 Means said command = ⊥
 

@@ -33,8 +33,8 @@ client_names = codes "count" ∷ work_names
 abbrev pub limit_names : List Text
 limit_names = codes "max-clock" ∷ codes "max-commits" ∷ codes "max-branches" ∷ codes "max-value" ∷ codes "max-moves" ∷ []
 
--- `init [--max-clock N] ..`, `script`, `check`, `generate STEPS NUMBER`, `clients COUNT STEPS NUMBER` and `help [COMMAND]`, one of which is
--- wanted; no program's name in front
+-- `init [--max-clock N] ..`, `script`, `check`, `generate STEPS NUMBER`, `clients COUNT STEPS NUMBER`, `upgrade` and `help [COMMAND]`, one of
+-- which is wanted; no program's name in front
 unfoldable pub program : App
 program = record {
   top = record (new_shape (codes "bucketplum")) {
@@ -49,5 +49,6 @@ program = record {
   };
   subs = leaf (codes "init") (map limit_rule limit_names)
       ∷ leaf (codes "script") [] ∷ leaf (codes "check") []
-      ∷ leaf (codes "generate") (map wanted_rule work_names) ∷ leaf (codes "clients") (map wanted_rule client_names) ∷ leaf (codes "help") (topic_rule ∷ []) ∷ [];
+      ∷ leaf (codes "generate") (map wanted_rule work_names) ∷ leaf (codes "clients") (map wanted_rule client_names)
+      ∷ leaf (codes "upgrade") [] ∷ leaf (codes "help") (topic_rule ∷ []) ∷ [];
 }

@@ -45,6 +45,8 @@ pub enum Command {
         /// The number from which they are.
         number: u64,
     },
+    /// Make of a store of version 1 one of today's version, on the second disk.
+    Upgrade,
     /// Tell this text, of help or of the version.
     Tell(String),
 }
@@ -63,15 +65,18 @@ pub enum CommandRefused {
 // What clap finds in words.
 fn matches_in<'a, S: AsStr>(alloc: Global, words: &'a [S]) -> Result<ArgMatches<'a>, Answer>
     ensures kinds { FailsBy (fault_of program (map S.text words.entry.now)) result }
-    ensures found { IfOk result (λ m. subcommand_rows_of m ≡ subcommand_of program (map S.text words.entry.now)) }
+    ensures found { IfOk result (λ m.
+        subcommand_rows_of m ≡ subcommand_of program (map S.text words.entry.now)) }
 {
     program(alloc)?.try_get_matches_from(words)
 }
 
 // The text of an answer of clap, where it is no mistake in the words.
 fn told(alloc: Global, answer: Answer) -> Result<Command, CommandRefused>
-    ensures told { IfOk result (λ command. Means Help command × (is_request (kind_of answer) ≡ true)) }
-    ensures usage { result ≡ Err Usage → (is_request (kind_of answer) ≡ false) × (kind_of answer ≢ OutOfMemory) }
+    ensures told { IfOk result (λ command. Means Help command
+        × (is_request (kind_of answer) ≡ true)) }
+    ensures usage { result ≡ Err Usage → (is_request (kind_of answer) ≡ false)
+        × (kind_of answer ≢ OutOfMemory) }
 {
     match answer.kind() {
         ErrorKind::DisplayHelp | ErrorKind::DisplayVersion => match format!(in alloc; "{answer}") {
@@ -95,7 +100,8 @@ fn tell<S: AsStr>(alloc: Global, words: &[S]) -> Result<Command, CommandRefused>
 
 // The help of the command of a name, or of the program.
 fn tell_help(alloc: Global, name: Option<&str>) -> Result<Command, CommandRefused>
-    ensures { Answers (asked_by (fault_of program (help_words (option_map (λ s. s.now) name.entry)))) result }
+    ensures { Answers
+        (asked_by (fault_of program (help_words (option_map (λ s. s.now) name.entry)))) result }
 {
     match name {
         Some(name) => tell(alloc, [name, "--help"].as_slice()),
@@ -130,6 +136,7 @@ fn command_named(
             }),
             None => Err(CommandRefused::Usage),
         },
+        "upgrade" => Ok(Command::Upgrade),
         "help" => tell_help(alloc, given.get_str("command")),
         _ => Err(CommandRefused::Usage),
     }
@@ -138,7 +145,8 @@ fn command_named(
 /// The command that the words behind PATH say. `Usage` comes exactly where they say none; a text of help or of the
 /// version is left open.
 pub fn read_command(alloc: Global, words: &[String]) -> Result<Command, CommandRefused>
-    ensures read { IfOk result (λ command. (said : Said) × (command_of (map string_bytes words.now) ≡ Some said) × Means said command) }
+    ensures read { IfOk result (λ command. (said : Said)
+        × (command_of (map string_bytes words.now) ≡ Some said) × Means said command) }
     ensures usage { result ≡ Err Usage → command_of (map string_bytes words.now) ≡ None }
 {
     let matches = match matches_in(alloc, words) {

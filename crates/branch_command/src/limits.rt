@@ -33,7 +33,8 @@ fn read_option(given: &ArgMatches<'_>, option: &str, most: u64, usual: u64) -> O
 
 /// The limits that the options say; `None` where the word of one is no number in its range.
 pub(crate) fn read_limits(given: &ArgMatches<'_>) -> Option<Limits>
-    ensures some { IfSome result (λ limits. (n : Numbers) × (numbers_of (rows_of (found_of given.now)) ≡ Some n) × AreLimits n limits) }
+    ensures some { IfSome result (λ limits. (n : Numbers)
+        × (numbers_of (rows_of (found_of given.now)) ≡ Some n) × AreLimits n limits) }
     ensures none { IfNone result (numbers_of (rows_of (found_of given.now)) ≡ None) }
 {
     let usual = Limits::default();

@@ -46,14 +46,16 @@ fn wanted<'a>(alloc: Global, name: &'a str, shown: &'a str, help: &'a str) -> Ar
 
 // A command without options of its own.
 fn plain<'a>(alloc: Global, name: &'a str, about: &'a str) -> Result<Command<'a>, AllocError>
-    ensures { IfOk result (λ c. (shape_of c ≡ leaf name.entry.now []) × ((fields_of c).has_globals ≡ false)) }
+    ensures { IfOk result (λ c. (shape_of c ≡ leaf name.entry.now [])
+        × ((fields_of c).has_globals ≡ false)) }
 {
     Command::new(alloc, name).about(about).arg(version(alloc))
 }
 
 // `help`, and the name of a command.
 fn help<'a>(alloc: Global) -> Result<Command<'a>, AllocError>
-    ensures { IfOk result (λ c. (shape_of c ≡ leaf (codes "help") (topic_rule ∷ [])) × ((fields_of c).has_globals ≡ false)) }
+    ensures { IfOk result (λ c. (shape_of c ≡ leaf (codes "help") (topic_rule ∷ []))
+        × ((fields_of c).has_globals ≡ false)) }
 {
     Command::new(alloc, "help")
         .about("Print this message or the help of a command")
@@ -63,7 +65,8 @@ fn help<'a>(alloc: Global) -> Result<Command<'a>, AllocError>
 
 // `init`, and its options.
 fn init<'a>(alloc: Global) -> Result<Command<'a>, AllocError>
-    ensures { IfOk result (λ c. (shape_of c ≡ leaf (codes "init") (map limit_rule limit_names)) × ((fields_of c).has_globals ≡ false)) }
+    ensures { IfOk result (λ c. (shape_of c ≡ leaf (codes "init") (map limit_rule limit_names))
+        × ((fields_of c).has_globals ≡ false)) }
 {
     let clock = limit(
         alloc,
@@ -102,7 +105,8 @@ fn init<'a>(alloc: Global) -> Result<Command<'a>, AllocError>
 
 // `generate STEPS NUMBER`.
 fn generate<'a>(alloc: Global) -> Result<Command<'a>, AllocError>
-    ensures { IfOk result (λ c. (shape_of c ≡ leaf (codes "generate") (map wanted_rule work_names)) × ((fields_of c).has_globals ≡ false)) }
+    ensures { IfOk result (λ c. (shape_of c ≡ leaf (codes "generate") (map wanted_rule work_names))
+        × ((fields_of c).has_globals ≡ false)) }
 {
     let steps = wanted(
         alloc,
@@ -125,7 +129,8 @@ fn generate<'a>(alloc: Global) -> Result<Command<'a>, AllocError>
 
 // `clients COUNT STEPS NUMBER`.
 fn clients<'a>(alloc: Global) -> Result<Command<'a>, AllocError>
-    ensures { IfOk result (λ c. (shape_of c ≡ leaf (codes "clients") (map wanted_rule client_names)) × ((fields_of c).has_globals ≡ false)) }
+    ensures { IfOk result (λ c. (shape_of c ≡ leaf (codes "clients") (map wanted_rule client_names))
+        × ((fields_of c).has_globals ≡ false)) }
 {
     let count = wanted(
         alloc,
@@ -162,6 +167,11 @@ pub(crate) fn program<'a>(alloc: Global) -> Result<Command<'a>, AllocError>
     let check = plain(alloc, "check", "Open the store and print its report")?;
     let generate = generate(alloc)?;
     let clients = clients(alloc)?;
+    let upgrade = plain(
+        alloc,
+        "upgrade",
+        "Make of a store of version 1 one of version 2, in the files PATH.second.objects and PATH.second.heads",
+    )?;
     let help = help(alloc)?;
     Command::new(alloc, "bucketplum")
         .bin_name("bucketplum PATH")?
@@ -178,5 +188,6 @@ pub(crate) fn program<'a>(alloc: Global) -> Result<Command<'a>, AllocError>
         .subcommand(check)?
         .subcommand(generate)?
         .subcommand(clients)?
+        .subcommand(upgrade)?
         .subcommand(help)
 }

@@ -39,7 +39,8 @@ fn read_count(given: &ArgMatches<'_>, name: &str, most: u64) -> Option<u64>
 
 /// How many steps are drawn, and the number from which they are; `None` where a word says no number in its range.
 pub(crate) fn read_work(given: &ArgMatches<'_>) -> Option<(u64, u64)>
-    ensures some { IfSome result (λ work. work_of (rows_of (found_of given.now)) ≡ Some (record { steps = work.0; number = work.1 })) }
+    ensures some { IfSome result (λ work. work_of (rows_of (found_of given.now))
+        ≡ Some (record { steps = work.0; number = work.1 })) }
     ensures none { IfNone result (work_of (rows_of (found_of given.now)) ≡ None) }
 {
     let steps = read_given(given, "steps", 1_000_000)?;
@@ -49,7 +50,11 @@ pub(crate) fn read_work(given: &ArgMatches<'_>) -> Option<(u64, u64)>
 
 /// How many clients there are, and the work of each; `None` where a word says no number in its range.
 pub(crate) fn read_clients(given: &ArgMatches<'_>) -> Option<(u32, (u64, u64))>
-    ensures some { IfSome result (λ clients. clients_of (rows_of (found_of given.now)) ≡ Some (record { count = clients.0; work = record { steps = clients.1.0; number = clients.1.1 } })) }
+    ensures some { IfSome result (λ clients. clients_of (rows_of (found_of given.now))
+        ≡ Some (record {
+          count = clients.0;
+          work = record { steps = clients.1.0; number = clients.1.1 };
+        })) }
     ensures none { IfNone result (clients_of (rows_of (found_of given.now)) ≡ None) }
 {
     let count = read_count(given, "count", 64)?;

@@ -109,7 +109,8 @@ fn push_steps(
     branch: Name,
     steps: u64,
 ) -> Result<(), Memory>
-    ensures { OnOk result (out.new.items ≡ out.old.items ++ drawn_steps branch steps draws.old.state) }
+    ensures { OnOk result (out.new.items
+        ≡ out.old.items ++ drawn_steps branch steps draws.old.state) }
 {
     for _step in 0..steps {
         out.push(step(alloc, draws, branch)?)?;

@@ -36,7 +36,8 @@ fn put_do(
     kind: &[u8],
     operation: &[u8],
 ) -> Result<(), Memory>
-    ensures text { OnOk result (out.new.items ≡ out.old.items ++ do_text session kind.now operation.now draws.old.state) }
+    ensures text { OnOk result (out.new.items
+        ≡ out.old.items ++ do_text session kind.now operation.now draws.old.state) }
     ensures state { OnOk result (draws.new.state ≡ next draws.old.state) }
 {
     let key = draws.key(alloc)?;
@@ -59,8 +60,10 @@ fn put_plain(
     kind: &[u8],
     operation: &[u8],
 ) -> Result<(), Memory>
-    ensures text { OnOk result (out.new.items ≡ out.old.items ++ (plain_line session kind.now operation.now draws.old.state).made) }
-    ensures state { OnOk result (draws.new.state ≡ (plain_line session kind.now operation.now draws.old.state).state) }
+    ensures text { OnOk result (out.new.items
+        ≡ out.old.items ++ (plain_line session kind.now operation.now draws.old.state).made) }
+    ensures state { OnOk result (draws.new.state
+        ≡ (plain_line session kind.now operation.now draws.old.state).state) }
 {
     put_do(alloc, out, draws, session, kind, operation)?;
     put_text(out, b"\n")
@@ -75,8 +78,10 @@ fn put_with_word(
     kind: &[u8],
     operation: &[u8],
 ) -> Result<(), Memory>
-    ensures text { OnOk result (out.new.items ≡ out.old.items ++ (word_line session kind.now operation.now draws.old.state).made) }
-    ensures state { OnOk result (draws.new.state ≡ (word_line session kind.now operation.now draws.old.state).state) }
+    ensures text { OnOk result (out.new.items
+        ≡ out.old.items ++ (word_line session kind.now operation.now draws.old.state).made) }
+    ensures state { OnOk result (draws.new.state
+        ≡ (word_line session kind.now operation.now draws.old.state).state) }
 {
     put_do(alloc, out, draws, session, kind, operation)?;
     let word = draws.word(alloc)?;
@@ -92,7 +97,8 @@ fn put_addition(
     draws: &mut Draws,
     session: u64,
 ) -> Result<(), Memory>
-    ensures text { OnOk result (out.new.items ≡ out.old.items ++ (amount_line session draws.old.state).made) }
+    ensures text { OnOk result (out.new.items
+        ≡ out.old.items ++ (amount_line session draws.old.state).made) }
     ensures state { OnOk result (draws.new.state ≡ (amount_line session draws.old.state).state) }
 {
     put_do(alloc, out, draws, session, b"counter", b"add")?;
@@ -104,7 +110,8 @@ fn put_addition(
 
 // A merge of a branch that is drawn.
 fn put_merge(out: &mut Vec<u8>, draws: &mut Draws, session: u64) -> Result<(), Memory>
-    ensures text { OnOk result (out.new.items ≡ out.old.items ++ (merge_line session draws.old.state).made) }
+    ensures text { OnOk result (out.new.items
+        ≡ out.old.items ++ (merge_line session draws.old.state).made) }
     ensures state { OnOk result (draws.new.state ≡ (merge_line session draws.old.state).state) }
 {
     let branch = draws.pick(4);
@@ -136,8 +143,10 @@ fn put_line_for(
     action: u64,
 ) -> Result<(), Memory>
     requires { action < 16 }
-    ensures text { OnOk result (out.new.items ≡ out.old.items ++ (line_for session action draws.old.state).made) }
-    ensures state { OnOk result (draws.new.state ≡ (line_for session action draws.old.state).state) }
+    ensures text { OnOk result (out.new.items
+        ≡ out.old.items ++ (line_for session action draws.old.state).made) }
+    ensures state { OnOk result (draws.new.state
+        ≡ (line_for session action draws.old.state).state) }
 {
     match action {
         0..=1 => put_merge(out, draws, session),

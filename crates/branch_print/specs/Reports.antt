@@ -38,9 +38,16 @@ ready_text = codes "ready" ++ line_end
 abbrev pub not_empty_text : List ℕ
 not_empty_text = codes "refused not empty" ++ line_end
 
+-- so many moves of a store of the old version were made anew in the new one
+abbrev pub upgraded_text : ℕ → List ℕ
+upgraded_text moves = codes "upgraded " ++ decimal moves ++ line_end
+
 -- why files are not opened
 abbrev pub no_store_text : List ℕ
 no_store_text = codes "refused not a store" ++ line_end
+
+abbrev pub old_version_text : List ℕ
+old_version_text = codes "refused old version" ++ line_end
 
 abbrev pub bad_record_text : ℕ → List ℕ
 bad_record_text number = codes "refused record " ++ decimal number ++ line_end
@@ -57,3 +64,7 @@ part_text Heads = codes "heads"
 
 abbrev pub truncated_text : Part → ℕ → List ℕ
 truncated_text part place = codes "refused truncated " ++ part_text part ++ codes " " ++ decimal place ++ line_end
+
+-- why a store of the old version is not made anew: the move of this commit
+abbrev pub no_upgrade_text : ℕ → List ℕ
+no_upgrade_text number = codes "refused upgrade " ++ decimal number ++ line_end

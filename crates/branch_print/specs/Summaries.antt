@@ -13,7 +13,7 @@ abbrev pub begins : List ℕ → List ℕ → Bool
 begins reply text = starts_with nat_eq reply text
 
 -- The word that a reply counts under: its first one; `errors` for each that begins with `error`; and else `looked`, since what a
--- session sees begins with the session's name.
+-- session sees begins with the session's name. No drawn line joins branches or drops one, so those replies have no word of their own.
 abbrev pub word_of : List ℕ → Word
 word_of reply =
     if begins reply (codes "landed ") then Landed

@@ -10,15 +10,26 @@ ghost use Rattle.branch_print.specs.declared.summaries.Word.TheVariants as word;
 /// Each outcome's reply counts under the word for it, where a session that looks has one of the names `s0` to `s3`.
 pub fn counts_outcomes()
     ensures landed { (session branch : List ℕ) (commit : ℕ) (time : Time) (said : DocReply)
-        → word_of (outcome_text session branch (Landed commit time said) ++ line_end) ≡ word.Landed }
-    ensures merged { (session branch : List ℕ) (commit : ℕ) → word_of (outcome_text session branch (Merged commit) ++ line_end) ≡ word.Merged }
-    ensures forward { (session branch : List ℕ) (commit : ℕ) → word_of (outcome_text session branch (Forwarded commit) ++ line_end) ≡ word.Forward }
-    ensures same { (session branch : List ℕ) → word_of (outcome_text session branch Same ++ line_end) ≡ word.Same }
-    ensures forked { (session branch : List ℕ) (number head : ℕ) → word_of (outcome_text session branch (Forked number head) ++ line_end) ≡ word.Forked }
-    ensures looked_0 { (branch : List ℕ) (number head : ℕ) → word_of (outcome_text (codes "s0") branch (Sees number head) ++ line_end) ≡ word.Looked }
-    ensures looked_1 { (branch : List ℕ) (number head : ℕ) → word_of (outcome_text (codes "s1") branch (Sees number head) ++ line_end) ≡ word.Looked }
-    ensures looked_2 { (branch : List ℕ) (number head : ℕ) → word_of (outcome_text (codes "s2") branch (Sees number head) ++ line_end) ≡ word.Looked }
-    ensures looked_3 { (branch : List ℕ) (number head : ℕ) → word_of (outcome_text (codes "s3") branch (Sees number head) ++ line_end) ≡ word.Looked }
-    ensures refused { (session branch : List ℕ) (refusal : Refusal) → word_of (outcome_text session branch (Refused refusal) ++ line_end) ≡ refusal_word refusal }
+        → word_of (outcome_text session branch (Landed commit time said) ++ line_end)
+        ≡ word.Landed }
+    ensures merged { (session branch : List ℕ) (commit : ℕ)
+        → word_of (outcome_text session branch (Merged commit) ++ line_end) ≡ word.Merged }
+    ensures forward { (session branch : List ℕ) (commit : ℕ)
+        → word_of (outcome_text session branch (Forwarded commit) ++ line_end) ≡ word.Forward }
+    ensures same { (session branch : List ℕ)
+        → word_of (outcome_text session branch Same ++ line_end) ≡ word.Same }
+    ensures forked { (session branch : List ℕ) (number head : ℕ)
+        → word_of (outcome_text session branch (Forked number head) ++ line_end) ≡ word.Forked }
+    ensures looked_0 { (branch : List ℕ) (number head : ℕ)
+        → word_of (outcome_text (codes "s0") branch (Sees number head) ++ line_end) ≡ word.Looked }
+    ensures looked_1 { (branch : List ℕ) (number head : ℕ)
+        → word_of (outcome_text (codes "s1") branch (Sees number head) ++ line_end) ≡ word.Looked }
+    ensures looked_2 { (branch : List ℕ) (number head : ℕ)
+        → word_of (outcome_text (codes "s2") branch (Sees number head) ++ line_end) ≡ word.Looked }
+    ensures looked_3 { (branch : List ℕ) (number head : ℕ)
+        → word_of (outcome_text (codes "s3") branch (Sees number head) ++ line_end) ≡ word.Looked }
+    ensures refused { (session branch : List ℕ) (refusal : Refusal)
+        → word_of (outcome_text session branch (Refused refusal) ++ line_end)
+        ≡ refusal_word refusal }
     ensures unseen { (session : List ℕ) → word_of (unseen_text session ++ line_end) ≡ word.Errors }
 {}

@@ -37,8 +37,10 @@ pub fn put_signed(out: &mut Vec<u8>, number: i128) -> Result<(), Memory>
 
 /// The pieces, one behind the other.
 pub fn put_pieces(out: &mut Vec<u8>, pieces: &[&[u8]]) -> Result<(), Memory>
-    ensures ok { OnOk result (out.new.items ≡ out.old.items ++ flat_map (λ piece. piece.now) pieces.now) }
-    ensures err { OnErr result (AppendsPart out.old.items out.new.items (flat_map (λ piece. piece.now) pieces.now)) }
+    ensures ok { OnOk result (out.new.items ≡ out.old.items ++ flat_map (λ piece.
+        piece.now) pieces.now) }
+    ensures err { OnErr result
+        (AppendsPart out.old.items out.new.items (flat_map (λ piece. piece.now) pieces.now)) }
 {
     for piece in pieces {
         put_text(out, piece)?;
@@ -48,8 +50,10 @@ pub fn put_pieces(out: &mut Vec<u8>, pieces: &[&[u8]]) -> Result<(), Memory>
 
 /// A count in brackets.
 pub fn put_brackets(out: &mut Vec<u8>, count: u64) -> Result<(), Memory>
-    ensures ok { OnOk result (out.new.items ≡ out.old.items ++ (codes "[" ++ decimal count ++ codes "]")) }
-    ensures err { OnErr result (AppendsPart out.old.items out.new.items (codes "[" ++ decimal count ++ codes "]")) }
+    ensures ok { OnOk result (out.new.items
+        ≡ out.old.items ++ (codes "[" ++ decimal count ++ codes "]")) }
+    ensures err { OnErr result
+        (AppendsPart out.old.items out.new.items (codes "[" ++ decimal count ++ codes "]")) }
 {
     let mut digits = Buffer::new();
     put_pieces(out, &[b"[", digits.format(count).as_bytes(), b"]"])
@@ -57,8 +61,10 @@ pub fn put_brackets(out: &mut Vec<u8>, count: u64) -> Result<(), Memory>
 
 // Each item after a space.
 fn put_each(out: &mut Vec<u8>, items: &[Bytes]) -> Result<(), Memory>
-    ensures ok { OnOk result (out.new.items ≡ out.old.items ++ flat_map (λ item. codes " " ++ item) items.now) }
-    ensures err { OnErr result (AppendsPart out.old.items out.new.items (flat_map (λ item. codes " " ++ item) items.now)) }
+    ensures ok { OnOk result (out.new.items ≡ out.old.items ++ flat_map (λ item.
+        codes " " ++ item) items.now) }
+    ensures err { OnErr result
+        (AppendsPart out.old.items out.new.items (flat_map (λ item. codes " " ++ item) items.now)) }
 {
     for item in items {
         put_pieces(out, &[b" ", item.as_slice()])?;
@@ -78,7 +84,8 @@ pub fn put_items(out: &mut Vec<u8>, items: &[Bytes]) -> Result<(), Memory>
 /// A text, then a time and, after a space, what was put then.
 pub fn put_entry(out: &mut Vec<u8>, text: &[u8], entry: &Kept<Bytes>) -> Result<(), Memory>
     ensures ok { OnOk result (out.new.items ≡ out.old.items ++ (text.now ++ entry_text entry.now)) }
-    ensures err { OnErr result (AppendsPart out.old.items out.new.items (text.now ++ entry_text entry.now)) }
+    ensures err { OnErr result
+        (AppendsPart out.old.items out.new.items (text.now ++ entry_text entry.now)) }
 {
     let mut clock = Buffer::new();
     let mut origin = Buffer::new();
@@ -97,8 +104,11 @@ pub fn put_entry(out: &mut Vec<u8>, text: &[u8], entry: &Kept<Bytes>) -> Result<
 
 // Each entry after a space.
 fn put_each_entry(out: &mut Vec<u8>, entries: &[Kept<Bytes>]) -> Result<(), Memory>
-    ensures ok { OnOk result (out.new.items ≡ out.old.items ++ flat_map (λ entry. codes " " ++ entry_text entry) entries.now) }
-    ensures err { OnErr result (AppendsPart out.old.items out.new.items (flat_map (λ entry. codes " " ++ entry_text entry) entries.now)) }
+    ensures ok { OnOk result (out.new.items ≡ out.old.items ++ flat_map (λ entry.
+        codes " " ++ entry_text entry) entries.now) }
+    ensures err { OnErr result
+        (AppendsPart out.old.items out.new.items
+        (flat_map (λ entry. codes " " ++ entry_text entry) entries.now)) }
 {
     for entry in entries {
         put_entry(out, b" ", entry)?;
@@ -109,7 +119,8 @@ fn put_each_entry(out: &mut Vec<u8>, entries: &[Kept<Bytes>]) -> Result<(), Memo
 /// The count of entries in brackets, then each after a space.
 pub fn put_entries(out: &mut Vec<u8>, entries: &[Kept<Bytes>]) -> Result<(), Memory>
     ensures ok { OnOk result (out.new.items ≡ out.old.items ++ entries_text entries.now) }
-    ensures err { OnErr result (AppendsPart out.old.items out.new.items (entries_text entries.now)) }
+    ensures err { OnErr result
+        (AppendsPart out.old.items out.new.items (entries_text entries.now)) }
 {
     put_brackets(out, entries.len() as u64)?;
     put_each_entry(out, entries)
@@ -117,8 +128,10 @@ pub fn put_entries(out: &mut Vec<u8>, entries: &[Kept<Bytes>]) -> Result<(), Mem
 
 /// A text, a number and the end of the line.
 pub fn put_count(out: &mut Vec<u8>, text: &[u8], number: u64) -> Result<(), Memory>
-    ensures ok { OnOk result (out.new.items ≡ out.old.items ++ (text.now ++ decimal number ++ line_end)) }
-    ensures err { OnErr result (AppendsPart out.old.items out.new.items (text.now ++ decimal number ++ line_end)) }
+    ensures ok { OnOk result (out.new.items
+        ≡ out.old.items ++ (text.now ++ decimal number ++ line_end)) }
+    ensures err { OnErr result
+        (AppendsPart out.old.items out.new.items (text.now ++ decimal number ++ line_end)) }
 {
     let mut digits = Buffer::new();
     put_pieces(out, &[text, digits.format(number).as_bytes(), b"\n"])

@@ -1,7 +1,7 @@
 // The replies to steps that were not refused. After `Memory` a first part of the text has been written.
 ghost use Rattle.std.specs.Prelude.{◌≡◌, ◌++◌, codes, decimal, if◌then◌else◌, OnOk, OnErr};
 ghost use Rattle.mrdt_model.specs.Spelled.{AppendsPart};
-ghost use Rattle.branch_print.specs.Texts.{time_text, sees_text, forked_text, took_text, reply_text, landed_text, merged_text, joined_text, forward_text, same_text, items_text, entries_text, at_most_one, answer_text, line_end};
+ghost use Rattle.branch_print.specs.Texts.{time_text, sees_text, forked_text, took_text, reply_text, landed_text, merged_text, joined_text, forward_text, same_text, dropped_text, items_text, entries_text, at_most_one, answer_text, line_end};
 
 use crate::pieces::{
     put_count, put_entries, put_entry, put_items, put_number, put_pieces, put_signed, put_text,
@@ -14,8 +14,11 @@ use mrdt_model::{Bytes, Memory, Time};
 
 /// What a session sees: `a sees main at #0`.
 pub fn put_sees(out: &mut Vec<u8>, session: &Name, branch: &Name, head: u32) -> Result<(), Memory>
-    ensures ok { OnOk result (out.new.items ≡ out.old.items ++ (sees_text session.now branch.now head ++ line_end)) }
-    ensures err { OnErr result (AppendsPart out.old.items out.new.items (sees_text session.now branch.now head ++ line_end)) }
+    ensures ok { OnOk result (out.new.items
+        ≡ out.old.items ++ (sees_text session.now branch.now head ++ line_end)) }
+    ensures err { OnErr result
+        (AppendsPart out.old.items out.new.items
+        (sees_text session.now branch.now head ++ line_end)) }
 {
     let mut head_digits = Buffer::new();
     put_pieces(
@@ -33,8 +36,10 @@ pub fn put_sees(out: &mut Vec<u8>, session: &Name, branch: &Name, head: u32) -> 
 
 /// A new branch: `forked l as 1 at #0`.
 pub fn put_forked(out: &mut Vec<u8>, new: &Name, number: u32, head: u32) -> Result<(), Memory>
-    ensures ok { OnOk result (out.new.items ≡ out.old.items ++ (forked_text new.now number head ++ line_end)) }
-    ensures err { OnErr result (AppendsPart out.old.items out.new.items (forked_text new.now number head ++ line_end)) }
+    ensures ok { OnOk result (out.new.items
+        ≡ out.old.items ++ (forked_text new.now number head ++ line_end)) }
+    ensures err { OnErr result
+        (AppendsPart out.old.items out.new.items (forked_text new.now number head ++ line_end)) }
 {
     let mut number_digits = Buffer::new();
     let mut head_digits = Buffer::new();
@@ -76,8 +81,11 @@ fn put_reply(out: &mut Vec<u8>, reply: &PlainReply) -> Result<(), Memory>
 
 // The commit of an operation, and its time.
 fn put_commit(out: &mut Vec<u8>, commit: u32, time: Time) -> Result<(), Memory>
-    ensures ok { OnOk result (out.new.items ≡ out.old.items ++ (codes "landed #" ++ decimal commit ++ codes " at " ++ time_text time)) }
-    ensures err { OnErr result (AppendsPart out.old.items out.new.items (codes "landed #" ++ decimal commit ++ codes " at " ++ time_text time)) }
+    ensures ok { OnOk result (out.new.items
+        ≡ out.old.items ++ (codes "landed #" ++ decimal commit ++ codes " at " ++ time_text time)) }
+    ensures err { OnErr result
+        (AppendsPart out.old.items out.new.items
+        (codes "landed #" ++ decimal commit ++ codes " at " ++ time_text time)) }
 {
     let mut commit_digits = Buffer::new();
     let mut clock_digits = Buffer::new();
@@ -102,8 +110,10 @@ pub fn put_landed(
     time: Time,
     reply: &PlainReply,
 ) -> Result<(), Memory>
-    ensures ok { OnOk result (out.new.items ≡ out.old.items ++ (landed_text commit time reply.now ++ line_end)) }
-    ensures err { OnErr result (AppendsPart out.old.items out.new.items (landed_text commit time reply.now ++ line_end)) }
+    ensures ok { OnOk result (out.new.items
+        ≡ out.old.items ++ (landed_text commit time reply.now ++ line_end)) }
+    ensures err { OnErr result
+        (AppendsPart out.old.items out.new.items (landed_text commit time reply.now ++ line_end)) }
 {
     put_commit(out, commit, time)?;
     put_reply(out, reply)?;
@@ -113,7 +123,8 @@ pub fn put_landed(
 /// A merge that made a commit: `merged #3`.
 pub fn put_merged(out: &mut Vec<u8>, commit: u32) -> Result<(), Memory>
     ensures ok { OnOk result (out.new.items ≡ out.old.items ++ (merged_text commit ++ line_end)) }
-    ensures err { OnErr result (AppendsPart out.old.items out.new.items (merged_text commit ++ line_end)) }
+    ensures err { OnErr result
+        (AppendsPart out.old.items out.new.items (merged_text commit ++ line_end)) }
 {
     put_count(out, b"merged #", u64::from(commit))
 }
@@ -121,7 +132,8 @@ pub fn put_merged(out: &mut Vec<u8>, commit: u32) -> Result<(), Memory>
 /// A merge of several commits at once: `joined #4`.
 pub fn put_joined(out: &mut Vec<u8>, commit: u32) -> Result<(), Memory>
     ensures ok { OnOk result (out.new.items ≡ out.old.items ++ (joined_text commit ++ line_end)) }
-    ensures err { OnErr result (AppendsPart out.old.items out.new.items (joined_text commit ++ line_end)) }
+    ensures err { OnErr result
+        (AppendsPart out.old.items out.new.items (joined_text commit ++ line_end)) }
 {
     put_count(out, b"joined #", u64::from(commit))
 }
@@ -129,7 +141,8 @@ pub fn put_joined(out: &mut Vec<u8>, commit: u32) -> Result<(), Memory>
 /// A merge that moved the branch up to a commit: `forward #1`.
 pub fn put_forward(out: &mut Vec<u8>, commit: u32) -> Result<(), Memory>
     ensures ok { OnOk result (out.new.items ≡ out.old.items ++ (forward_text commit ++ line_end)) }
-    ensures err { OnErr result (AppendsPart out.old.items out.new.items (forward_text commit ++ line_end)) }
+    ensures err { OnErr result
+        (AppendsPart out.old.items out.new.items (forward_text commit ++ line_end)) }
 {
     put_count(out, b"forward #", u64::from(commit))
 }
@@ -142,10 +155,31 @@ pub fn put_same(out: &mut Vec<u8>) -> Result<(), Memory>
     put_text(out, b"same\n")
 }
 
+/// A branch was dropped, at its last head: `dropped q at #1`.
+pub fn put_dropped_branch(out: &mut Vec<u8>, branch: &Name, head: u32) -> Result<(), Memory>
+    ensures ok { OnOk result (out.new.items ≡ out.old.items
+        ++ (dropped_text branch.now head ++ line_end)) }
+    ensures err { OnErr result (AppendsPart out.old.items out.new.items
+        (dropped_text branch.now head ++ line_end)) }
+{
+    let mut digits = Buffer::new();
+    put_pieces(
+        out,
+        &[
+            b"dropped ",
+            branch.as_bytes(),
+            b" at #",
+            digits.format(head).as_bytes(),
+            b"\n",
+        ],
+    )
+}
+
 // One of two words.
 fn put_either(out: &mut Vec<u8>, test: bool, yes: &[u8], no: &[u8]) -> Result<(), Memory>
     ensures ok { OnOk result (out.new.items ≡ out.old.items ++ (if test then yes.now else no.now)) }
-    ensures err { OnErr result (AppendsPart out.old.items out.new.items (if test then yes.now else no.now)) }
+    ensures err { OnErr result
+        (AppendsPart out.old.items out.new.items (if test then yes.now else no.now)) }
 {
     put_text(out, if test { yes } else { no })
 }
@@ -153,15 +187,18 @@ fn put_either(out: &mut Vec<u8>, test: bool, yes: &[u8], no: &[u8]) -> Result<()
 // A list of the item that there is, or of none.
 fn put_item(out: &mut Vec<u8>, item: &Option<Bytes>) -> Result<(), Memory>
     ensures ok { OnOk result (out.new.items ≡ out.old.items ++ items_text (at_most_one item.now)) }
-    ensures err { OnErr result (AppendsPart out.old.items out.new.items (items_text (at_most_one item.now))) }
+    ensures err { OnErr result
+        (AppendsPart out.old.items out.new.items (items_text (at_most_one item.now))) }
 {
     put_items(out, item.as_slice())
 }
 
 // A list of the entry that there is, or of none.
 fn put_first(out: &mut Vec<u8>, entry: &Option<Kept<Bytes>>) -> Result<(), Memory>
-    ensures ok { OnOk result (out.new.items ≡ out.old.items ++ entries_text (at_most_one entry.now)) }
-    ensures err { OnErr result (AppendsPart out.old.items out.new.items (entries_text (at_most_one entry.now))) }
+    ensures ok { OnOk result (out.new.items ≡ out.old.items ++ entries_text
+        (at_most_one entry.now)) }
+    ensures err { OnErr result
+        (AppendsPart out.old.items out.new.items (entries_text (at_most_one entry.now))) }
 {
     put_entries(out, entry.as_slice())
 }
@@ -191,8 +228,10 @@ fn put_answer_text(out: &mut Vec<u8>, answer: &PlainAnswer) -> Result<(), Memory
 /// The answer to a query: a number, `on` or `off`, `yes` or `no`, a list as `[2] u v`, or a list with times as
 /// `[2] 1.2 v 1.1 u`.
 pub fn put_answer(out: &mut Vec<u8>, answer: &PlainAnswer) -> Result<(), Memory>
-    ensures ok { OnOk result (out.new.items ≡ out.old.items ++ (answer_text answer.now ++ line_end)) }
-    ensures err { OnErr result (AppendsPart out.old.items out.new.items (answer_text answer.now ++ line_end)) }
+    ensures ok { OnOk result (out.new.items
+        ≡ out.old.items ++ (answer_text answer.now ++ line_end)) }
+    ensures err { OnErr result
+        (AppendsPart out.old.items out.new.items (answer_text answer.now ++ line_end)) }
 {
     put_answer_text(out, answer)?;
     put_text(out, b"\n")

@@ -3,7 +3,7 @@
 ghost use Rattle.std.specs.Prelude.{◌≡◌, ◌++◌, OnOk, OnErr};
 ghost use Rattle.mrdt_model.specs.Spelled.{AppendsPart};
 ghost use Rattle.branch_print.specs.Texts.{line_end};
-ghost use Rattle.branch_print.specs.Reports.{branch_text, totals_text, ready_text, not_empty_text, no_store_text, bad_record_text, bad_object_text, bad_commit_text, part_text, truncated_text};
+ghost use Rattle.branch_print.specs.Reports.{branch_text, totals_text, ready_text, not_empty_text, upgraded_text, no_store_text, old_version_text, bad_record_text, bad_object_text, bad_commit_text, part_text, truncated_text, no_upgrade_text};
 
 use crate::pieces::{put_count, put_pieces, put_text};
 use branch_disk::Part;
@@ -13,8 +13,10 @@ use mrdt_model::Memory;
 
 /// A branch and its head: `branch main #4`.
 pub fn put_branch(out: &mut Vec<u8>, name: &Name, head: u32) -> Result<(), Memory>
-    ensures ok { OnOk result (out.new.items ≡ out.old.items ++ (branch_text name.now head ++ line_end)) }
-    ensures err { OnErr result (AppendsPart out.old.items out.new.items (branch_text name.now head ++ line_end)) }
+    ensures ok { OnOk result (out.new.items
+        ≡ out.old.items ++ (branch_text name.now head ++ line_end)) }
+    ensures err { OnErr result
+        (AppendsPart out.old.items out.new.items (branch_text name.now head ++ line_end)) }
 {
     let mut digits = Buffer::new();
     put_pieces(
@@ -31,8 +33,10 @@ pub fn put_branch(out: &mut Vec<u8>, name: &Name, head: u32) -> Result<(), Memor
 
 /// How much a store holds: `moves 5 commits 5 branches 2`.
 pub fn put_totals(out: &mut Vec<u8>, moves: u64, commits: u32, branches: u32) -> Result<(), Memory>
-    ensures ok { OnOk result (out.new.items ≡ out.old.items ++ (totals_text moves commits branches ++ line_end)) }
-    ensures err { OnErr result (AppendsPart out.old.items out.new.items (totals_text moves commits branches ++ line_end)) }
+    ensures ok { OnOk result (out.new.items
+        ≡ out.old.items ++ (totals_text moves commits branches ++ line_end)) }
+    ensures err { OnErr result
+        (AppendsPart out.old.items out.new.items (totals_text moves commits branches ++ line_end)) }
 {
     let mut move_digits = Buffer::new();
     let mut commit_digits = Buffer::new();
@@ -67,12 +71,28 @@ pub fn put_not_empty(out: &mut Vec<u8>) -> Result<(), Memory>
     put_text(out, b"refused not empty\n")
 }
 
+/// A store of the old version, with so many moves, was made anew in the new one: `upgraded 1`.
+pub fn put_upgraded(out: &mut Vec<u8>, moves: u64) -> Result<(), Memory>
+    ensures ok { OnOk result (out.new.items ≡ out.old.items ++ upgraded_text moves) }
+    ensures err { OnErr result (AppendsPart out.old.items out.new.items (upgraded_text moves)) }
+{
+    put_count(out, b"upgraded ", moves)
+}
+
 /// The files are no store: `refused not a store`.
 pub fn put_no_store(out: &mut Vec<u8>) -> Result<(), Memory>
     ensures ok { OnOk result (out.new.items ≡ out.old.items ++ no_store_text) }
     ensures err { OnErr result (AppendsPart out.old.items out.new.items no_store_text) }
 {
     put_text(out, b"refused not a store\n")
+}
+
+/// The files are a store of the old version: `refused old version`.
+pub fn put_old_version(out: &mut Vec<u8>) -> Result<(), Memory>
+    ensures ok { OnOk result (out.new.items ≡ out.old.items ++ old_version_text) }
+    ensures err { OnErr result (AppendsPart out.old.items out.new.items old_version_text) }
+{
+    put_text(out, b"refused old version\n")
 }
 
 /// The record of this number, from 1, may not come where it stands: `refused record 1`.
@@ -112,7 +132,8 @@ fn part_word(part: Part) -> &'static [u8]
 /// The part ends too soon, at this place: `refused truncated heads 64`.
 pub fn put_truncated(out: &mut Vec<u8>, part: Part, place: u64) -> Result<(), Memory>
     ensures ok { OnOk result (out.new.items ≡ out.old.items ++ truncated_text part place) }
-    ensures err { OnErr result (AppendsPart out.old.items out.new.items (truncated_text part place)) }
+    ensures err { OnErr result
+        (AppendsPart out.old.items out.new.items (truncated_text part place)) }
 {
     let mut digits = Buffer::new();
     put_pieces(
@@ -125,4 +146,12 @@ pub fn put_truncated(out: &mut Vec<u8>, part: Part, place: u64) -> Result<(), Me
             b"\n",
         ],
     )
+}
+
+/// In the new version the move that made the commit of this number is refused: `refused upgrade 1`.
+pub fn put_no_upgrade(out: &mut Vec<u8>, number: u32) -> Result<(), Memory>
+    ensures ok { OnOk result (out.new.items ≡ out.old.items ++ no_upgrade_text number) }
+    ensures err { OnErr result (AppendsPart out.old.items out.new.items (no_upgrade_text number)) }
+{
+    put_count(out, b"refused upgrade ", u64::from(number))
 }

@@ -89,7 +89,8 @@ impl Summary {
     pub fn count(&mut self, reply: &[u8])
         requires few { self.old.lines < 2 ^ 64 - 1 }
         requires within { AreWithin self.old }
-        ensures counted { (replies : List (List ℕ)) → self.old ≡ summary_of replies → self.new ≡ summary_of (replies ++ reply.now ∷ []) }
+        ensures counted { (replies : List (List ℕ)) → self.old ≡ summary_of replies
+            → self.new ≡ summary_of (replies ++ reply.now ∷ []) }
         ensures within { AreWithin self.new }
         ensures lines { self.new.lines ≡ self.old.lines + 1 }
     {
@@ -109,8 +110,10 @@ impl Summary {
 
 /// What came of a run: `lines 8 landed 1 merged 0 forward 0 same 0 stale 0 forked 3 looked 4 errors 0`.
 pub fn put_summary(out: &mut Vec<u8>, summary: &Summary) -> Result<(), Memory>
-    ensures ok { OnOk result (out.new.items ≡ out.old.items ++ (summary_text summary.now ++ line_end)) }
-    ensures err { OnErr result (AppendsPart out.old.items out.new.items (summary_text summary.now ++ line_end)) }
+    ensures ok { OnOk result (out.new.items
+        ≡ out.old.items ++ (summary_text summary.now ++ line_end)) }
+    ensures err { OnErr result
+        (AppendsPart out.old.items out.new.items (summary_text summary.now ++ line_end)) }
 {
     let mut lines_digits = Buffer::new();
     let mut landed_digits = Buffer::new();

@@ -6,7 +6,7 @@ use Rattle.branch_doc.specs.declared.plain.PlainOp.{PlainOp}
 use Rattle.branch_doc.specs.declared.plain.PlainQuery.TheVariants.{Keys}
 use Rattle.branch_names.specs.Names.{is_name}
 use Rattle.branch_script.specs.declared.step.Step.{Step}
-use Rattle.branch_script.specs.declared.step.Step.TheVariants.{Look, Fork, Merge, Join, Do, Ask}
+use Rattle.branch_script.specs.declared.step.Step.TheVariants.{Look, Fork, Merge, Join, Drop, Do, Ask}
 use Rattle.branch_script.specs.declared.step.LineRefused.{LineRefused}
 use Rattle.branch_script.specs.declared.step.LineRefused.TheVariants.{Syntax, BadName, Memory}
 use Rattle.branch_script.specs.Lines.{words_of, is_silent, is_plain}
@@ -29,6 +29,10 @@ named word step = if is_name word then step else Err BadName
 abbrev pub do_step : List ℕ → Result PlainOp LineRefused → Result Step LineRefused
 do_step session (Err refusal) = Err refusal
 do_step session (Ok op) = Ok (Do session op)
+
+-- `drop SESSION`
+abbrev pub two_words : List ℕ → List ℕ → Result Step LineRefused
+two_words verb session = if is (codes "drop") verb then named session (Ok (Drop session)) else Err Syntax
 
 -- `look SESSION BRANCH`, `fork NEW BRANCH`, `merge SESSION BRANCH`
 abbrev pub three_words : List ℕ → List ℕ → List ℕ → Result Step LineRefused
@@ -74,8 +78,9 @@ six_words verb name kind key last word =
     else if is (codes "ask") verb then fits (kind_named kind) (λ kind. ask_with_word name kind key last word)
     else Err Syntax
 
--- the step of three to six words that are no join
+-- the step of two to six words that are no join
 abbrev pub other_words : List (List ℕ) → Result Step LineRefused
+other_words (a ∷ b ∷ []) = two_words a b
 other_words (a ∷ b ∷ c ∷ []) = three_words a b c
 other_words (a ∷ b ∷ c ∷ d ∷ []) = four_words a b c d
 other_words (a ∷ b ∷ c ∷ d ∷ e ∷ []) = five_words a b c d e

@@ -1,6 +1,6 @@
 // The forms of a line.
 ghost use Rattle.std.specs.Prelude.{◌≡◌, ◌≤◌, map, length, Ok, IfOk, IfErr};
-ghost use Rattle.branch_script.specs.Script.{three_words, four_words, do_at_key, ask_at_key, do_with_word, ask_with_word, five_words, six_words, other_words, is_join, join_words, words_step, step_of, IsRefusedAs, IsLineRefusedAs};
+ghost use Rattle.branch_script.specs.Script.{two_words, three_words, four_words, do_at_key, ask_at_key, do_with_word, ask_with_word, five_words, six_words, other_words, is_join, join_words, words_step, step_of, IsRefusedAs, IsLineRefusedAs};
 
 use crate::branches::Branches;
 use crate::step::{LineRefused, Step};
@@ -12,6 +12,18 @@ use branch_doc::{Kind, PlainQuery};
 use branch_names::Name;
 use mrdt_model::Bytes;
 use std::alloc::Global;
+
+// `drop SESSION`.
+fn two_words(verb: &[u8], session: &[u8]) -> Result<Step, LineRefused>
+    ensures { result ≡ two_words verb.now session.now }
+{
+    if verb != b"drop".as_slice() {
+        return Err(LineRefused::Syntax);
+    }
+    Ok(Step::Drop {
+        session: Name::read(session)?,
+    })
+}
 
 // `look SESSION BRANCH`, `fork NEW BRANCH` or `merge SESSION BRANCH`.
 fn three_words(verb: &[u8], first: &[u8], second: &[u8]) -> Result<Step, LineRefused>
@@ -97,8 +109,10 @@ fn do_with_word(
     operation: &[u8],
     word: &[u8],
 ) -> Result<Step, LineRefused>
-    ensures ok { IfOk result (λ step. do_with_word session.now kind key.now operation.now word.now ≡ Ok step) }
-    ensures err { IfErr result (IsRefusedAs (do_with_word session.now kind key.now operation.now word.now)) }
+    ensures ok { IfOk result (λ step. do_with_word session.now kind key.now operation.now word.now
+        ≡ Ok step) }
+    ensures err { IfErr result
+        (IsRefusedAs (do_with_word session.now kind key.now operation.now word.now)) }
 {
     let key = Bytes::from_slice(alloc, key)?;
     let word = Bytes::from_slice(alloc, word)?;
@@ -118,8 +132,10 @@ fn ask_with_word(
     query: &[u8],
     word: &[u8],
 ) -> Result<Step, LineRefused>
-    ensures ok { IfOk result (λ step. ask_with_word branch.now kind key.now query.now word.now ≡ Ok step) }
-    ensures err { IfErr result (IsRefusedAs (ask_with_word branch.now kind key.now query.now word.now)) }
+    ensures ok { IfOk result (λ step. ask_with_word branch.now kind key.now query.now word.now
+        ≡ Ok step) }
+    ensures err { IfErr result
+        (IsRefusedAs (ask_with_word branch.now kind key.now query.now word.now)) }
 {
     let key = Bytes::from_slice(alloc, key)?;
     let word = Bytes::from_slice(alloc, word)?;
@@ -139,8 +155,10 @@ fn five_words(
     key: &[u8],
     last: &[u8],
 ) -> Result<Step, LineRefused>
-    ensures ok { IfOk result (λ step. five_words verb.now name.now kind.now key.now last.now ≡ Ok step) }
-    ensures err { IfErr result (IsRefusedAs (five_words verb.now name.now kind.now key.now last.now)) }
+    ensures ok { IfOk result (λ step. five_words verb.now name.now kind.now key.now last.now
+        ≡ Ok step) }
+    ensures err { IfErr result
+        (IsRefusedAs (five_words verb.now name.now kind.now key.now last.now)) }
 {
     match (verb, kind_named(kind)) {
         (b"do", Some(kind)) => do_at_key(alloc, name, kind, key, last),
@@ -159,8 +177,10 @@ fn six_words(
     last: &[u8],
     word: &[u8],
 ) -> Result<Step, LineRefused>
-    ensures ok { IfOk result (λ step. six_words verb.now name.now kind.now key.now last.now word.now ≡ Ok step) }
-    ensures err { IfErr result (IsRefusedAs (six_words verb.now name.now kind.now key.now last.now word.now)) }
+    ensures ok { IfOk result (λ step. six_words verb.now name.now kind.now key.now last.now word.now
+        ≡ Ok step) }
+    ensures err { IfErr result
+        (IsRefusedAs (six_words verb.now name.now kind.now key.now last.now word.now)) }
 {
     match (verb, kind_named(kind)) {
         (b"do", Some(kind)) => do_with_word(alloc, name, kind, key, last, word),
@@ -169,12 +189,13 @@ fn six_words(
     }
 }
 
-// The step of three to six words that are no join.
+// The step of two to six words that are no join.
 fn other_words(alloc: Global, words: &[&[u8]]) -> Result<Step, LineRefused>
     ensures ok { IfOk result (λ step. other_words (map (λ word. word.now) words.now) ≡ Ok step) }
     ensures err { IfErr result (IsRefusedAs (other_words (map (λ word. word.now) words.now))) }
 {
     match words {
+        [verb, session] => two_words(verb, session),
         [verb, first, second] => three_words(verb, first, second),
         [verb, branch, kind, query] => four_words(verb, branch, kind, query),
         [verb, name, kind, key, last] => five_words(alloc, verb, name, kind, key, last),
@@ -196,8 +217,10 @@ fn is_join(verb: &[u8], branches: &[&[u8]]) -> bool
 fn join_words(alloc: Global, session: &[u8], branches: &[&[u8]]) -> Result<Step, LineRefused>
     requires some { 2 ≤ length branches.now }
     requires few { length branches.now ≤ 8 }
-    ensures ok { IfOk result (λ step. join_words session.now (map (λ word. word.now) branches.now) ≡ Ok step) }
-    ensures err { IfErr result (IsRefusedAs (join_words session.now (map (λ word. word.now) branches.now))) }
+    ensures ok { IfOk result (λ step. join_words session.now (map (λ word. word.now) branches.now)
+        ≡ Ok step) }
+    ensures err { IfErr result
+        (IsRefusedAs (join_words session.now (map (λ word. word.now) branches.now))) }
 {
     let session = Name::read(session)?;
     let mut names = Vec::new(alloc);

@@ -17,6 +17,8 @@ pub enum Step {
     Merge { session: Name, branch: Name },
     /// The heads of two to eight branches are merged at once into the branch that a session sees.
     Join { session: Name, branches: Branches },
+    /// The branch that a session sees is dropped.
+    Drop { session: Name },
     /// A session lands an operation on the branch that it sees.
     Do { session: Name, op: PlainOp },
     /// A branch is asked at its head.

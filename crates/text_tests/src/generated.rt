@@ -45,6 +45,7 @@ fn said(step: &Step) -> (&[u8], &[u8], &[u8], &[u8], i64) {
             _ => (b"", b"", b"", b"", 0),
         },
         Step::Join { session, .. } => (b"join", session.as_bytes(), b"", b"", 0),
+        Step::Drop { session } => (b"drop", session.as_bytes(), b"", b"", 0),
         Step::Ask { .. } => (b"", b"", b"", b"", 0),
     }
 }

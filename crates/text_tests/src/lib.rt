@@ -7,6 +7,8 @@ mod copies;
 #[cfg(test)]
 mod document;
 #[cfg(test)]
+mod drops;
+#[cfg(test)]
 mod generated;
 #[cfg(test)]
 mod help;

@@ -1,13 +1,20 @@
-// The texts of replies, one of each verb.
+// The texts of replies, one of each verb, and of an upgrade.
 use branch_doc::{PlainAnswer, PlainReply};
 use branch_names::Name;
-use branch_print::refusals::put_collision;
-use branch_print::replies::{put_answer, put_forked, put_joined, put_landed, put_merged, put_sees};
+use branch_print::refusals::{put_collision, put_dropped, put_keeps_main};
+use branch_print::replies::{
+    put_answer, put_dropped_branch, put_forked, put_joined, put_landed, put_merged, put_sees,
+};
+use branch_print::reports::{put_no_upgrade, put_old_version, put_upgraded};
 use mrdt_model::Time;
 use std::test::Fail;
 
 const TEXT: &[u8] =
     b"main sees main at #0\nforked main as 1 at #0\nlanded #4 at 3.1\nmerged #3\njoined #4\n-4\nerror collision 0000000000000000000000000000000000000000000000000000000000000a81\n";
+
+const DROPS: &[u8] = b"dropped main at #1\nerror dropped 1\nerror keeps main\n";
+
+const UPGRADES: &[u8] = b"upgraded 1\nrefused old version\nrefused upgrade 1\n";
 
 #[test]
 fn a_reply_of_each_verb(rt: HostRuntime) -> Result<(), Fail> {
@@ -28,5 +35,25 @@ fn a_reply_of_each_verb(rt: HostRuntime) -> Result<(), Fail> {
     put_answer(&mut out, &PlainAnswer::CounterValue(-4))?;
     put_collision(&mut out, &address)?;
     assert!(rt; out.as_slice() == TEXT);
+    Ok(())
+}
+
+#[test]
+fn what_a_drop_is_told(rt: HostRuntime) -> Result<(), Fail> {
+    let mut out = Vec::new(rt.alloc());
+    put_dropped_branch(&mut out, &Name::main(), 1)?;
+    put_dropped(&mut out, 1)?;
+    put_keeps_main(&mut out)?;
+    assert!(rt; out.as_slice() == DROPS);
+    Ok(())
+}
+
+#[test]
+fn what_an_upgrade_is_told(rt: HostRuntime) -> Result<(), Fail> {
+    let mut out = Vec::new(rt.alloc());
+    put_upgraded(&mut out, 1)?;
+    put_old_version(&mut out)?;
+    put_no_upgrade(&mut out, 1)?;
+    assert!(rt; out.as_slice() == UPGRADES);
     Ok(())
 }

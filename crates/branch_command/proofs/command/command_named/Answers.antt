@@ -5,7 +5,7 @@ use Rattle.clap.specs.Walk.{Text, rows_of}
 use Rattle.clap.specs.Faults.{fault_of}
 use Rattle.clap.proofs.WalkLemmas.{first_value-rows}
 use Rattle.branch_command.specs.Work.{Work, Clients as ClientsGiven}
-use Rattle.branch_command.specs.Commands.{Init, Generate, Clients, asked_by, help_words, said_by}
+use Rattle.branch_command.specs.Commands.{Init, Script, Check, Generate, Clients, Upgrade, asked_by, help_words, said_by}
 use Rattle.branch_command.specs.Program.{program}
 use Rattle.branch_command.proofs.Heard.{as_said}
 use Rattle.branch_command.proofs.command.command_named.Goals as goal
@@ -16,6 +16,21 @@ returns-in-Some c =
     let found = c.in-Some.ensures.some in
     let is : said_by c.args.name.now rows ≡ Some (Init found.0) = ap (λ (n : Text). said_by n rows) c.in-init.is ∙ ap (option_map Init) found.1 in
     ((Init found.0, is, found.2), λ u. cc)
+
+pub returns-in-script : goal.returns-in-script
+returns-in-script c =
+    let rows = rows_of (found_of c.args.given.now) in
+    ((Script, ap (λ (n : Text). said_by n rows) c.in-script.is, tt), λ u. cc)
+
+pub returns-in-check : goal.returns-in-check
+returns-in-check c =
+    let rows = rows_of (found_of c.args.given.now) in
+    ((Check, ap (λ (n : Text). said_by n rows) c.in-check.is, tt), λ u. cc)
+
+pub returns-in-upgrade : goal.returns-in-upgrade
+returns-in-upgrade c =
+    let rows = rows_of (found_of c.args.given.now) in
+    ((Upgrade, ap (λ (n : Text). said_by n rows) c.in-upgrade.is, tt), λ u. cc)
 
 pub returns-in-Some-read_work : goal.returns-in-Some-read_work
 returns-in-Some-read_work c =

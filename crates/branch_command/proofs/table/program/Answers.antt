@@ -22,4 +22,5 @@ returns c =
     let check = with_leaf _ _ _ _ _ script c.in_ok-subcommand-3.ensures c.in_ok-check.ensures.0 c.in_ok-check.ensures.1 in
     let generate = with_leaf _ _ _ _ _ check c.in_ok-subcommand-4.ensures c.in_ok-generate.ensures.0 c.in_ok-generate.ensures.1 in
     let clients = with_leaf _ _ _ _ _ generate c.in_ok-subcommand-5.ensures c.in_ok-clients.ensures.0 c.in_ok-clients.ensures.1 in
-    IfOk-weaker c.subcommand-6.result _ _ (λ r adds. with_leaf _ _ _ _ _ clients adds c.in_ok-help.ensures.0 c.in_ok-help.ensures.1) c.subcommand-6.ensures
+    let upgrade = with_leaf _ _ _ _ _ clients c.in_ok-subcommand-6.ensures c.in_ok-upgrade.ensures.0 c.in_ok-upgrade.ensures.1 in
+    IfOk-weaker c.subcommand-7.result _ _ (λ r adds. with_leaf _ _ _ _ _ upgrade adds c.in_ok-help.ensures.0 c.in_ok-help.ensures.1) c.subcommand-7.ensures
