@@ -14,7 +14,7 @@ use Rattle.branch_engine.specs.declared.refused.TellRefused.{TellRefused}
 use Rattle.branch_engine.specs.declared.refused.TellRefused.TheVariants as refusal
 use Rattle.branch_engine.specs.Play.{Play, Told}
 use Rattle.branch_engine.specs.Readings.{doc_fixed, ReadAsEither}
-use Rattle.branch_engine.specs.Engines.{Store, EngineView, IsAt, KeepsLooks, Moves, Telling, Replies, StandsEitherWay, BreaksOff, LeavesEither, Does}
+use Rattle.branch_engine.specs.Engines.{Store, EngineView, IsAt, KeepsLooks, Moves, Telling, Replies, StandsEitherWay, BreaksOff, LeavesEither, Does, Writes}
 
 -- what a disk says of its images and its faults
 pub record Members (D : Type 0) : Type 1 where
@@ -31,6 +31,12 @@ members may_leave moment left_since faults only_now = record { may_leave = may_l
 pub short-of : (r : Result (Unit {0}) TellRefused) → IsErrAnd r (λ e. e ≡ refusal.Memory) → r ≡ Err refusal.Memory
 short-of (Ok done) never = absurd never
 short-of (Err e) is = ap Err is
+
+-- what a call wrote that answers so
+pub writes-as : (out out' words : List ℕ) (w : Result (Unit {0}) Memory) (r : Result (Unit {0}) TellRefused) → OnOk w (r ≡ Ok tt) → OnErr w (r ≡ Err refusal.Memory)
+    → OnOk w (out' ≡ out ++ words) → OnErr w (AppendsPart out out' words) → Writes words out out' r
+writes-as out out' words (Ok done) r through short ok err = subst (Writes words out out') (sym through) (ok, tt)
+writes-as out out' words (Err memory) r through short ok err = subst (Writes words out out') (sym short) (tt, (refl, err))
 
 module _ {D : Type 0} (m : Members D) (address : List ℕ → List ℕ) where
   abbrev Is : Terms → EngineView D → Play → Type 0
@@ -134,6 +140,19 @@ module _ {D : Type 0} (m : Members D) (address : List ℕ → List ℕ) where
   stays_so told old new out out' words w r through short worked same it ok err =
       subst (λ (v : EngineView D). DoesSo told old v out out' r) (sym same)
       (ends_so told old old out out' words w r through short (works-still told old old worked refl) it (λ terms p at. (inl at, (it terms p at).1)) ok err)
+
+  -- the words were written, or a first part of them, as what was written says
+  pub writes_so : (told : Telling) (old new : EngineView D) (out out' words : List ℕ) (r : Result (Unit {0}) TellRefused) → Works told old new → IsTold told old new words → IsHalfTold told old new words
+      → Writes words out out' r → DoesSo told old new out out' r
+  writes_so told old new out out' words (Ok done) works it half wrote = all_written told old new out out' words (Ok done) refl works it wrote.0
+  writes_so told old new out out' words (Err e) works it half wrote = part_written told old new out out' words (Err e) (ap Err wrote.1.0) works half wrote.1.1
+
+  -- and nothing moved
+  pub writes_still : (told : Telling) (old new : EngineView D) (out out' words : List ℕ) (r : Result (Unit {0}) TellRefused) → old.core.failed ≡ false → new ≡ old → IsTold told old old words
+      → Writes words out out' r → DoesSo told old new out out' r
+  writes_still told old new out out' words r worked same it wrote =
+      subst (λ (v : EngineView D). DoesSo told old v out out' r) (sym same)
+      (writes_so told old old out out' words r (works-still told old old worked refl) it (λ terms p at. (inl at, (it terms p at).1)) wrote)
 
   -- all words were written, and then a session came to see something or, for want of memory, sees what it saw
   pub sees_so : (told : Telling) (old new : EngineView D) (out out' words : List ℕ) (w : Result (Unit {0}) Memory) (r : Result (Unit {0}) TellRefused) → OnOk w (r ≡ Ok tt) → OnErr w (r ≡ Err refusal.Memory)

@@ -6,3 +6,4 @@ pub mod Does
 pub mod Replies
 pub mod Merges
 pub mod Joins
+pub mod Drops

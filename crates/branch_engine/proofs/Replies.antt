@@ -13,7 +13,7 @@ use Rattle.branch_history.specs.Machine.{turn, answers, makes}
 use Rattle.branch_machine.specs.Machine.{commit_here, full_turn}
 use Rattle.branch_machine.specs.Validity.{IsFullyValid}
 use Rattle.branch_files.specs.Laws.{ReadsWhatStands}
-use Rattle.branch_script.specs.declared.step.Step.TheVariants.{Look, Fork, Merge, Join, Do, Ask}
+use Rattle.branch_script.specs.declared.step.Step.TheVariants.{Look, Fork, Merge, Join, Drop, Do, Ask}
 use Rattle.branch_print.specs.Texts.{refusal_text, outcome_text, sees_text, forked_text, answer_text, unseen_text, line_end}
 use Rattle.branch_doc.specs.declared.plain.PlainOp.{PlainOp}
 use Rattle.branch_doc.specs.declared.plain.PlainQuery.{PlainQuery}
@@ -35,7 +35,7 @@ use Rattle.branch_engine.proofs.Machines.{full-answers}
 use Rattle.branch_engine.proofs.Played.{IsWhole, turn-at, at-more, at-still, at-put, at-kept}
 use Rattle.branch_engine.proofs.Landings.{text-of_kind}
 use Rattle.branch_engine.proofs.Joins.{LooksAlike, heads-are, heads-unknown}
-use Rattle.branch_engine.proofs.Turned.{told-look, told-fork, told-unseen, told-do, told-unmerged, told-merge, told-merge_unknown, told-unjoined, told-join, told-join_unknown, told-ask, told-ask_refused}
+use Rattle.branch_engine.proofs.Turned.{told-look, told-fork, told-unseen, told-do, told-unmerged, told-merge, told-merge_unknown, told-unjoined, told-join, told-join_unknown, told-undropped, told-drop, told-ask, told-ask_refused}
 use Rattle.branch_engine.proofs.Does.{Members, IsTold, IsHalfTold, told-by, Works}
 
 -- the turn of a fork
@@ -59,6 +59,9 @@ merge_telling session from fixed p = step_told fixed p (Merge session from)
 
 abbrev pub join_telling : List ℕ → List (List ℕ) → Telling
 join_telling session from fixed p = step_told fixed p (Join session from)
+
+abbrev pub drop_telling : List ℕ → Telling
+drop_telling session fixed p = step_told fixed p (Drop session)
 
 abbrev pub turn_telling : List ℕ → ℕ → machine.Step DocOp DocQuery → Telling
 turn_telling session number step fixed p = turn_told fixed p session number step
@@ -220,6 +223,11 @@ module _ {D : Type 0} (m : Members D) (address : List ℕ → List ℕ) (old : E
       told-by m address terms old (step_told (doc_fixed address terms) p (Join session from)) _ (unseen_text session ++ line_end)
       (told-unjoined (doc_fixed address terms) p session from (sym (at.sights session) ∙ ap (option_map sight_of) none)) at refl
 
+  pub undropped : (session : List ℕ) → session_named old.sessions session ≡ None → IsTold m address (drop_telling session) old old (unseen_text session ++ line_end)
+  undropped session none terms p at =
+      told-by m address terms old (step_told (doc_fixed address terms) p (Drop session)) _ (unseen_text session ++ line_end)
+      (told-undropped (doc_fixed address terms) p session (sym (at.sights session) ∙ ap (option_map sight_of) none)) at refl
+
   -- what the core answers to looks is told over the play
   looks_alike : (terms : Terms) (p : Play) → Is terms old p → LooksAlike (doc_fixed address terms) p (held old.core)
   looks_alike terms p at name outcome is =
@@ -279,6 +287,37 @@ module _ {D : Type 0} (m : Members D) (address : List ℕ → List ℕ) (old : E
         subst (λ (h : History). Is terms new (record { moves = h; sessions = p.sessions })) (sym (ap (λ (t : Told). t.after.moves) is)) kept_at in
         (inr at_it, ap (λ (t : Told). t.text) is ∙ ap (λ (words : List ℕ). words ++ line_end) (sym (text-of_kind session name k)))
 
+  -- a move after which each session sees what it saw
+  module _ (session : List ℕ) (number : ℕ) (step : machine.Step DocOp DocQuery) (core : Store D) (made : Move DocOp DocReply) (outcome : machine.Outcome DocAnswer DocReply) (moves : ℕ)
+      (does : Moves (doc_fixed address old.core.terms) old.core core step made outcome moves) (whole : IsWhole m.may_leave address core) (none : sight_after number outcome ≡ None) where
+    moved_told : (terms : Terms) (p : Play) → Is terms old p
+        → turn_told (doc_fixed address terms) p session number step ≡ told p session number (name_of (store_of terms.origin p.moves).branches number) (makes {A = DocAnswer} made outcome)
+    moved_told terms p at = ap (told p session number (name_of (store_of terms.origin p.moves).branches number)) (at-play terms p at step (makes {A = DocAnswer} made outcome) does.turn_is)
+
+    moved_at : (terms : Terms) (p : Play) → Is terms old p → Is terms (view_of core old.sessions) (record { moves = p.moves ++ made ∷ []; sessions = p.sessions })
+    moved_at terms p at = at-more m.may_leave address terms old p at (view_of core old.sessions) (made ∷ []) (ap (λ (c : Store D). c.terms) does.history) (ap (λ (c : Store D). c.history) does.history) (λ name. refl) whole
+
+    abbrev words_in : Terms → History → List ℕ
+    words_in terms history = outcome_text session (name_of (store_of terms.origin history).branches number) outcome ++ line_end
+
+    same_words : (terms : Terms) (p : Play) → Is terms old p → words_in terms p.moves ≡ words_in old.core.terms old.core.history
+    same_words terms p at = ap (words_in terms) (sym at.history) ∙ ap (λ (l : Terms). words_in l old.core.history) (sym at.terms_are)
+
+    pub moved : IsTold m address (turn_telling session number step) old (view_of core old.sessions) (words_in old.core.terms old.core.history)
+    moved terms p at =
+        let t = makes {A = DocAnswer} made outcome in
+        let new = view_of core old.sessions in
+        let after = subst (λ s. Is terms new (record { moves = p.moves ++ made ∷ []; sessions = with_sight p.sessions session s })) (sym none) (moved_at terms p at) in
+        told-by m address terms new (turn_told (doc_fixed address terms) p session number step) (told p session number (name_of (store_of terms.origin p.moves).branches number) t)
+        (words_in old.core.terms old.core.history) (moved_told terms p at) after (same_words terms p at)
+
+    pub moved_half : IsHalfTold m address (turn_telling session number step) old (view_of core old.sessions) (words_in old.core.terms old.core.history)
+    moved_half terms p at =
+        let is = moved_told terms p at in
+        let at_it : Is terms (view_of core old.sessions) (record { moves = (turn_told (doc_fixed address terms) p session number step).after.moves; sessions = p.sessions }) =
+        subst (λ (h : History). Is terms (view_of core old.sessions) (record { moves = h; sessions = p.sessions })) (sym (ap (λ (t : Told). t.after.moves) is)) (moved_at terms p at) in
+        (inr at_it, ap (λ (t : Told). t.text) is ∙ same_words terms p at)
+
   module _ (session : List ℕ) (seen : Seen) (found : session_named old.sessions session ≡ Some seen) where
     sight : (terms : Terms) (p : Play) → Is terms old p → seen_by p.sessions session ≡ Some (sight_of seen)
     sight terms p at = sym (at.sights session) ∙ ap (option_map sight_of) found
@@ -298,6 +337,11 @@ module _ {D : Type 0} (m : Members D) (address : List ℕ → List ℕ) (old : E
     merge_unknown from refusal looks terms p at =
         told-by m address terms old (step_told (doc_fixed address terms) p (Merge session from)) _ (refusal_text from refusal ++ line_end)
         (told-merge_unknown (doc_fixed address terms) p session from (sight_of seen) refusal (sight terms p at) (at-play terms p at (machine.Look from) (answers (machine.Refused refusal)) looks)) at refl
+
+    -- and so is a drop
+    pub drop_as : (terms : Terms) (p : Play) → Is terms old p
+        → step_told (doc_fixed address terms) p (Drop session) ≡ turn_told (doc_fixed address terms) p session seen.branch (machine.Drop seen.branch seen.head)
+    drop_as terms p at = told-drop (doc_fixed address terms) p session (sight_of seen) (sight terms p at)
 
     -- and so is a join of the heads of several
     pub join_as : (from : List (List ℕ)) (heads : List ℕ) → AreHeads document (held old.core) from heads

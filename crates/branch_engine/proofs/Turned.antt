@@ -4,13 +4,13 @@ use Rattle.std.specs.Prelude.{Ok, Err}
 use Rattle.branch_history.specs.Steps as machine
 use Rattle.branch_history.specs.Machine.{answers}
 use Rattle.branch_machine.specs.Machine.{full_turn}
-use Rattle.branch_script.specs.declared.step.Step.TheVariants.{Look, Fork, Merge, Join, Do, Ask}
+use Rattle.branch_script.specs.declared.step.Step.TheVariants.{Look, Fork, Merge, Join, Drop, Do, Ask}
 use Rattle.branch_print.specs.Texts.{outcome_text, unseen_text}
 use Rattle.branch_engine.specs.Sessions.{Sight, seen_by}
 use Rattle.branch_doc.specs.declared.plain.PlainOp.{PlainOp}
 use Rattle.branch_doc.specs.declared.plain.PlainQuery.{PlainQuery}
 use Rattle.branch_doc.specs.Forms.{DocOp, DocReply, DocAnswer, doc_op, doc_query}
-use Rattle.branch_engine.specs.Play.{DocFixed, Play, told, turn_told, says, do_told, head_merged_told, merge_told, heads_named, heads_joined_told, join_told, ask_told, step_told}
+use Rattle.branch_engine.specs.Play.{DocFixed, Play, told, turn_told, says, do_told, head_merged_told, merge_told, heads_named, heads_joined_told, join_told, drop_told, ask_told, step_told}
 
 module _ (fixed : DocFixed) (p : Play) where
   pub told-look : (session branch : List ℕ) (t : machine.Turn DocOp DocReply DocAnswer) → full_turn fixed p.moves (machine.Look branch) ≡ t → step_told fixed p (Look session branch) ≡ told p session 0 branch t
@@ -61,6 +61,15 @@ module _ (fixed : DocFixed) (p : Play) where
       → step_told fixed p (Join session from) ≡ turn_told fixed p session sight.branch (machine.Merge sight.branch sight.head heads)
   unfolding step_told
   told-join session from sight heads some are = ap (join_told fixed p session from) some ∙ ap (heads_joined_told fixed p session sight) are
+
+  pub told-undropped : (session : List ℕ) → seen_by p.sessions session ≡ None → step_told fixed p (Drop session) ≡ says p (unseen_text session)
+  unfolding step_told
+  told-undropped session none = ap (drop_told fixed p session) none
+
+  pub told-drop : (session : List ℕ) (sight : Sight) → seen_by p.sessions session ≡ Some sight
+      → step_told fixed p (Drop session) ≡ turn_told fixed p session sight.branch (machine.Drop sight.branch sight.head)
+  unfolding step_told
+  told-drop session sight some = ap (drop_told fixed p session) some
 
   pub told-ask : (branch : List ℕ) (query : PlainQuery) (number head : ℕ) (answer : DocAnswer) → full_turn fixed p.moves (machine.Look branch) ≡ answers (machine.Sees number head)
       → full_turn fixed p.moves (machine.Ask head (doc_query query)) ≡ answers (machine.Answered answer)

@@ -1,5 +1,5 @@
 -- The play of the machine that an engine stands for.
-use Rattle.std.specs.Prelude.{◌≡◌, ◌⊎◌, ℕ, true, false, List, [], ◌∷◌, ◌++◌, Some, Result, OnOk, IfErr, if◌then◌else◌}
+use Rattle.std.specs.Prelude.{◌≡◌, ◌⊎◌, ℕ, true, false, List, [], ◌∷◌, ◌++◌, Some, Result, Err, OnOk, IfErr, if◌then◌else◌}
 use Rattle.std.specs.declared.option.Option.{Option}
 use Rattle.std.specs.Option.{option_map}
 use Rattle.std.specs.Map.{lookup}
@@ -14,14 +14,17 @@ use Rattle.branch_names.specs.Heads.{head_of}
 use Rattle.branch_history.specs.History.{store_of}
 use Rattle.branch_history.specs.declared.moves.Move.{Move}
 use Rattle.branch_history.specs.Steps.{UnknownBranch}
+use Rattle.machine_answers.specs.Answers.{Answer, Made, Still, Refused, Fault, Failed, Short}
 use Rattle.store_seen.specs.Views.{CoreView, SeenView}
 use Rattle.store_seen.specs.declared.answers.Kind.{Kind}
 use Rattle.store_seen.specs.declared.answers.Kind.TheVariants as kind
 use Rattle.store_seen.specs.declared.answers.PairRefused.{PairRefused}
 use Rattle.store_seen.specs.declared.answers.PairRefused.TheVariants as pair_refusal
+use Rattle.store_core.specs.Answers.{drop_answer}
 use Rattle.store_core.specs.Views.{StoreView, held}
-use Rattle.branch_print.specs.Texts.{landed_text, merged_text, joined_text, forward_text, refusal_text, line_end}
-use Rattle.branch_doc.specs.Forms.{DocOp, DocReply, plain_reply}
+use Rattle.store_core.specs.declared.answers.DropRefused.{DropRefused}
+use Rattle.branch_print.specs.Texts.{landed_text, merged_text, joined_text, forward_text, outcome_text, refusal_text, line_end}
+use Rattle.branch_doc.specs.Forms.{DocOp, DocReply, DocAnswer, plain_reply}
 use Rattle.branch_engine.specs.Sessions.{Sight, seen_by}
 use Rattle.branch_engine.specs.Play.{DocFixed, History, Play, Told}
 use Rattle.branch_engine.specs.Readings.{doc_fixed, ReadAs, ReadAsEither}
@@ -138,3 +141,21 @@ kind_text (kind.Forward commit) = forward_text commit
 abbrev pub ungrouped_text : PairRefused → List ℕ
 ungrouped_text (pair_refusal.UnknownBranch name) = refusal_text [] (UnknownBranch name) ++ line_end
 ungrouped_text pair_refusal.Memory = []
+
+-- a call wrote these words or, for want of memory, a first part of them
+abbrev pub Writes : List ℕ → List ℕ → List ℕ → Result (Unit {0}) TellRefused → Type 0
+Writes words old_out new_out result =
+    OnOk result (new_out ≡ old_out ++ words) × IfErr result (λ e. (e ≡ Memory) × AppendsPart old_out new_out words)
+
+-- what the core answered to a drop of what was seen, as an answer to a step of the machine
+abbrev pub drop_answered : Seen → Result ℕ DropRefused → Answer DocAnswer DocReply
+drop_answered seen answer = drop_answer seen answer
+
+-- the reply to what was answered to a step on the branch of this name; of a fault or want of memory nothing is told
+abbrev pub RepliesAs : List ℕ → Answer DocAnswer DocReply → List ℕ → List ℕ → Result (Unit {0}) TellRefused → Type 0
+RepliesAs branch (Made outcome moves) old_out new_out result = Writes (outcome_text [] branch outcome ++ line_end) old_out new_out result
+RepliesAs branch (Still outcome) old_out new_out result = Writes (outcome_text [] branch outcome ++ line_end) old_out new_out result
+RepliesAs branch (Refused refusal) old_out new_out result = Writes (refusal_text branch refusal ++ line_end) old_out new_out result
+RepliesAs branch Fault old_out new_out result = (new_out ≡ old_out) × (result ≡ Err DiskFault)
+RepliesAs branch (Failed moves) old_out new_out result = (new_out ≡ old_out) × (result ≡ Err DiskFault)
+RepliesAs branch Short old_out new_out result = (new_out ≡ old_out) × (result ≡ Err Memory)

@@ -10,7 +10,7 @@ use Rattle.branch_history.specs.Steps as machine
 use Rattle.branch_machine.specs.Fixed.{Fixed}
 use Rattle.branch_machine.specs.Machine.{full_turn}
 use Rattle.branch_script.specs.declared.step.Step.{Step}
-use Rattle.branch_script.specs.declared.step.Step.TheVariants.{Look, Fork, Merge, Join, Do, Ask}
+use Rattle.branch_script.specs.declared.step.Step.TheVariants.{Look, Fork, Merge, Join, Drop, Do, Ask}
 use Rattle.branch_script.specs.declared.step.LineRefused.{LineRefused}
 use Rattle.branch_script.specs.Script.{step_of}
 use Rattle.branch_print.specs.Texts.{outcome_text, line_refusal_text, unseen_text, line_end}
@@ -101,6 +101,12 @@ join_told fixed p session from None = says p (unseen_text session)
 join_told fixed p session from (Some sight) =
     heads_joined_told fixed p session sight (heads_named fixed p from)
 
+-- a drop of the branch that a session sees, from the head that it sees, given what that is; it sees the same as before
+abbrev pub drop_told : DocFixed → Play → List ℕ → Option Sight → Told
+drop_told fixed p session None = says p (unseen_text session)
+drop_told fixed p session (Some sight) =
+    turn_told fixed p session sight.branch (machine.Drop sight.branch sight.head)
+
 -- a query at a branch, given the outcome of a look at it: it is asked at the head
 abbrev pub ask_told : DocFixed → Play → List ℕ → DocQuery → machine.Outcome DocAnswer DocReply → Told
 ask_told fixed p branch query (machine.Sees number head) = says p (outcome_text [] branch (full_turn fixed p.moves (machine.Ask head query)).outcome)
@@ -111,6 +117,7 @@ step_told fixed p (Look session branch) = told p session 0 branch (full_turn fix
 step_told fixed p (Fork new from) = told p [] 0 new (full_turn fixed p.moves (machine.Fork new from))
 step_told fixed p (Merge session from) = merge_told fixed p session from (seen_by p.sessions session)
 step_told fixed p (Join session from) = join_told fixed p session from (seen_by p.sessions session)
+step_told fixed p (Drop session) = drop_told fixed p session (seen_by p.sessions session)
 step_told fixed p (Do session op) = do_told fixed p session (doc_op op) (seen_by p.sessions session)
 step_told fixed p (Ask branch query) = ask_told fixed p branch (doc_query query) (full_turn fixed p.moves (machine.Look branch)).outcome
 

@@ -9,7 +9,8 @@ ghost use Rattle.store_core.specs.Views.{held};
 ghost use Rattle.branch_print.specs.Texts.{refusal_text, line_end};
 ghost use Rattle.mrdt_model.specs.Spelled.{AppendsPart};
 ghost use Rattle.branch_engine.specs.Readings.{doc_fixed};
-ghost use Rattle.branch_engine.specs.Engines.{IsAt, Does, Puts, KeepsLooks, SeesHead, kind_text, ungrouped_text};
+ghost use Rattle.store_core.specs.Answers.{had_failed};
+ghost use Rattle.branch_engine.specs.Engines.{IsAt, Does, Puts, KeepsLooks, SeesHead, kind_text, ungrouped_text, drop_answered, RepliesAs};
 ghost use Rattle.branch_engine.specs.Play.{begins, turn_told, step_told, line_told};
 ghost use Rattle.branch_script.specs.declared.step.Step.TheVariants as step;
 ghost use Rattle.store_seen.specs.declared.answers.PairRefused.TheVariants as pair_refusal;
@@ -22,10 +23,11 @@ use branch_files::laws::reads_what_stands;
 use branch_names::Name;
 use branch_print::refusals::{
     put_collision, put_dropped, put_exhausted, put_full_branches, put_full_commits, put_full_moves,
-    put_line_refusal, put_stale, put_taken, put_too_large, put_unknown, put_unseen,
+    put_keeps_main, put_line_refusal, put_stale, put_taken, put_too_large, put_unknown, put_unseen,
 };
 use branch_print::replies::{
-    put_answer, put_forked, put_forward, put_joined, put_landed, put_merged, put_same, put_sees,
+    put_answer, put_dropped_branch, put_forked, put_forward, put_joined, put_landed, put_merged,
+    put_same, put_sees,
 };
 use branch_script::{LineRefused, Step, read_line};
 use mrdt_doc::Doc;
@@ -34,8 +36,8 @@ use std::alloc::Global;
 use std::collections::BTreeMap;
 use std::marker::Model;
 use store_core::{
-    Core, ForkRefused, Kind, LandRefused, LookRefused, PairPrepareRefused, PairRefused, PairStep,
-    PrepareRefused, Prepared, Seen,
+    Core, DropRefused, ForkRefused, Kind, LandRefused, LookRefused, PairPrepareRefused,
+    PairRefused, PairStep, PrepareRefused, Prepared, Seen,
 };
 
 /// A core of documents on a disk, and what each session sees. Contracts see an `EngineView`: the core's view, and
@@ -76,7 +78,8 @@ fn set_session<S: Drop>(
 // What landed.
 fn put_kind(out: &mut Vec<u8>, kind: Kind<DocReply>) -> Result<(), Memory>
     ensures ok { OnOk result (out.new.items ≡ out.old.items ++ (kind_text kind ++ line_end)) }
-    ensures err { OnErr result (AppendsPart out.old.items out.new.items (kind_text kind ++ line_end)) }
+    ensures err { OnErr result
+        (AppendsPart out.old.items out.new.items (kind_text kind ++ line_end)) }
 {
     match kind {
         Kind::Operation {
@@ -94,11 +97,44 @@ fn put_kind(out: &mut Vec<u8>, kind: Kind<DocReply>) -> Result<(), Memory>
 fn put_ungrouped(out: &mut Vec<u8>, refused: PairRefused) -> Result<(), Memory>
     ensures ok { OnOk result (out.new.items ≡ out.old.items ++ ungrouped_text refused) }
     ensures err { OnErr result (AppendsPart out.old.items out.new.items (ungrouped_text refused)) }
-    ensures memory { refused ≡ pair_refusal.Memory → (out.new.items ≡ out.old.items) × IsErr result }
+    ensures memory { refused ≡ pair_refusal.Memory → (out.new.items ≡ out.old.items)
+        × IsErr result }
 {
     match refused {
         PairRefused::UnknownBranch { name } => put_unknown(out, &name),
         PairRefused::Memory => Err(Memory),
+    }
+}
+
+// The name of the branch of this number; of a dropped one the name that it had.
+fn name_at<D: Disk + Drop, A: Address>(core: &Core<Doc, D, A>, branch: u32) -> Name
+    requires { branch < length (store_of core.now.terms.origin core.now.history).branches }
+    ensures { result ≡ name_of (store_of core.now.terms.origin core.now.history).branches branch }
+{
+    let (name, _) = core.branch(branch).unwrap();
+    name
+}
+
+// Replies what the core answered to a drop of what was seen, on the branch with this name.
+fn put_drop(
+    out: &mut Vec<u8>,
+    name: &Name,
+    seen: &Seen<Doc>,
+    answer: Result<u64, DropRefused>,
+) -> Result<(), TellRefused>
+    requires { had_failed (drop_answered seen.now answer) ≡ false }
+    ensures { RepliesAs name.now (drop_answered seen.now answer) out.old.items out.new.items
+        result }
+{
+    match answer {
+        Ok(_) => replied(put_dropped_branch(out, name, seen.head())),
+        Err(DropRefused::Dropped { branch }) => replied(put_dropped(out, branch)),
+        Err(DropRefused::KeepsMain) => replied(put_keeps_main(out)),
+        Err(DropRefused::Stale { newest }) => replied(put_stale(out, name, newest)),
+        Err(DropRefused::FullMoves { count }) => replied(put_full_moves(out, count)),
+        Err(DropRefused::DiskFault) => Err(TellRefused::DiskFault),
+        Err(DropRefused::Failed { .. }) => unreachable!(),
+        Err(DropRefused::Memory) => Err(TellRefused::Memory),
     }
 }
 
@@ -114,7 +150,8 @@ impl<D: Disk + Drop, A: Address> Engine<D, A> {
     /// An engine over a core, of which no session has looked.
     pub fn new(alloc: Global, core: Core<Doc, D, A>) -> Engine<D, A>
         ensures core { result.core ≡ core }
-        ensures begins { core.failed ≡ false → IsAt D.may_leave (doc_fixed A.address core.terms) result (begins core.history) }
+        ensures begins { core.failed ≡ false
+            → IsAt D.may_leave (doc_fixed A.address core.terms) result (begins core.history) }
     {
         reads_what_stands::<Doc>();
         let _ = core.moves();
@@ -138,7 +175,8 @@ impl<D: Disk + Drop, A: Address> Engine<D, A> {
 
     // The session sees the head of the branch of this number, which was not dropped, from now on.
     fn sees_head(&mut self, session: &Name, branch: u32) -> Result<(), Memory>
-        requires { IsKeptBranch (store_of self.old.core.terms.origin self.old.core.history).branches branch }
+        requires { IsKeptBranch (store_of self.old.core.terms.origin self.old.core.history).branches
+            branch }
         ensures core { self.new.core ≡ self.old.core }
         ensures sees { OnOk result (SeesHead self.old self.new session.now branch) }
         ensures kept { OnErr result (KeepsLooks self.old.sessions self.new.sessions) }
@@ -154,7 +192,9 @@ impl<D: Disk + Drop, A: Address> Engine<D, A> {
     // A session looks at a branch.
     fn look(&mut self, out: &mut Vec<u8>, session: &Name, branch: &Name) -> Result<(), TellRefused>
         requires { self.old.core.failed ≡ false }
-        ensures { Does D.may_leave D.moment D.left_since D.faults A.address (λ fixed p. step_told fixed p (step.Look session.now branch.now)) self.old self.new out.old.items out.new.items result }
+        ensures { Does D.may_leave D.moment D.left_since D.faults A.address (λ fixed p.
+            step_told fixed p (step.Look session.now branch.now)) self.old self.new out.old.items
+            out.new.items result }
     {
         match self.core.look(branch) {
             Ok(seen) => {
@@ -169,7 +209,9 @@ impl<D: Disk + Drop, A: Address> Engine<D, A> {
     // A branch is forked from another.
     fn fork(&mut self, out: &mut Vec<u8>, new: &Name, from: &Name) -> Result<(), TellRefused>
         requires { self.old.core.failed ≡ false }
-        ensures { Does D.may_leave D.moment D.left_since D.faults A.address (λ fixed p. step_told fixed p (step.Fork new.now from.now)) self.old self.new out.old.items out.new.items result }
+        ensures { Does D.may_leave D.moment D.left_since D.faults A.address (λ fixed p.
+            step_told fixed p (step.Fork new.now from.now)) self.old self.new out.old.items
+            out.new.items result }
     {
         reads_what_stands::<Doc>();
         let _ = self.core.moves();
@@ -192,7 +234,9 @@ impl<D: Disk + Drop, A: Address> Engine<D, A> {
     // A query is asked at the head of a branch.
     fn ask(&self, out: &mut Vec<u8>, branch: &Name, query: PlainQuery) -> Result<(), TellRefused>
         requires { self.now.core.failed ≡ false }
-        ensures { Does D.may_leave D.moment D.left_since D.faults A.address (λ fixed p. step_told fixed p (step.Ask branch.now query)) self.now self.now out.old.items out.new.items result }
+        ensures { Does D.may_leave D.moment D.left_since D.faults A.address (λ fixed p.
+            step_told fixed p (step.Ask branch.now query)) self.now self.now out.old.items
+            out.new.items result }
     {
         let seen = match self.core.look(branch) {
             Ok(seen) => seen,
@@ -206,7 +250,9 @@ impl<D: Disk + Drop, A: Address> Engine<D, A> {
     // A session lands an operation on the branch that it sees.
     fn land(&mut self, out: &mut Vec<u8>, session: &Name, op: PlainOp) -> Result<(), TellRefused>
         requires { self.old.core.failed ≡ false }
-        ensures { Does D.may_leave D.moment D.left_since D.faults A.address (λ fixed p. step_told fixed p (step.Do session.now op)) self.old self.new out.old.items out.new.items result }
+        ensures { Does D.may_leave D.moment D.left_since D.faults A.address (λ fixed p.
+            step_told fixed p (step.Do session.now op)) self.old self.new out.old.items
+            out.new.items result }
     {
         let Some(seen) = self.sessions.get(session) else {
             return replied(put_unseen(out, session));
@@ -223,7 +269,9 @@ impl<D: Disk + Drop, A: Address> Engine<D, A> {
     // The head of a branch is merged into the branch that a session sees.
     fn merge(&mut self, out: &mut Vec<u8>, session: &Name, from: &Name) -> Result<(), TellRefused>
         requires { self.old.core.failed ≡ false }
-        ensures { Does D.may_leave D.moment D.left_since D.faults A.address (λ fixed p. step_told fixed p (step.Merge session.now from.now)) self.old self.new out.old.items out.new.items result }
+        ensures { Does D.may_leave D.moment D.left_since D.faults A.address (λ fixed p.
+            step_told fixed p (step.Merge session.now from.now)) self.old self.new out.old.items
+            out.new.items result }
     {
         let Some(seen) = self.sessions.get(session) else {
             return replied(put_unseen(out, session));
@@ -253,7 +301,9 @@ impl<D: Disk + Drop, A: Address> Engine<D, A> {
         requires working { self.old.core.failed ≡ false }
         requires some { 1 ≤ length from.now }
         requires few { length from.now ≤ 8 }
-        ensures { Does D.may_leave D.moment D.left_since D.faults A.address (λ fixed p. step_told fixed p (step.Join session.now from.now)) self.old self.new out.old.items out.new.items result }
+        ensures { Does D.may_leave D.moment D.left_since D.faults A.address (λ fixed p.
+            step_told fixed p (step.Join session.now from.now)) self.old self.new out.old.items
+            out.new.items result }
     {
         let Some(seen) = self.sessions.get(session) else {
             return replied(put_unseen(out, session));
@@ -277,6 +327,24 @@ impl<D: Disk + Drop, A: Address> Engine<D, A> {
         }
     }
 
+    // The branch that a session sees is dropped, from the head that it sees. The session goes on seeing it.
+    fn drop_seen(&mut self, out: &mut Vec<u8>, session: &Name) -> Result<(), TellRefused>
+        requires { self.old.core.failed ≡ false }
+        ensures { Does D.may_leave D.moment D.left_since D.faults A.address (λ fixed p.
+            step_told fixed p (step.Drop session.now)) self.old self.new out.old.items out.new.items
+            result }
+    {
+        reads_what_stands::<Doc>();
+        let _ = self.core.moves();
+        let Some(seen) = self.sessions.get(session) else {
+            return replied(put_unseen(out, session));
+        };
+        let name = name_at(&self.core, seen.branch());
+        let answer = self.core.drop_branch(seen);
+        let _ = self.core.moves();
+        put_drop(out, &name, seen, answer)
+    }
+
     // Lands what was prepared for a session on the branch of this number. The session then sees the new head.
     fn move_on(
         &mut self,
@@ -289,8 +357,11 @@ impl<D: Disk + Drop, A: Address> Engine<D, A> {
         requires history { IsPrefix prepared.seen.history self.old.core.history }
         requires terms { prepared.seen.terms ≡ self.old.core.terms }
         requires branch { prepared.seen.branch ≡ branch }
-        requires within { branch < length (store_of self.old.core.terms.origin self.old.core.history).branches }
-        ensures { Does D.may_leave D.moment D.left_since D.faults A.address (λ fixed p. turn_told fixed p session.now branch (step_of prepared.seen prepared.work)) self.old self.new out.old.items out.new.items result }
+        requires within { branch
+            < length (store_of self.old.core.terms.origin self.old.core.history).branches }
+        ensures { Does D.may_leave D.moment D.left_since D.faults A.address (λ fixed p.
+            turn_told fixed p session.now branch (step_of prepared.seen prepared.work)) self.old
+            self.new out.old.items out.new.items result }
     {
         reads_what_stands::<Doc>();
         let _ = self.core.moves();
@@ -313,9 +384,16 @@ impl<D: Disk + Drop, A: Address> Engine<D, A> {
 
     // What was prepared is stale: the branch's head is a newer one.
     fn stale(&self, out: &mut Vec<u8>, branch: u32, newest: u32) -> Result<(), Memory>
-        requires { branch < length (store_of self.now.core.terms.origin self.now.core.history).branches }
-        ensures ok { OnOk result (out.new.items ≡ out.old.items ++ (refusal_text (name_of (store_of self.now.core.terms.origin self.now.core.history).branches branch) (Stale newest) ++ line_end)) }
-        ensures err { OnErr result (AppendsPart out.old.items out.new.items (refusal_text (name_of (store_of self.now.core.terms.origin self.now.core.history).branches branch) (Stale newest) ++ line_end)) }
+        requires { branch
+            < length (store_of self.now.core.terms.origin self.now.core.history).branches }
+        ensures ok { OnOk result (out.new.items
+            ≡ out.old.items ++ (refusal_text
+            (name_of (store_of self.now.core.terms.origin self.now.core.history).branches branch)
+            (Stale newest) ++ line_end)) }
+        ensures err { OnErr result (AppendsPart out.old.items out.new.items
+            (refusal_text
+            (name_of (store_of self.now.core.terms.origin self.now.core.history).branches branch)
+            (Stale newest) ++ line_end)) }
     {
         let (name, _) = self.core.branch(branch).unwrap();
         put_stale(out, &name, newest)
@@ -324,13 +402,15 @@ impl<D: Disk + Drop, A: Address> Engine<D, A> {
     // Does a step, and writes its reply at the end.
     fn step(&mut self, out: &mut Vec<u8>, step: Step) -> Result<(), TellRefused>
         requires { self.old.core.failed ≡ false }
-        ensures { Does D.may_leave D.moment D.left_since D.faults A.address (λ fixed p. step_told fixed p step) self.old self.new out.old.items out.new.items result }
+        ensures { Does D.may_leave D.moment D.left_since D.faults A.address (λ fixed p.
+            step_told fixed p step) self.old self.new out.old.items out.new.items result }
     {
         match step {
             Step::Look { session, branch } => self.look(out, &session, &branch),
             Step::Fork { new, from } => self.fork(out, &new, &from),
             Step::Merge { session, branch } => self.merge(out, &session, &branch),
             Step::Join { session, branches } => self.join(out, &session, branches.as_slice()),
+            Step::Drop { session } => self.drop_seen(out, &session),
             Step::Do { session, op } => self.land(out, &session, op),
             Step::Ask { branch, query } => self.ask(out, &branch, query),
         }
@@ -342,7 +422,8 @@ impl<D: Disk + Drop, A: Address> Engine<D, A> {
     /// moves a head; then nothing was written, and the store has failed.
     pub fn tell(&mut self, out: &mut Vec<u8>, line: &[u8]) -> Result<(), TellRefused>
         requires { self.old.core.failed ≡ false }
-        ensures { Does D.may_leave D.moment D.left_since D.faults A.address (λ fixed p. line_told fixed p line.now) self.old self.new out.old.items out.new.items result }
+        ensures { Does D.may_leave D.moment D.left_since D.faults A.address (λ fixed p.
+            line_told fixed p line.now) self.old self.new out.old.items out.new.items result }
     {
         let refusal = match read_line(self.alloc, line) {
             Ok(None) => return Ok(()),

@@ -38,6 +38,12 @@ returns-in-Join g c =
     let Told = DoesStep m g.A.Address.address c.args.self.now c.join.new.self c.args.out.now.items c.join.new.out.items c.join.result in
     subst Told (sym c.in-Join.is) (subst (λ from. Told (step.Join session from)) c.as_slice.ensures.same c.join.ensures)
 
+pub returns-in-Drop : goal.returns-in-Drop
+returns-in-Drop g c =
+    let d = g.D.Disk in let laws = g.met.D.Disk in
+    let m = members d.may_leave d.moment d.left_since d.faults laws.only_now in
+    subst (DoesStep m g.A.Address.address c.args.self.now c.drop_seen.new.self c.args.out.now.items c.drop_seen.new.out.items c.drop_seen.result) (sym c.in-Drop.is) c.drop_seen.ensures
+
 pub returns-in-Do : goal.returns-in-Do
 returns-in-Do g c =
     let d = g.D.Disk in let laws = g.met.D.Disk in
