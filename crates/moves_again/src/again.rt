@@ -32,7 +32,8 @@ fn look_at<T: Mrdt, D: Disk + Drop, A: Address>(
     branch: u32,
 ) -> Result<Seen<T>, Memory>
     requires { IsKeptBranch (store_of core.now.terms.origin core.now.history).branches branch }
-    ensures { let head = head_of (store_of core.now.terms.origin core.now.history).branches branch in
+    ensures { let head = head_of (store_of core.now.terms.origin core.now.history).branches
+        branch in
         IfOk result (λ seen. seen ≡ at_head (held core.now) branch head) }
 {
     let (name, _) = core.branch(branch).unwrap();
@@ -132,7 +133,8 @@ fn merge_at<T: Mrdt, D: Disk + Drop, A: Address>(
     requires repeats { let fixed = fix T.meaning core.now.terms A.address in
         let head = head_of (store_of core.now.terms.origin core.now.history).branches branch in
         RepeatsSome fixed core.now.history (machine.Merge branch head (commit ∷ [])) }
-    ensures prepared { let head = head_of (store_of core.now.terms.origin core.now.history).branches branch in
+    ensures prepared { let head = head_of (store_of core.now.terms.origin core.now.history).branches
+        branch in
         IfOk result (λ made. (made.seen ≡ at_head (held core.now) branch head)
         × (step_made {Q = T.Query} made ≡ machine.Merge branch head (commit ∷ []))) }
     ensures refused { let fixed = fix T.meaning core.now.terms A.address in
@@ -267,7 +269,7 @@ pub fn make_again<T: Mrdt, D: Disk + Drop, A: Address>(
     terms: Terms,
     moves: Listing<Move<T::Op, T::Reply>>,
 ) -> Result<(u64, D), (MakeRefused, D)>
-    requires { RepeatsAll (fix T.meaning terms A.address) [] moves }
+    requires repeats { RepeatsAll (fix T.meaning terms A.address) [] moves }
     ensures made { let fixed = fix T.meaning terms A.address in
         IfOk result (λ r. AllMade fixed moves r.0 (D.may_leave r.1)) }
     ensures empty { OnOk result (ForSome (D.contents disk) IsEmpty) }

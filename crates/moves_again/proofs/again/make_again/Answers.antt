@@ -44,7 +44,7 @@ pub make_all-made-requires-clause-repeats : goal.make_all-made-requires-clause-r
 make_all-made-requires-clause-repeats g c κs within =
     let core = c.in-Ok.core in
     subst (λ ms. RepeatsAll (fix g.T.Mrdt.meaning core.terms g.A.Address.address) core.history ms) (sym c.into_vec.ensures)
-    (begun-repeats g.D.Disk g.T.Mrdt.meaning g.A.Address.address c.args.terms c.args.moves c.args.disk core core c.in-Ok.ensures.made c.requires)
+    (begun-repeats g.D.Disk g.T.Mrdt.meaning g.A.Address.address c.args.terms c.args.moves c.args.disk core core c.in-Ok.ensures.made c.requires.repeats)
 
 pub returns-clause-made : goal.returns-clause-made
 returns-clause-made g c =
