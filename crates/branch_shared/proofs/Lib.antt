@@ -1,4 +1,6 @@
 mod Accepted
 mod Behind
 mod Drops
+mod Dropping
+mod Naming
 pub mod Crosses

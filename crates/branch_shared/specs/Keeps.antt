@@ -1,5 +1,5 @@
 -- What lies behind a shared store, and what its type keeps.
-use Rattle.std.specs.Prelude.{◌≡◌, ℕ, ◌-◌, List, [], ◌++◌, length}
+use Rattle.std.specs.Prelude.{◌≡◌, ℕ, ◌-◌, Bool, false, List, [], ◌++◌, length}
 use Rattle.std.specs.List.{AllByRecursion}
 use Rattle.atomic_table.specs.Seated.{TableId}
 use Rattle.branch_names.specs.declared.terms.Terms.{Terms}
@@ -32,12 +32,12 @@ pub record DropsNone {O R : Type 0} (old new : List (Move O R)) : Type 0 where
   pub none : AllByRecursion IsNoDrop more
 
 -- under the lock lie the core that was named and the front's writer, which is idle and knows the core's history and how
--- often its disk has failed; no branch was dropped behind the history that it began with
-pub record IsKept {O R D : Type 0} (faults : D → ℕ) (table : TableId) (begun : List (Move O R)) (terms : Terms) (opened : ℕ) (core : StoreView (Move O R) D) (writer : View (Move O R)) : Type 0 where
+-- often its disk has failed; where the store drops no branches, none was dropped behind the history that it began with
+pub record IsKept {O R D : Type 0} (faults : D → ℕ) (table : TableId) (begun : List (Move O R)) (terms : Terms) (opened : ℕ) (drops : Bool) (core : StoreView (Move O R) D) (writer : View (Move O R)) : Type 0 where
   pub table_is : writer.table ≡ table
   pub history_is : core.history ≡ begun ++ writer.moves
   pub terms_are : core.terms ≡ terms
   pub opened_is : faults core.opened ≡ opened
   pub faults_are : writer.faults ≡ faults_since faults core
   pub idle : IsIdle writer
-  pub drops_none : AllByRecursion IsNoDrop writer.moves
+  pub drops_none : drops ≡ false → AllByRecursion IsNoDrop writer.moves

@@ -11,6 +11,7 @@ use Rattle.branch_history.specs.Steps.{Step, Outcome}
 use Rattle.branch_history.specs.Steps as machine
 use Rattle.branch_machine.specs.Fixed.{Fixed}
 use Rattle.branch_machine.specs.Machine.{full_turn}
+use Rattle.machine_answers.specs.Answers.{Answer, Made, Still, Refused, Fault, Failed, Short, Takes}
 use Rattle.recorded_history.specs.Machine.{FullyRefuses}
 use Rattle.store_seen.specs.declared.answers.Forked.{Forked}
 use Rattle.store_seen.specs.declared.answers.Kind.{Kind}
@@ -89,3 +90,21 @@ ForkRefusedAt {S} {O} {R} fixed opened name from old new fork_refusal.DiskFault 
     HasFailedSince opened old new × ((made : Move O R) × ((full_turn fixed new.moves (machine.Fork name from)).made ≡ made ∷ []))
 ForkRefusedAt {S} {O} {R} fixed opened name from old new (fork_refusal.Failed moves) = HasFailed opened new × (moves ≡ length new.moves)
 ForkRefusedAt {S} {O} {R} fixed opened name from old new fork_refusal.Memory = Unit {0}
+
+-- What an answer makes of a pass. Of one's own moves none is new but a move that was made. A disk that failed did so since the core was opened, and where the answer tells
+-- of no fault there was none.
+abbrev pub PassesAs : {A R M : Type 0} → Answer A R → ℕ → PassView M → PassView M → Type 0
+PassesAs (Made outcome moves) opened old new =
+    (new ≡ record old { moves = new.moves; mine = old.mine ++ moves ∷ []; faults = new.faults; receipts = old.receipts + 1 }) × (new.faults ≡ 0)
+PassesAs (Still outcome) opened old new = IsSeenOn old new × (new.faults ≡ 0)
+PassesAs (Refused refusal) opened old new = IsSeenOn old new × (new.faults ≡ 0)
+PassesAs Fault opened old new = IsSeenOn old new × HasFailedSince opened old new
+PassesAs (Failed moves) opened old new = IsSeenOn old new × HasFailed opened new
+PassesAs Short opened old new = IsSeenOn old new × (new.faults ≡ 0)
+
+-- behind all that had been seen, and perhaps more, the machine's turn is answered so, and what is seen then is what the answer leaves
+pub record AnsweredAt {S O R Q A : Type 0} (fixed : Fixed S O R Q A) (opened : ℕ) (old new : PassView (Move O R)) (step : Step O Q) (answer : Answer A R) : Type 0 where
+  pub before : List (Move O R)
+  pub seen : IsPrefix old.moves before
+  pub takes : Takes (full_turn fixed before step) before new.moves answer
+  pub passes : PassesAs answer opened old new

@@ -29,9 +29,16 @@ impl<T: Mrdt, D: Disk + Drop, A: Address> Model for Blank<T, D, A> {
 
     ghost Value = { BlankView (Move T.Op T.Reply) D };
 
-    ghost view = { λ b. record { table = b.front.table; core = b.core; parts = b.front.parts; opened = D.faults b.core.opened } };
+    ghost view = { λ b. record {
+      table = b.front.table;
+      core = b.core;
+      parts = b.front.parts;
+      opened = D.faults b.core.opened;
+    } };
 
-    ghost invariant = { λ b. (b.writer ≡ first_writer b.front.table b.front.parts (faults_since D.faults b.core)) × (b.begun ≡ length b.core.history) × (b.front.begun ≡ b.begun) × (0 < b.front.parts) };
+    ghost invariant = { λ b.
+        (b.writer ≡ first_writer b.front.table b.front.parts (faults_since D.faults b.core))
+        × (b.begun ≡ length b.core.history) × (b.front.begun ≡ b.begun) × (0 < b.front.parts) };
 }
 
 impl<T: Mrdt, D: Disk + Drop, A: Address> Blank<T, D, A> {
@@ -42,7 +49,12 @@ impl<T: Mrdt, D: Disk + Drop, A: Address> Blank<T, D, A> {
         parts: u64,
     ) -> Result<Blank<T, D, A>, (Core<T, D, A>, Memory)>
         requires parts { 0 < parts }
-        ensures made { IfOk result (λ blank. blank ≡ record { table = blank.table; core = core; parts = parts; opened = D.faults core.opened }) }
+        ensures made { IfOk result (λ blank. blank ≡ record {
+          table = blank.table;
+          core = core;
+          parts = parts;
+          opened = D.faults core.opened;
+        }) }
         ensures same { IfErr result (λ refused. refused.0 ≡ core) }
     {
         let begun = core.moves();

@@ -12,8 +12,9 @@ ghost use Rattle.branch_machine.specs.Validity.{IsFullyValid};
 ghost use Rattle.store_seen.specs.Groups.{IsGrouped, GroupRefusedAs};
 ghost use Rattle.store_seen.specs.Pairs.{IsPaired, PairRefusedAs};
 ghost use Rattle.store_seen.specs.Turns.{LookRefusedAs};
+ghost use Rattle.store_core.specs.Answers.{drop_answer};
 ghost use Rattle.branch_shared.specs.Keeps.{IsNoDrop, faults_since, front_of};
-ghost use Rattle.branch_shared.specs.Passes.{seen_by, IsSeenOn, LandedAt, LandRefusedAt, ForkedAt, ForkRefusedAt};
+ghost use Rattle.branch_shared.specs.Passes.{seen_by, IsSeenOn, LandedAt, LandRefusedAt, ForkedAt, ForkRefusedAt, AnsweredAt};
 
 use crate::name::{MoveOf, Named};
 use crate::pass::Pass;
@@ -24,8 +25,8 @@ use branch_names::Name;
 use mrdt_model::Mrdt;
 use std::marker::{Brand, Model, PhantomData};
 use store_core::{
-    Addressed, Core, ForkRefused, Forked, Group, LandRefused, Landed, LookRefused, Pair,
-    PairRefused, Seen,
+    Addressed, Core, DropRefused, ForkRefused, Forked, Group, LandRefused, Landed, LookRefused,
+    Pair, PairRefused, Seen,
 };
 
 /// What lies under the lock of a shared store: its core, and the writer, which knows the core's history and faults.
@@ -46,7 +47,8 @@ impl<T: Mrdt, D: Disk + Drop, A: Address, N: Named<T::Op, T::Reply>> Model for K
 
     ghost view = { λ k. k.core };
 
-    ghost invariant = { λ k. IsKept D.faults N.table N.begun N.terms N.opened k.core k.writer };
+    ghost invariant = { λ k.
+        IsKept D.faults N.table N.begun N.terms N.opened N.drops k.core k.writer };
 }
 
 impl<T: Mrdt, D: Disk + Drop, A: Address, N: Named<T::Op, T::Reply>> Kept<T, D, A, N> {
@@ -63,9 +65,13 @@ impl<T: Mrdt, D: Disk + Drop, A: Address, N: Named<T::Op, T::Reply>> Kept<T, D, 
         ensures valid { IsFullyValid (fix T.meaning N.terms A.address) pass.new.moves }
         ensures faults { pass.old.faults ≤ pass.new.faults }
         ensures rest { IsSeenOn pass.old pass.new }
-        ensures on { IfOk result (λ seen. (seen.history ≡ pass.new.moves) × (seen.terms ≡ N.terms)) }
-        ensures sees { IfOk result (λ seen. turn T.meaning N.terms pass.new.moves (machine.Look branch.now) ≡ answers (machine.Sees seen.branch seen.head)) }
-        ensures refused { IfErr result (LookRefusedAs T.meaning (seen_by pass.new N.terms) branch.now) }
+        ensures on { IfOk result (λ seen. (seen.history ≡ pass.new.moves)
+            × (seen.terms ≡ N.terms)) }
+        ensures sees { IfOk result (λ seen.
+            turn T.meaning N.terms pass.new.moves (machine.Look branch.now)
+            ≡ answers (machine.Sees seen.branch seen.head)) }
+        ensures refused { IfErr result
+            (LookRefusedAs T.meaning (seen_by pass.new N.terms) branch.now) }
     {
         see(front, &mut self.writer, pass, &self.core);
         self.core.look(branch)
@@ -87,8 +93,10 @@ impl<T: Mrdt, D: Disk + Drop, A: Address, N: Named<T::Op, T::Reply>> Kept<T, D, 
         ensures valid { IsFullyValid (fix T.meaning N.terms A.address) pass.new.moves }
         ensures faults { pass.old.faults ≤ pass.new.faults }
         ensures rest { IsSeenOn pass.old pass.new }
-        ensures paired { IfOk result (IsPaired T.meaning (seen_by pass.new N.terms) seen.now from.now) }
-        ensures refused { IfErr result (PairRefusedAs T.meaning (seen_by pass.new N.terms) from.now) }
+        ensures paired { IfOk result
+            (IsPaired T.meaning (seen_by pass.new N.terms) seen.now from.now) }
+        ensures refused { IfErr result
+            (PairRefusedAs T.meaning (seen_by pass.new N.terms) from.now) }
     {
         see(front, &mut self.writer, pass, &self.core);
         self.core.pair(seen, from)
@@ -112,8 +120,10 @@ impl<T: Mrdt, D: Disk + Drop, A: Address, N: Named<T::Op, T::Reply>> Kept<T, D, 
         ensures valid { IsFullyValid (fix T.meaning N.terms A.address) pass.new.moves }
         ensures faults { pass.old.faults ≤ pass.new.faults }
         ensures rest { IsSeenOn pass.old pass.new }
-        ensures grouped { IfOk result (IsGrouped T.meaning (seen_by pass.new N.terms) seen.now from.now) }
-        ensures refused { IfErr result (GroupRefusedAs T.meaning (seen_by pass.new N.terms) from.now) }
+        ensures grouped { IfOk result
+            (IsGrouped T.meaning (seen_by pass.new N.terms) seen.now from.now) }
+        ensures refused { IfErr result
+            (GroupRefusedAs T.meaning (seen_by pass.new N.terms) from.now) }
     {
         see(front, &mut self.writer, pass, &self.core);
         self.core.group(seen, from)
@@ -135,10 +145,14 @@ impl<T: Mrdt, D: Disk + Drop, A: Address, N: Named<T::Op, T::Reply>> Kept<T, D, 
         ensures valid { IsFullyValid (fix T.meaning N.terms A.address) pass.new.moves }
         ensures faults { pass.old.faults ≤ pass.new.faults }
         ensures parts { pass.new.parts ≡ pass.old.parts }
-        ensures landed { IfOk result (λ landed. LandedAt (fix T.meaning N.terms A.address) prepared pass.old pass.new landed.moves landed.kind) }
-        ensures refused { IfErr result (LandRefusedAt (fix T.meaning N.terms A.address) N.opened prepared pass.old pass.new) }
+        ensures landed { IfOk result (λ landed.
+            LandedAt (fix T.meaning N.terms A.address) prepared pass.old pass.new landed.moves
+            landed.kind) }
+        ensures refused { IfErr result
+            (LandRefusedAt (fix T.meaning N.terms A.address) N.opened prepared pass.old pass.new) }
         ensures rest { OnErr result (IsSeenOn pass.old pass.new) }
-        ensures quiet { result ≢ Err LandRefused.DiskFault → ((moves : ℕ) → result ≢ Err (LandRefused.Failed moves)) → pass.new.faults ≡ 0 }
+        ensures quiet { result ≢ Err LandRefused.DiskFault
+            → ((moves : ℕ) → result ≢ Err (LandRefused.Failed moves)) → pass.new.faults ≡ 0 }
     {
         see(front, &mut self.writer, pass, &self.core);
         let outcome = self.core.land_addressed(prepared);
@@ -164,13 +178,46 @@ impl<T: Mrdt, D: Disk + Drop, A: Address, N: Named<T::Op, T::Reply>> Kept<T, D, 
         ensures valid { IsFullyValid (fix T.meaning N.terms A.address) pass.new.moves }
         ensures faults { pass.old.faults ≤ pass.new.faults }
         ensures parts { pass.new.parts ≡ pass.old.parts }
-        ensures forked { IfOk result (ForkedAt (fix T.meaning N.terms A.address) new from.now pass.old pass.new) }
-        ensures refused { IfErr result (ForkRefusedAt (fix T.meaning N.terms A.address) N.opened new from.now pass.old pass.new) }
+        ensures forked { IfOk result
+            (ForkedAt (fix T.meaning N.terms A.address) new from.now pass.old pass.new) }
+        ensures refused { IfErr result
+            (ForkRefusedAt (fix T.meaning N.terms A.address) N.opened new from.now pass.old
+            pass.new) }
         ensures rest { OnErr result (IsSeenOn pass.old pass.new) }
-        ensures quiet { result ≢ Err ForkRefused.DiskFault → ((moves : ℕ) → result ≢ Err (ForkRefused.Failed moves)) → pass.new.faults ≡ 0 }
+        ensures quiet { result ≢ Err ForkRefused.DiskFault
+            → ((moves : ℕ) → result ≢ Err (ForkRefused.Failed moves)) → pass.new.faults ≡ 0 }
     {
         see(front, &mut self.writer, pass, &self.core);
         let outcome = self.core.fork(new, from);
+        if outcome.is_ok() {
+            add(front, &mut self.writer, pass, &self.core);
+        } else {
+            see(front, &mut self.writer, pass, &self.core);
+        }
+        outcome
+    }
+
+    /// Drops the branch of a look, for the pass.
+    pub(crate) fn drop_branch(
+        &mut self,
+        front: &Front<MoveOf<T>>,
+        pass: &mut Pass<T, N>,
+        seen: &Seen<T>,
+    ) -> Result<u64, DropRefused>
+        requires front { front.now ≡ front_of N.table N.begun N.parts }
+        requires drops { N.drops ≡ true }
+        requires history { IsPrefix seen.now.history pass.old.moves }
+        requires terms { seen.now.terms ≡ N.terms }
+        ensures prefix { IsPrefix pass.old.moves pass.new.moves }
+        ensures begun { IsPrefix N.begun pass.new.moves }
+        ensures valid { IsFullyValid (fix T.meaning N.terms A.address) pass.new.moves }
+        ensures faults { pass.old.faults ≤ pass.new.faults }
+        ensures parts { pass.new.parts ≡ pass.old.parts }
+        ensures answered { AnsweredAt (fix T.meaning N.terms A.address) N.opened pass.old pass.new
+            (machine.Drop seen.now.branch seen.now.head) (drop_answer seen.now result) }
+    {
+        see(front, &mut self.writer, pass, &self.core);
+        let outcome = self.core.drop_branch(seen);
         if outcome.is_ok() {
             add(front, &mut self.writer, pass, &self.core);
         } else {
@@ -193,12 +240,16 @@ fn see<T: Mrdt, D: Disk + Drop, A: Address, N: Named<T::Op, T::Reply>>(
     requires history { core.now.history ≡ N.begun ++ writer.old.moves }
     requires rise { writer.old.faults ≤ faults_since D.faults core.now }
     ensures writer { writer.new ≡ record writer.old { faults = faults_since D.faults core.now } }
-    ensures pass { pass.new ≡ record pass.old { moves = core.now.history; faults = faults_since D.faults core.now } }
+    ensures pass { pass.new ≡ record pass.old {
+      moves = core.now.history;
+      faults = faults_since D.faults core.now;
+    } }
     ensures prefix { IsPrefix pass.old.moves core.now.history }
     ensures faults { pass.old.faults ≤ writer.old.faults }
     ensures valid { IsFullyValid (fix T.meaning core.now.terms A.address) core.now.history }
     ensures later { D.faults core.now.opened ≤ D.faults core.now.disk }
-    ensures caused { core.now.failed ≡ true → Rose (D.faults core.now.opened) (D.faults core.now.disk) }
+    ensures caused { core.now.failed ≡ true
+        → Rose (D.faults core.now.opened) (D.faults core.now.disk) }
     ensures quiet { core.now.failed ≡ false → D.faults core.now.disk ≡ D.faults core.now.opened }
 {
     see_as::<T, D, A, N, Brand>(front, writer, pass, core);
@@ -217,12 +268,16 @@ fn see_as<T: Mrdt, D: Disk + Drop, A: Address, N: Named<T::Op, T::Reply>, E: Tol
     requires rise { writer.old.faults ≤ faults_since D.faults core.now }
     requires told { E.faults ≡ faults_since D.faults core.now }
     ensures writer { writer.new ≡ record writer.old { faults = faults_since D.faults core.now } }
-    ensures pass { pass.new ≡ record pass.old { moves = core.now.history; faults = faults_since D.faults core.now } }
+    ensures pass { pass.new ≡ record pass.old {
+      moves = core.now.history;
+      faults = faults_since D.faults core.now;
+    } }
     ensures prefix { IsPrefix pass.old.moves core.now.history }
     ensures faults { pass.old.faults ≤ writer.old.faults }
     ensures valid { IsFullyValid (fix T.meaning core.now.terms A.address) core.now.history }
     ensures later { D.faults core.now.opened ≤ D.faults core.now.disk }
-    ensures caused { core.now.failed ≡ true → Rose (D.faults core.now.opened) (D.faults core.now.disk) }
+    ensures caused { core.now.failed ≡ true
+        → Rose (D.faults core.now.opened) (D.faults core.now.disk) }
     ensures quiet { core.now.failed ≡ false → D.faults core.now.disk ≡ D.faults core.now.opened }
 {
     // Its clauses say what is known of a core.
@@ -240,15 +295,22 @@ fn add<T: Mrdt, D: Disk + Drop, A: Address, N: Named<T::Op, T::Reply>>(
     requires front { front.now ≡ front_of N.table N.begun N.parts }
     requires table { writer.old.table ≡ N.table }
     requires idle { IsIdle writer.old }
-    requires grown { (made : Move T.Op T.Reply) × (core.now.history ≡ (N.begun ++ writer.old.moves) ++ made ∷ []) × IsNoDrop made }
-    requires drops_none { AllByRecursion IsNoDrop writer.old.moves }
+    requires grown { (made : Move T.Op T.Reply)
+        × (core.now.history ≡ (N.begun ++ writer.old.moves) ++ made ∷ [])
+        × (N.drops ≡ false → IsNoDrop made) }
+    requires drops_none { N.drops ≡ false → AllByRecursion IsNoDrop writer.old.moves }
     requires rise { writer.old.faults ≤ faults_since D.faults core.now }
     requires room { length core.now.history ≤ 2 ^ 48 }
     ensures table { writer.new.table ≡ writer.old.table }
     ensures history { core.now.history ≡ N.begun ++ writer.new.moves }
     ensures writer { (writer.new.faults ≡ faults_since D.faults core.now) × IsIdle writer.new }
-    ensures drops_none { AllByRecursion IsNoDrop writer.new.moves }
-    ensures pass { pass.new ≡ record pass.old { moves = core.now.history; mine = pass.old.mine ++ length core.now.history ∷ []; faults = faults_since D.faults core.now; receipts = pass.old.receipts + 1 } }
+    ensures drops_none { N.drops ≡ false → AllByRecursion IsNoDrop writer.new.moves }
+    ensures pass { pass.new ≡ record pass.old {
+      moves = core.now.history;
+      mine = pass.old.mine ++ length core.now.history ∷ [];
+      faults = faults_since D.faults core.now;
+      receipts = pass.old.receipts + 1;
+    } }
     ensures valid { IsFullyValid (fix T.meaning core.now.terms A.address) core.now.history }
 {
     add_as::<T, D, A, N, Brand>(front, writer, pass, core);
@@ -263,12 +325,21 @@ fn add_as<T: Mrdt, D: Disk + Drop, A: Address, N: Named<T::Op, T::Reply>, E: Tol
     requires front { front.now ≡ front_of N.table N.begun N.parts }
     requires table { writer.old.table ≡ N.table }
     requires idle { IsIdle writer.old }
-    requires entry { (length E.entry ≡ 1) × (core.now.history ≡ (N.begun ++ writer.old.moves) ++ E.entry) }
+    requires entry { (length E.entry ≡ 1)
+        × (core.now.history ≡ (N.begun ++ writer.old.moves) ++ E.entry) }
     requires rise { writer.old.faults ≤ faults_since D.faults core.now }
     requires told { E.faults ≡ faults_since D.faults core.now }
     requires room { length core.now.history ≤ 2 ^ 48 }
-    ensures writer { writer.new ≡ record writer.old { moves = writer.old.moves ++ E.entry; faults = faults_since D.faults core.now } }
-    ensures pass { pass.new ≡ record pass.old { moves = core.now.history; mine = pass.old.mine ++ length core.now.history ∷ []; faults = faults_since D.faults core.now; receipts = pass.old.receipts + 1 } }
+    ensures writer { writer.new ≡ record writer.old {
+      moves = writer.old.moves ++ E.entry;
+      faults = faults_since D.faults core.now;
+    } }
+    ensures pass { pass.new ≡ record pass.old {
+      moves = core.now.history;
+      mine = pass.old.mine ++ length core.now.history ∷ [];
+      faults = faults_since D.faults core.now;
+      receipts = pass.old.receipts + 1;
+    } }
     ensures valid { IsFullyValid (fix T.meaning core.now.terms A.address) core.now.history }
 {
     // Its clauses say what is known of a core.

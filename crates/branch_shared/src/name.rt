@@ -11,7 +11,7 @@ pub(crate) type MoveOf<T> = Move<<T as Mrdt>::Op, <T as Mrdt>::Reply>;
 /// A program hands its `Blank` to a function over `N: Named<O, R>`, which it calls with `Brand`; there it picks what the
 /// name says, which is what the blank is.
 pub trait Named<O, R> {
-    ghost use Rattle.std.specs.Prelude.{ℕ, List};
+    ghost use Rattle.std.specs.Prelude.{ℕ, Bool, List};
     ghost use Rattle.atomic_table.specs.Seated.{TableId};
     ghost use Rattle.branch_names.specs.declared.terms.Terms.{Terms};
     ghost use Rattle.branch_history.specs.declared.moves.Move.{Move};
@@ -30,10 +30,13 @@ pub trait Named<O, R> {
 
     // How many faults the disk had had when the core was opened.
     ghost opened: { ℕ };
+
+    // Whether branches may be dropped in it.
+    ghost drops: { Bool };
 }
 
 impl<O, R> Named<O, R> for Brand {
-    ghost use Rattle.std.specs.Prelude.{[]};
+    ghost use Rattle.std.specs.Prelude.{[], false};
     ghost use Rattle.branch_shared.specs.Names.{no_table, least_terms};
 
     ghost table = { no_table };
@@ -45,4 +48,6 @@ impl<O, R> Named<O, R> for Brand {
     ghost parts = { 0 };
 
     ghost opened = { 0 };
+
+    ghost drops = { false };
 }

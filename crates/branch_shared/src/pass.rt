@@ -22,7 +22,13 @@ impl<T: Mrdt, N: Named<T::Op, T::Reply>> Model for Pass<T, N> {
 
     ghost Value = { PassView (Move T.Op T.Reply) };
 
-    ghost view = { λ p. record { moves = N.begun ++ p.pass.moves; mine = p.pass.mine; faults = p.pass.faults; parts = p.pass.parts; receipts = p.pass.receipts } };
+    ghost view = { λ p. record {
+      moves = N.begun ++ p.pass.moves;
+      mine = p.pass.mine;
+      faults = p.pass.faults;
+      parts = p.pass.parts;
+      receipts = p.pass.receipts;
+    } };
 
     ghost invariant = { λ p. (p.pass.table ≡ N.table) × (0 < p.pass.parts) };
 }

@@ -1,5 +1,5 @@
 // A store that threads share.
-ghost use Rattle.std.specs.Prelude.{ℕ, ◌≡◌, ◌≢◌, ◌+◌, ◌-◌, ◌<◌, ◌≤◌, [], length, max, Err, IfOk, IfErr, OnErr};
+ghost use Rattle.std.specs.Prelude.{ℕ, ◌≡◌, ◌≢◌, ◌+◌, ◌-◌, ◌<◌, ◌≤◌, true, false, [], length, max, Err, IfOk, IfErr, OnErr};
 ghost use mathlib.Core.List.{IsPrefix};
 ghost use Rattle.branch_front.specs.Lists.{longer};
 ghost use Rattle.branch_history.specs.Machine.{turn, answers};
@@ -9,9 +9,10 @@ ghost use Rattle.branch_machine.specs.Validity.{IsFullyValid};
 ghost use Rattle.store_seen.specs.Groups.{IsGrouped, GroupRefusedAs};
 ghost use Rattle.store_seen.specs.Pairs.{IsPaired, PairRefusedAs};
 ghost use Rattle.store_seen.specs.Turns.{LookRefusedAs};
+ghost use Rattle.store_core.specs.Answers.{drop_answer};
 ghost use Rattle.branch_shared.specs.Keeps.{DropsNone, faults_since};
 ghost use Rattle.branch_shared.specs.Names.{IsNamed};
-ghost use Rattle.branch_shared.specs.Passes.{seen_by, IsSeenOn, LandedAt, LandRefusedAt, ForkedAt, ForkRefusedAt};
+ghost use Rattle.branch_shared.specs.Passes.{seen_by, IsSeenOn, LandedAt, LandRefusedAt, ForkedAt, ForkRefusedAt, AnsweredAt};
 
 use crate::blank::Blank;
 use crate::kept::Kept;
@@ -26,14 +27,14 @@ use std::alloc::Global;
 use std::marker::{Model, PhantomData};
 use std::sync::{Mutex, Wait};
 use store_core::{
-    Addressed, Core, ForkRefused, Forked, Group, LandRefused, Landed, LookRefused, Pair,
-    PairRefused, Prepared, Seen,
+    Addressed, Core, DropRefused, ForkRefused, Forked, Group, LandRefused, Landed, LookRefused,
+    Pair, PairRefused, Prepared, Seen,
 };
 
 /// A store that threads share by reference. What it began with, its terms and the number of its parts are those that N
 /// names. Contracts see the front's `Opening`.
 ///
-/// `look`, `pair`, `group`, `land` and `fork` wait for the one lock, and do under it what one event of the store is. After each
+/// `look`, `pair`, `group`, `land`, `fork` and `drop_branch` wait for the one lock, and do under it what one event of the store is. After each
 /// of them, refused or not, the pass has seen a beginning of the one history, no shorter than the one that it had seen, and
 /// the answer is the machine's there. That this is all of the history up to the call is how the code goes: no contract can
 /// say it of callers that never met.
@@ -58,7 +59,8 @@ impl<T: Mrdt, D: Disk + Drop, A: Address, N: Named<T::Op, T::Reply>> Model for S
 
     ghost view = { λ s. s.front };
 
-    ghost invariant = { λ s. (s.front ≡ front_of N.table N.begun N.parts) × (s.begun ≡ length N.begun) };
+    ghost invariant = { λ s. (s.front ≡ front_of N.table N.begun N.parts)
+        × (s.begun ≡ length N.begun) };
 }
 
 /// What is left of a shared store.
@@ -76,7 +78,13 @@ impl<T: Mrdt, D: Disk + Drop, A: Address, N: Named<T::Op, T::Reply>> Shared<T, D
     /// The store under its name, and the pass that holds all parts.
     pub fn new(blank: Blank<T, D, A>) -> (Shared<T, D, A, N>, Pass<T, N>)
         requires name { IsNamed blank N.table N.begun N.terms N.parts N.opened }
-        ensures { result.1 ≡ record { moves = blank.core.history; mine = []; faults = faults_since D.faults blank.core; parts = blank.parts; receipts = 0 } }
+        ensures { result.1 ≡ record {
+          moves = blank.core.history;
+          mine = [];
+          faults = faults_since D.faults blank.core;
+          parts = blank.parts;
+          receipts = 0;
+        } }
     {
         let Blank {
             alloc,
@@ -130,9 +138,13 @@ impl<T: Mrdt, D: Disk + Drop, A: Address, N: Named<T::Op, T::Reply>> Shared<T, D
         ensures valid { IsFullyValid (fix T.meaning N.terms A.address) pass.new.moves }
         ensures faults { pass.old.faults ≤ pass.new.faults }
         ensures rest { IsSeenOn pass.old pass.new }
-        ensures on { IfOk result (λ seen. (seen.history ≡ pass.new.moves) × (seen.terms ≡ N.terms)) }
-        ensures sees { IfOk result (λ seen. turn T.meaning N.terms pass.new.moves (machine.Look branch.now) ≡ answers (machine.Sees seen.branch seen.head)) }
-        ensures refused { IfErr result (LookRefusedAs T.meaning (seen_by pass.new N.terms) branch.now) }
+        ensures on { IfOk result (λ seen. (seen.history ≡ pass.new.moves)
+            × (seen.terms ≡ N.terms)) }
+        ensures sees { IfOk result (λ seen.
+            turn T.meaning N.terms pass.new.moves (machine.Look branch.now)
+            ≡ answers (machine.Sees seen.branch seen.head)) }
+        ensures refused { IfErr result
+            (LookRefusedAs T.meaning (seen_by pass.new N.terms) branch.now) }
     {
         self.kept.lock(rt).look(&self.front, pass, branch)
     }
@@ -153,8 +165,10 @@ impl<T: Mrdt, D: Disk + Drop, A: Address, N: Named<T::Op, T::Reply>> Shared<T, D
         ensures valid { IsFullyValid (fix T.meaning N.terms A.address) pass.new.moves }
         ensures faults { pass.old.faults ≤ pass.new.faults }
         ensures rest { IsSeenOn pass.old pass.new }
-        ensures paired { IfOk result (IsPaired T.meaning (seen_by pass.new N.terms) seen.now from.now) }
-        ensures refused { IfErr result (PairRefusedAs T.meaning (seen_by pass.new N.terms) from.now) }
+        ensures paired { IfOk result
+            (IsPaired T.meaning (seen_by pass.new N.terms) seen.now from.now) }
+        ensures refused { IfErr result
+            (PairRefusedAs T.meaning (seen_by pass.new N.terms) from.now) }
     {
         self.kept.lock(rt).pair(&self.front, pass, seen, from)
     }
@@ -177,8 +191,10 @@ impl<T: Mrdt, D: Disk + Drop, A: Address, N: Named<T::Op, T::Reply>> Shared<T, D
         ensures valid { IsFullyValid (fix T.meaning N.terms A.address) pass.new.moves }
         ensures faults { pass.old.faults ≤ pass.new.faults }
         ensures rest { IsSeenOn pass.old pass.new }
-        ensures grouped { IfOk result (IsGrouped T.meaning (seen_by pass.new N.terms) seen.now from.now) }
-        ensures refused { IfErr result (GroupRefusedAs T.meaning (seen_by pass.new N.terms) from.now) }
+        ensures grouped { IfOk result
+            (IsGrouped T.meaning (seen_by pass.new N.terms) seen.now from.now) }
+        ensures refused { IfErr result
+            (GroupRefusedAs T.meaning (seen_by pass.new N.terms) from.now) }
     {
         self.kept.lock(rt).group(&self.front, pass, seen, from)
     }
@@ -203,10 +219,14 @@ impl<T: Mrdt, D: Disk + Drop, A: Address, N: Named<T::Op, T::Reply>> Shared<T, D
         ensures valid { IsFullyValid (fix T.meaning N.terms A.address) pass.new.moves }
         ensures faults { pass.old.faults ≤ pass.new.faults }
         ensures parts { pass.new.parts ≡ pass.old.parts }
-        ensures landed { IfOk result (λ landed. LandedAt (fix T.meaning N.terms A.address) prepared pass.old pass.new landed.moves landed.kind) }
-        ensures refused { IfErr result (LandRefusedAt (fix T.meaning N.terms A.address) N.opened prepared pass.old pass.new) }
+        ensures landed { IfOk result (λ landed.
+            LandedAt (fix T.meaning N.terms A.address) prepared pass.old pass.new landed.moves
+            landed.kind) }
+        ensures refused { IfErr result
+            (LandRefusedAt (fix T.meaning N.terms A.address) N.opened prepared pass.old pass.new) }
         ensures rest { OnErr result (IsSeenOn pass.old pass.new) }
-        ensures quiet { result ≢ Err LandRefused.DiskFault → ((moves : ℕ) → result ≢ Err (LandRefused.Failed moves)) → pass.new.faults ≡ 0 }
+        ensures quiet { result ≢ Err LandRefused.DiskFault
+            → ((moves : ℕ) → result ≢ Err (LandRefused.Failed moves)) → pass.new.faults ≡ 0 }
     {
         let prepared = Addressed::new(self.alloc, prepared);
         self.kept.lock(rt).land(&self.front, pass, prepared)
@@ -227,12 +247,40 @@ impl<T: Mrdt, D: Disk + Drop, A: Address, N: Named<T::Op, T::Reply>> Shared<T, D
         ensures valid { IsFullyValid (fix T.meaning N.terms A.address) pass.new.moves }
         ensures faults { pass.old.faults ≤ pass.new.faults }
         ensures parts { pass.new.parts ≡ pass.old.parts }
-        ensures forked { IfOk result (ForkedAt (fix T.meaning N.terms A.address) new from.now pass.old pass.new) }
-        ensures refused { IfErr result (ForkRefusedAt (fix T.meaning N.terms A.address) N.opened new from.now pass.old pass.new) }
+        ensures forked { IfOk result
+            (ForkedAt (fix T.meaning N.terms A.address) new from.now pass.old pass.new) }
+        ensures refused { IfErr result
+            (ForkRefusedAt (fix T.meaning N.terms A.address) N.opened new from.now pass.old
+            pass.new) }
         ensures rest { OnErr result (IsSeenOn pass.old pass.new) }
-        ensures quiet { result ≢ Err ForkRefused.DiskFault → ((moves : ℕ) → result ≢ Err (ForkRefused.Failed moves)) → pass.new.faults ≡ 0 }
+        ensures quiet { result ≢ Err ForkRefused.DiskFault
+            → ((moves : ℕ) → result ≢ Err (ForkRefused.Failed moves)) → pass.new.faults ≡ 0 }
     {
         self.kept.lock(rt).fork(&self.front, pass, new, from)
+    }
+
+    /// Drops the branch of a look, taken now or earlier, from the head that was seen, and says how many moves the history
+    /// then has. Only a store whose name says that it drops branches has this call. After `Ok` the last move that the pass
+    /// has seen is this one. It is refused exactly as the machine refuses it on the history that the pass has seen then, or
+    /// where the disk fails or has failed.
+    pub fn drop_branch<R: Wait>(
+        &self,
+        rt: &R,
+        pass: &mut Pass<T, N>,
+        seen: &Seen<T>,
+    ) -> Result<u64, DropRefused>
+        requires drops { N.drops ≡ true }
+        requires history { IsPrefix seen.now.history pass.old.moves }
+        requires terms { seen.now.terms ≡ N.terms }
+        ensures prefix { IsPrefix pass.old.moves pass.new.moves }
+        ensures begun { IsPrefix N.begun pass.new.moves }
+        ensures valid { IsFullyValid (fix T.meaning N.terms A.address) pass.new.moves }
+        ensures faults { pass.old.faults ≤ pass.new.faults }
+        ensures parts { pass.new.parts ≡ pass.old.parts }
+        ensures answered { AnsweredAt (fix T.meaning N.terms A.address) N.opened pass.old pass.new
+            (machine.Drop seen.now.branch seen.now.head) (drop_answer seen.now result) }
+    {
+        self.kept.lock(rt).drop_branch(&self.front, pass, seen)
     }
 
     /// A pass ends in another, which has then seen what either had. Answers how many moves the pass, and those that left
@@ -278,14 +326,15 @@ impl<T: Mrdt, D: Disk + Drop, A: Address, N: Named<T::Op, T::Reply>> Shared<T, D
     }
 
     /// The core, how many moves landed since the store was shared, and how many of them the last pass, and those that
-    /// left into it, landed: all, where it holds all parts. None of these moves drops a branch.
+    /// left into it, landed: all, where it holds all parts. None of these moves drops a branch, but in a store whose name
+    /// says that it drops some.
     pub fn close_with(self, last: Pass<T, N>) -> Closed<T, D, A>
         ensures history { IsPrefix last.moves result.core.history }
         ensures begun { IsPrefix N.begun result.core.history }
         ensures terms { result.core.terms ≡ N.terms }
         ensures opened { D.faults result.core.opened ≡ N.opened }
         ensures faults { last.faults ≤ faults_since D.faults result.core }
-        ensures drops_none { DropsNone N.begun result.core.history }
+        ensures drops_none { N.drops ≡ false → DropsNone N.begun result.core.history }
         ensures landed { length N.begun + result.landed ≡ length result.core.history }
         ensures receipts { result.receipts ≡ last.receipts }
         ensures all { last.parts ≡ N.parts → result.receipts ≡ result.landed }

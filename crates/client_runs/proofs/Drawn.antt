@@ -1,11 +1,13 @@
 -- Of the steps of a client, each behind the first three is an operation or a merge of one of its two sessions, and names no branch but `main` and the client's own.
-use Rattle.std.proofs.Common.{zero, suc, ◌≡◌, ℕ, ◌==◌, ◌⊎◌, inl, inr, Bool, true, false, List, ◌∷◌, codes, refl, subst, ◌∙◌, if◌then◌else◌, Some}
-use Rattle.std.specs.Prelude.{slice_get, take}
+use Rattle.std.proofs.Common.{zero, suc, ◌≡◌, ℕ, ◌+◌, ◌%◌, ◌^◌, ◌==◌, ◌⊎◌, inl, inr, Bool, true, false, List, [], ◌∷◌, ◌++◌, codes, refl, subst, ◌∙◌, if◌then◌else◌, Some}
+use Rattle.std.specs.Prelude.{slice_get}
+use Rattle.std.specs.List.{AllByRecursion}
 use Rattle.branch_script.specs.declared.step.Step.{Step}
-use Rattle.branch_script.specs.declared.step.Step.TheVariants.{Look, Fork, Merge, Join, Do, Ask}
+use Rattle.branch_script.specs.declared.step.Step.TheVariants.{Look, Fork, Merge, Join, Do, Ask, Drop}
 use Rattle.branch_gen.specs.Draws.{next, pick, Drawn}
-use Rattle.branch_gen.specs.Clients.{own, top, step_for, step, drawn_steps}
-use Rattle.parallel_clients.specs.Played.{Sights, sights_after}
+use Rattle.branch_gen.specs.Clients.{client_branch, own, top, step_for, step, drawn_steps, client_steps}
+use Rattle.parallel_clients.specs.Outcomes.{MayDrop, MayDropIn}
+use Rattle.client_runs.specs.Scripts.{scripts_of}
 
 -- one of a client's sessions
 abbrev pub IsSession : List ℕ → Type 0
@@ -22,6 +24,7 @@ IsDrawn branch (Join session from) = ⊥
 IsDrawn branch (Look session from) = ⊥
 IsDrawn branch (Fork new from) = ⊥
 IsDrawn branch (Ask from query) = ⊥
+IsDrawn branch (Drop session) = ⊥
 
 module _ (branch : List ℕ) where
   drawn-if : (test : Bool) (s t : Drawn Step) → IsDrawn branch s.made → IsDrawn branch t.made → IsDrawn branch (if test then s else t).made
@@ -48,19 +51,29 @@ module _ (branch : List ℕ) where
   steps-drawn (suc steps) x zero s is = let same : (step branch x).made ≡ s = cc in subst (IsDrawn branch) same (step-drawn x)
   steps-drawn (suc steps) x (suc k) s is = steps-drawn steps (step branch x).state k s is
 
-  one-sees : (s : Step) (rest : List Step) (sights : Sights) → IsDrawn branch s → sights_after (s ∷ rest) sights ≡ sights_after rest sights
-  one-sees (Do session op) rest sights is = refl
-  one-sees (Merge session from) rest sights is = refl
-  one-sees (Join session from) rest sights is = absurd is
-  one-sees (Look session from) rest sights is = absurd is
-  one-sees (Fork new from) rest sights is = absurd is
-  one-sees (Ask from query) rest sights is = absurd is
+  drawn-may : (s : Step) → IsDrawn branch s → MayDrop false s
+  drawn-may (Do session op) is = tt
+  drawn-may (Merge session from) is = tt
+  drawn-may (Join session from) is = tt
+  drawn-may (Look session from) is = tt
+  drawn-may (Fork new from) is = tt
+  drawn-may (Ask from query) is = tt
+  drawn-may (Drop session) is = absurd is
 
-  -- they let each session see what it saw
-  pub steps-see : (steps x k : ℕ) (sights : Sights) → sights_after (take k (drawn_steps branch steps x)) sights ≡ sights
-  steps-see zero x zero sights = refl
-  steps-see zero x (suc k) sights = refl
-  steps-see (suc steps) x zero sights = refl
-  steps-see (suc steps) x (suc k) sights =
-      one-sees (step branch x).made (take k (drawn_steps branch steps (step branch x).state)) sights (step-drawn x)
-      ∙ steps-see steps (step branch x).state k sights
+  steps-may : (steps x : ℕ) → AllByRecursion (MayDrop false) (drawn_steps branch steps x)
+  steps-may zero x = tt
+  steps-may (suc steps) x = (drawn-may (step branch x).made (step-drawn x), steps-may steps (step branch x).state)
+
+-- no step of a client drops a branch
+client-may : (client steps number : ℕ) → AllByRecursion (MayDrop false) (client_steps client steps number)
+unfolding client_steps
+client-may client steps number = (tt, (tt, (tt, steps-may (client_branch client) steps ((number + client) % 2 ^ 64))))
+
+one-more : {X : Type 0} (P : X → Type 0) (xs : List X) (x : X) → AllByRecursion P xs → P x → AllByRecursion P (xs ++ x ∷ [])
+one-more P [] x all is = (is, tt)
+one-more P (y ∷ ys) x all is = (all.0, one-more P ys x all.1 is)
+
+pub scripts-may : (count steps number : ℕ) → MayDropIn false (scripts_of count steps number)
+scripts-may zero steps number = tt
+scripts-may (suc count) steps number =
+    one-more (AllByRecursion (MayDrop false)) (scripts_of count steps number) (client_steps count steps number) (scripts-may count steps number) (client-may count steps number)

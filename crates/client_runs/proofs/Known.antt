@@ -1,6 +1,6 @@
 -- A client of drawn steps names no branch that is not there, and each session of its has looked.
-use Rattle.std.proofs.Common.{zero, suc, ◌≡◌, ℕ, ◌+◌, ◌-◌, ◌%◌, ◌^◌, ◌<◌, ◌≤◌, ◌⊎◌, ⊎_elim, true, List, [], ◌∷◌, ◌++◌, length, codes, refl, ap, sym, subst, ◌∙◌, Option, Some, None, arith, append_assoc, append-nil, length-append}
-use Rattle.std.specs.Prelude.{slice_get, take}
+use Rattle.std.proofs.Common.{zero, suc, ◌≡◌, ℕ, ◌+◌, ◌-◌, ◌%◌, ◌^◌, ◌<◌, ◌≤◌, ◌⊎◌, ⊎_elim, Bool, true, false, cond, List, [], ◌∷◌, ◌++◌, length, codes, refl, ap, sym, subst, ◌∙◌, Option, Some, None, arith, append_assoc, append-nil, length-append}
+use Rattle.std.specs.Prelude.{slice_get, take, bytes_eq}
 use Rattle.std.specs.List.{AllByRecursion}
 use Rattle.std.proofs.lemmas.Bool.{cases_lt, both_ways, false_from_ne_true}
 use mathlib.Core.List.{IsPrefix}
@@ -24,24 +24,24 @@ use Rattle.branch_machine.specs.Laws.{MakesFewerMoves, HasFullyValidPrefixes}
 use Rattle.branch_machine.specs.Validity.{IsFullyValid}
 use Rattle.branch_doc.specs.declared.plain.PlainOp.{PlainOp}
 use Rattle.branch_script.specs.declared.step.Step.{Step}
-use Rattle.branch_script.specs.declared.step.Step.TheVariants.{Look, Fork, Merge, Join, Do, Ask}
+use Rattle.branch_script.specs.declared.step.Step.TheVariants.{Look, Fork, Merge, Join, Do, Ask, Drop}
 use Rattle.branch_gen.specs.Clients.{client_branch, own, top, drawn_steps, client_steps}
 use Rattle.branch_shared.specs.Keeps.{IsNoDrop, DropsNone}
 use Rattle.parallel_clients.specs.declared.outcome.ClientRefusal.{ClientRefusal}
 use Rattle.parallel_clients.specs.declared.outcome.ClientRefusal.TheVariants as refusal
 use Rattle.parallel_clients.specs.declared.outcome.Outcome.{Outcome}
 use Rattle.parallel_clients.specs.declared.outcome.Outcome.TheVariants.{Done, Refused, Unseen}
-use Rattle.parallel_clients.specs.Played.{Sights, no_sights, with_sight, sights_after, WasHead, HasBranch, IsForked, TakesOne, IfSees, PlayedFrom, Played}
+use Rattle.parallel_clients.specs.Played.{Sights, no_sights, with_sight, IsMoveAt, WasHead, HadHead, HasBranch, IsDone, IsForked, IsMerged, IsJoined, IsTaken, IsReached, BringsNothing, TakesOne, TakesNone, IfSees, PlayedFrom, PlayedTo}
 use Rattle.parallel_clients.specs.Outcomes.{Setting, RefusesLook, RefusesJoin, RefusesStep, StepRefused, SeesNone, ComesTo}
 use Rattle.client_runs.specs.Worked.{MayRefuse, MayComeTo}
-use Rattle.client_runs.proofs.Drawn.{IsSession, IsOfBoth, IsDrawn, steps-drawn, steps-see}
+use Rattle.client_runs.proofs.Drawn.{IsSession, IsOfBoth, IsDrawn, steps-drawn}
 use Rattle.client_runs.proofs.Reasons.{Says, reason-full, says-look, says-fork, says-land, says-merge}
 
 -- some branch has the name
 abbrev pub IsThere : {O R : Type 0} → ℕ → List (Move O R) → List ℕ → Type 0
 IsThere origin moves name = branch_named (store_of origin moves).branches name ≡ None → ⊥
 
--- each branch that a step names is there
+-- each branch that a step names is there, and it drops none
 abbrev Knows : {O R : Type 0} → ℕ → List (Move O R) → Step → Type 0
 Knows origin moves (Look session from) = IsThere origin moves from
 Knows origin moves (Fork new from) = IsThere origin moves from
@@ -49,6 +49,7 @@ Knows origin moves (Merge session from) = IsThere origin moves from
 Knows origin moves (Join session from) = AllByRecursion (IsThere origin moves) from
 Knows origin moves (Do session op) = Unit {0}
 Knows origin moves (Ask from query) = IsThere origin moves from
+Knows origin moves (Drop session) = ⊥
 
 -- moves that drop no branch
 
@@ -167,11 +168,11 @@ module _ {O R : Type 0} (origin : ℕ) (old moves : List (Move O R)) (on : GoesO
   one-there new from Rest (place ∷ places) is = forked-there new from place is.0 is.1
 
   -- a branch that was to be forked is there
-  played-there : (op_of : PlainOp → O) (new from : List ℕ) (steps : List Step) (places : List ℕ) → Played op_of origin (length old) (Fork new from ∷ steps) places moves → IsThere origin moves new
-  unfolding Played
-  played-there op_of new from steps places is =
+  played-there : (op_of : PlainOp → O) (new from : List ℕ) (steps : List Step) (places : List ℕ) (after : Sights) → PlayedTo op_of origin (length old) (Fork new from ∷ steps) places moves after → IsThere origin moves new
+  unfolding PlayedTo
+  played-there op_of new from steps places after is =
       ⊎_elim
-      (λ one. one-there new from (PlayedFrom op_of origin moves steps no_sights) places one)
+      (λ one. one-there new from (PlayedFrom op_of origin moves steps no_sights after) places one)
       (λ none. named-there none.before new none.begins none.behind none.here.0)
       is
 
@@ -189,55 +190,128 @@ module _ {O R : Type 0} (origin : ℕ) (old moves : List (Move O R)) (on : GoesO
   drawn-knows branch (Look session from) there is = absurd is
   drawn-knows branch (Fork new from) there is = absurd is
   drawn-knows branch (Ask from query) there is = absurd is
+  drawn-knows branch (Drop session) there is = absurd is
 
   -- a client knows each branch that its step names, where the history has what the steps before it made
-  pub client-knows : (op_of : PlainOp → O) (client steps number k : ℕ) (s : Step) (places : List ℕ)
-      → slice_get (client_steps client steps number) k ≡ Some s → Played op_of origin (length old) (take k (client_steps client steps number)) places moves → Knows origin moves s
+  pub client-knows : (op_of : PlainOp → O) (client steps number k : ℕ) (s : Step) (places : List ℕ) (after : Sights)
+      → slice_get (client_steps client steps number) k ≡ Some s → PlayedTo op_of origin (length old) (take k (client_steps client steps number)) places moves after → Knows origin moves s
   unfolding client_steps
-  client-knows op_of client steps number zero s places is played =
+  client-knows op_of client steps number zero s places after is played =
       let same : Fork (client_branch client) (codes "main") ≡ s = cc in subst (Knows origin moves) same main-there
-  client-knows op_of client steps number (suc zero) s places is played =
+  client-knows op_of client steps number (suc zero) s places after is played =
       let same : Look own (client_branch client) ≡ s = cc in
-      subst (Knows origin moves) same (played-there op_of (client_branch client) (codes "main") [] places played)
-  client-knows op_of client steps number (suc (suc zero)) s places is played =
+      subst (Knows origin moves) same (played-there op_of (client_branch client) (codes "main") [] places after played)
+  client-knows op_of client steps number (suc (suc zero)) s places after is played =
       let same : Look top (codes "main") ≡ s = cc in subst (Knows origin moves) same main-there
-  client-knows op_of client steps number (suc (suc (suc k))) s places is played =
+  client-knows op_of client steps number (suc (suc (suc k))) s places after is played =
       let x : ℕ = (number + client) % 2 ^ 64 in
       let branch : List ℕ = client_branch client in
       let rest : List Step = take k (drawn_steps branch steps x) in
       drawn-knows branch s
-      (played-there op_of branch (codes "main") (Look own branch ∷ Look top (codes "main") ∷ rest) places played)
+      (played-there op_of branch (codes "main") (Look own branch ∷ Look top (codes "main") ∷ rest) places after played)
       (steps-drawn branch steps x k s is)
 
 -- what each session sees behind the first three steps
-abbrev started : List ℕ → Sights
-started branch = with_sight (with_sight no_sights own branch) top (codes "main")
+abbrev started : ℕ → ℕ → Sights
+started first second = with_sight (with_sight no_sights own first) top second
 
-session-started : (branch session : List ℕ) → IsSession session → started branch session ≡ None → ⊥
-session-started branch session is none =
+session-started : (first second : ℕ) (session : List ℕ) → IsSession session → started first second session ≡ None → ⊥
+session-started first second session is none =
     ⊎_elim
-    (λ e. let sees : Some branch ≡ None = ap (started branch) (sym e) ∙ none in cc)
-    (λ e. let sees : Some (codes "main") ≡ None = ap (started branch) (sym e) ∙ none in cc)
+    (λ e. let sees : Some first ≡ None = ap (started first second) (sym e) ∙ none in cc)
+    (λ e. let sees : Some second ≡ None = ap (started first second) (sym e) ∙ none in cc)
     is
 
-drawn-sees : (branch : List ℕ) (s : Step) → IsDrawn branch s → SeesNone (started branch) s → ⊥
-drawn-sees branch (Do session op) is none = session-started branch session is none
-drawn-sees branch (Merge session from) is none = session-started branch session is.0 none
-drawn-sees branch (Join session from) is none = absurd is
-drawn-sees branch (Look session from) is none = absurd is
-drawn-sees branch (Fork new from) is none = absurd is
-drawn-sees branch (Ask from query) is none = absurd is
+put-sees : (test : Bool) (number : ℕ) (sight : Option ℕ) → (sight ≡ None → ⊥) → cond test (Some number) sight ≡ None → ⊥
+put-sees true number sight sees none = let never : ⊥ = cc in never
+put-sees false number sight sees none = sees none
+
+-- a session that sees a branch sees one later
+module _ {O R : Type 0} (op_of : PlainOp → O) (origin : ℕ) (moves : List (Move O R)) (after : Sights) (session : List ℕ) where
+  abbrev Sees : Sights → Type 0
+  Sees sights = sights session ≡ None → ⊥
+
+  one-sees : (Is : ℕ → Type 0) (Rest : ℕ → List ℕ → Type 0) (last : ℕ) (places : List ℕ) → ((place : ℕ) (more : List ℕ) → Rest place more → Sees after) → TakesOne Is Rest last places → Sees after
+  one-sees Is Rest last [] goes is = absurd is
+  one-sees Is Rest last (place ∷ places) goes is = goes place places is.2
+
+  if-sees : (sight : Option ℕ) (Does : ℕ → Type 0) → ((branch : ℕ) → Does branch → Sees after) → IfSees sight Does → Sees after
+  if-sees None Does goes is = absurd is
+  if-sees (Some branch) Does goes is = goes branch is
+
+  sees-on : (steps : List Step) (sights : Sights) (last : ℕ) (places : List ℕ) → Sees sights → PlayedFrom op_of origin moves steps sights after last places → Sees after
+  sees-on [] sights last places sees is = subst (λ (seen : Sights). seen session ≡ None → ⊥) is.1 sees
+  sees-on (Look other branch ∷ steps) sights last places sees is =
+      sees-on steps (with_sight sights other is.0) (length is.1.before) places (λ none. put-sees (bytes_eq other session) is.0 (sights session) sees none) is.1.rest
+  sees-on (Ask branch query ∷ steps) sights last places sees is = sees-on steps sights (length is.before) places sees is.rest
+  sees-on (Do other op ∷ steps) sights last places sees is =
+      let Rest = PlayedFrom op_of origin moves steps sights after in
+      if-sees (sights other) (λ branch. TakesOne (IsDone moves branch (op_of op)) Rest last places)
+      (λ branch one. one-sees (IsDone moves branch (op_of op)) Rest last places (λ place more rest. sees-on steps sights place more sees rest) one)
+      is
+  sees-on (Fork new from ∷ steps) sights last places sees is =
+      let Rest = PlayedFrom op_of origin moves steps sights after in
+      ⊎_elim
+      (λ one. one-sees (IsForked origin moves new from) Rest last places (λ place more rest. sees-on steps sights place more sees rest) one)
+      (λ none. sees-on steps sights (length none.before) places sees none.rest)
+      is
+  sees-on (Merge other from ∷ steps) sights last places sees is =
+      let Rest = PlayedFrom op_of origin moves steps sights after in
+      if-sees (sights other) (λ branch. TakesOne (IsMerged origin moves branch from) Rest last places ⊎ TakesNone moves (IsReached origin branch from) Rest last places)
+      (λ branch both. ⊎_elim
+      (λ one. one-sees (IsMerged origin moves branch from) Rest last places (λ place more rest. sees-on steps sights place more sees rest) one)
+      (λ none. sees-on steps sights (length none.before) places sees none.rest)
+      both)
+      is
+  sees-on (Join other from ∷ steps) sights last places sees is =
+      let Rest = PlayedFrom op_of origin moves steps sights after in
+      if-sees (sights other) (λ branch. TakesOne (IsJoined origin moves branch from) Rest last places ⊎ TakesNone moves (BringsNothing origin branch from) Rest last places)
+      (λ branch both. ⊎_elim
+      (λ one. one-sees (IsJoined origin moves branch from) Rest last places (λ place more rest. sees-on steps sights place more sees rest) one)
+      (λ none. sees-on steps sights (length none.before) places sees none.rest)
+      both)
+      is
+  sees-on (Drop other ∷ steps) sights last places sees is =
+      let Rest = PlayedFrom op_of origin moves steps sights after in
+      if-sees (sights other) (λ branch. TakesOne (λ place. IsMoveAt moves place (move.Drop branch)) Rest last places)
+      (λ branch one. one-sees (λ place. IsMoveAt moves place (move.Drop branch)) Rest last places (λ place more rest. sees-on steps sights place more sees rest) one)
+      is
+
+  looks-see : (branch : List ℕ) (rest : List Step) (last : ℕ) (places : List ℕ) → IsSession session → PlayedFrom op_of origin moves (Look own branch ∷ Look top (codes "main") ∷ rest) no_sights after last places → Sees after
+  looks-see branch rest last places is played =
+      let second = played.1.rest in
+      sees-on rest (started played.0 second.0) (length second.1.before) places (session-started played.0 second.0 session is) second.1.rest
+
+  starts-see : (branch : List ℕ) (rest : List Step) (last : ℕ) (places : List ℕ) → IsSession session
+      → PlayedFrom op_of origin moves (Fork branch (codes "main") ∷ Look own branch ∷ Look top (codes "main") ∷ rest) no_sights after last places → Sees after
+  starts-see branch rest last places is played =
+      let Rest = PlayedFrom op_of origin moves (Look own branch ∷ Look top (codes "main") ∷ rest) no_sights after in
+      ⊎_elim
+      (λ one. one-sees (IsForked origin moves branch (codes "main")) Rest last places (λ place more next. looks-see branch rest place more is next) one)
+      (λ none. looks-see branch rest (length none.before) places is none.rest)
+      played
+
+drawn-sees : (branch : List ℕ) (after : Sights) → ((session : List ℕ) → IsSession session → after session ≡ None → ⊥) → (s : Step) → IsDrawn branch s → SeesNone after s → ⊥
+drawn-sees branch after sees (Do session op) is none = sees session is none
+drawn-sees branch after sees (Merge session from) is none = sees session is.0 none
+drawn-sees branch after sees (Join session from) is none = absurd is
+drawn-sees branch after sees (Look session from) is none = absurd is
+drawn-sees branch after sees (Fork new from) is none = absurd is
+drawn-sees branch after sees (Ask from query) is none = absurd is
+drawn-sees branch after sees (Drop session) is none = absurd is
 
 -- no session of a client's step sees none
-pub client-sees : (client steps number k : ℕ) (s : Step) → slice_get (client_steps client steps number) k ≡ Some s → SeesNone (sights_after (take k (client_steps client steps number)) no_sights) s → ⊥
-unfolding client_steps
-client-sees client steps number zero s is none = let same : s ≡ Fork (client_branch client) (codes "main") = cc in subst (SeesNone no_sights) same none
-client-sees client steps number (suc zero) s is none = let same : s ≡ Look own (client_branch client) = cc in subst (SeesNone no_sights) same none
-client-sees client steps number (suc (suc zero)) s is none = let same : s ≡ Look top (codes "main") = cc in subst (SeesNone (with_sight no_sights own (client_branch client))) same none
-client-sees client steps number (suc (suc (suc k))) s is none =
+pub client-sees : {O R : Type 0} (op_of : PlainOp → O) (origin begun : ℕ) (moves : List (Move O R)) (client steps number k : ℕ) (s : Step) (places : List ℕ) (after : Sights)
+    → slice_get (client_steps client steps number) k ≡ Some s → PlayedTo op_of origin begun (take k (client_steps client steps number)) places moves after → SeesNone after s → ⊥
+unfolding client_steps PlayedTo
+client-sees op_of origin begun moves client steps number zero s places after is played none = let same : s ≡ Fork (client_branch client) (codes "main") = cc in subst (SeesNone after) same none
+client-sees op_of origin begun moves client steps number (suc zero) s places after is played none = let same : s ≡ Look own (client_branch client) = cc in subst (SeesNone after) same none
+client-sees op_of origin begun moves client steps number (suc (suc zero)) s places after is played none = let same : s ≡ Look top (codes "main") = cc in subst (SeesNone after) same none
+client-sees op_of origin begun moves client steps number (suc (suc (suc k))) s places after is played none =
     let x : ℕ = (number + client) % 2 ^ 64 in
     let branch : List ℕ = client_branch client in
-    drawn-sees branch s (steps-drawn branch steps x k s is) (subst (λ sights. SeesNone sights s) (steps-see branch steps x k (started branch)) none)
+    drawn-sees branch after (λ session of_client. starts-see op_of origin moves after session branch (take k (drawn_steps branch steps x)) begun places of_client played)
+    s (steps-drawn branch steps x k s is) none
 
 module _ {S O R Q A : Type 0} (on : Setting S O R Q A) (moves : List (Move O R)) (within : IsWithin on.fixed.terms moves) where
   -- what the machine says where a client knows its branches
@@ -247,25 +321,25 @@ module _ {S O R Q A : Type 0} (on : Setting S O R Q A) (moves : List (Move O R))
   says-full : (step : machine.Step O Q) (why : machine.Refusal) → (turn on.fixed.meaning on.fixed.terms moves step ≡ answers (machine.Refused why) → SaysNone why) → FullyRefuses on.fixed moves step why → SaysNone why
   says-full step why rest is = reason-full SaysNone on.fixed moves step why (λ stored fresh is. (is.0, refl, is.1)) rest is
 
-  says-seen : (branch : Option (List ℕ)) (Does : List ℕ → Type 0) (why : machine.Refusal) → ((name : List ℕ) → Does name → SaysNone why) → IfSees branch Does → SaysNone why
+  says-seen : (branch : Option ℕ) (Does : ℕ → Type 0) (why : machine.Refusal) → ((number : ℕ) → Does number → SaysNone why) → IfSees branch Does → SaysNone why
   says-seen None Does why does is = absurd is
-  says-seen (Some name) Does why does is = does name is
+  says-seen (Some number) Does why does is = does number is
 
   knows-says : (sights : Sights) (s : Step) (why : machine.Refusal) → Knows on.fixed.terms.origin moves s → RefusesStep on moves sights s why → SaysNone why
   knows-says sights (Look session from) why knows is = says-full (machine.Look from) why (says-look on.fixed moves within (λ name. ⊥) from why knows) is
   knows-says sights (Ask from query) why knows is = says-full (machine.Look from) why (says-look on.fixed moves within (λ name. ⊥) from why knows) is
   knows-says sights (Fork new from) why knows is = says-full (machine.Fork new from) why (says-fork on.fixed moves within (λ name. ⊥) new from why knows) is
   knows-says sights (Do session op) why knows is =
-      says-seen (sights session) (λ branch. (number head : ℕ) × WasHead on.fixed.terms.origin moves branch number head × FullyRefuses on.fixed moves (machine.Land number head (on.op_of op)) why) why
-      (λ branch does. says-full (machine.Land does.0 does.1 (on.op_of op)) why (says-land on.fixed moves within (λ name. ⊥) does.0 does.1 (on.op_of op) why) does.3)
+      says-seen (sights session) (λ branch. (head : ℕ) × HadHead on.fixed.terms.origin moves branch head × FullyRefuses on.fixed moves (machine.Land branch head (on.op_of op)) why) why
+      (λ branch does. says-full (machine.Land branch does.0 (on.op_of op)) why (says-land on.fixed moves within (λ name. ⊥) branch does.0 (on.op_of op) why) does.2)
       is
   knows-says sights (Merge session from) why knows is =
       says-seen (sights session)
       (λ branch. FullyRefuses on.fixed moves (machine.Look from) why
-      ⊎ ((number head source commit : ℕ) × WasHead on.fixed.terms.origin moves branch number head × WasHead on.fixed.terms.origin moves from source commit × FullyRefuses on.fixed moves (machine.Merge number head (commit ∷ [])) why)) why
+      ⊎ ((head source commit : ℕ) × HadHead on.fixed.terms.origin moves branch head × WasHead on.fixed.terms.origin moves from source commit × FullyRefuses on.fixed moves (machine.Merge branch head (commit ∷ [])) why)) why
       (λ branch does. ⊎_elim
       (λ look. says-full (machine.Look from) why (says-look on.fixed moves within (λ name. ⊥) from why knows) look)
-      (λ merge. says-full (machine.Merge merge.0 merge.1 (merge.3 ∷ [])) why (says-merge on.fixed moves within (λ name. ⊥) merge.0 merge.1 (merge.3 ∷ []) why) merge.6)
+      (λ merge. says-full (machine.Merge branch merge.0 (merge.2 ∷ [])) why (says-merge on.fixed moves within (λ name. ⊥) branch merge.0 (merge.2 ∷ []) why) merge.5)
       does)
       is
   knows-says sights (Join session from) why knows is =
@@ -274,9 +348,10 @@ module _ {S O R Q A : Type 0} (on : Setting S O R Q A) (moves : List (Move O R))
       (λ look.
       let there = all-second (IsThere on.fixed.terms.origin moves) look.first (look.name ∷ look.rest) (subst (AllByRecursion (IsThere on.fixed.terms.origin moves)) look.is knows) in
       says-full (machine.Look look.name) why (says-look on.fixed moves within (λ name. ⊥) look.name why there.0) look.refused)
-      (λ join. says-full (machine.Merge join.number join.head join.heads) why (says-merge on.fixed moves within (λ name. ⊥) join.number join.head join.heads why) join.refused)
+      (λ join. says-full (machine.Merge branch join.head join.heads) why (says-merge on.fixed moves within (λ name. ⊥) branch join.head join.heads why) join.refused)
       does)
       is
+  knows-says sights (Drop session) why knows is = absurd knows
 
   -- and what a longer history says
   module _ (later : List (Move O R)) (grows : IsPrefix moves later) (bounds : IsWithin on.fixed.terms later) where
@@ -307,6 +382,7 @@ module _ {S O R Q A : Type 0} (on : Setting S O R Q A) (moves : List (Move O R))
         let origin : ℕ = on.fixed.terms.origin in
         let dropped : is_dropped (store_of origin moves).branches branch ≡ true = knows-says sights s (machine.Dropped branch) knows is in
         dropped-before origin old drops.more branch drops.none (ap (λ (ms : List (Move O R)). is_dropped (store_of origin ms).branches branch) drops.is ∙ dropped)
+    says-may old drops refusal.KeepsMain faults sights s knows is = knows-says sights s machine.KeepsMain knows is
     says-may old drops (refusal.Exhausted clock) faults sights s knows is = knows-says sights s (machine.Exhausted clock) knows is
     says-may old drops (refusal.FullCommits count) faults sights s knows is =
         let says = knows-says sights s (machine.FullCommits count) knows is in
@@ -337,10 +413,10 @@ module _ {S O R Q A : Type 0} (on : Setting S O R Q A) (old new : List (Move O R
   pub may-come : (faults client steps number : ℕ) (outcome : Outcome) → ComesTo on old new faults (client_steps client steps number) outcome → MayComeTo on.fixed old new outcome
   may-come faults client steps number (Done places) is = tt
   may-come faults client steps number (Refused k r places) is =
-      says-may on is.before (within is.before is.begins) new is.begins (within new ([], append-nil new)) old (drops-none is.before is.begun is.begins) r faults (sights_after (take k (client_steps client steps number)) no_sights) is.step
-      (client-knows on.fixed.terms.origin old is.before (goes-on-from old is.before new drops is.begins) (main is.before is.begins) on.op_of client steps number k is.step places is.is_step is.played)
+      says-may on is.before (within is.before is.begins) new is.begins (within new ([], append-nil new)) old (drops-none is.before is.begun is.begins) r faults is.sights is.step
+      (client-knows on.fixed.terms.origin old is.before (goes-on-from old is.before new drops is.begins) (main is.before is.begins) on.op_of client steps number k is.step places is.sights is.is_step is.played)
       is.refused
-  may-come faults client steps number (Unseen k places) is = client-sees client steps number k is.step is.is_step is.unseen
+  may-come faults client steps number (Unseen k places) is = client-sees on.op_of on.fixed.terms.origin (length old) new client steps number k is.step places is.sights is.is_step is.played is.unseen
 
 -- each first part of a valid history is within the terms
 pub first-within : {S O R Q A : Type 0} (m : Meaning S O R Q A) (terms : Terms) (address : List ℕ → List ℕ) → KeepsLimits m → MakesFewerMoves m → HasFullyValidPrefixes m

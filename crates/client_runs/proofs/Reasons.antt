@@ -22,12 +22,12 @@ use Rattle.branch_machine.proofs.Stored.{same-eq, same-refl}
 use Rattle.branch_machine.specs.Machine.{collision_refusal, commit_here, unless_here, unless_made, full_turn}
 
 -- What a refusal after a history says: a full store has the count that is told, which is the limit; a clock is at the limit, and a value is over it; objects that
--- collide have one address and other bytes; a branch that is told to be dropped is so.
+-- collide have one address and other bytes; a branch that is told to be dropped is so. Only a drop is refused since `main` stays.
 abbrev pub Says : {S O R Q A : Type 0} → Fixed S O R Q A → List (Move O R) → (List ℕ → Type 0) → Refusal → Type 0
 Says fixed moves Unknown (UnknownBranch name) = Unknown name
 Says fixed moves Unknown (NameTaken number) = Unit {0}
 Says fixed moves Unknown (Dropped number) = is_dropped (store_of fixed.terms.origin moves).branches number ≡ true
-Says fixed moves Unknown KeepsMain = Unit {0}
+Says fixed moves Unknown KeepsMain = ⊥
 Says fixed moves Unknown (Stale newest) = Unit {0}
 Says fixed moves Unknown (Exhausted clock) = clock ≡ fixed.terms.limits.clock
 Says fixed moves Unknown (FullCommits count) = (count ≡ fixed.terms.limits.commits) × (count ≡ length (store_of fixed.terms.origin moves).commits)

@@ -21,11 +21,12 @@ pub record HaveRun {S O R Q A : Type 0} (on : Setting S O R Q A) (old new : List
   pub each : AllZip (IsOutcome on old new faults) scripts outcomes
   pub counted : length new ≡ length old + count_places outcomes
 
--- What may refuse a client of drawn steps, where a history grew from an old one to a new one: no unknown branch, and none that was dropped since. A full store has the
+-- What may refuse a client of drawn steps, where a history grew from an old one to a new one: no unknown branch, none that was dropped since, and no drop. A full store has the
 -- count that is told, which is the limit; a clock is exhausted at the limit, and a value is too large over the limit. Objects that collide have one address and other bytes.
 abbrev pub MayRefuse : {S O R Q A : Type 0} → Fixed S O R Q A → List (Move O R) → List (Move O R) → ClientRefusal → Type 0
 MayRefuse fixed old new (refusal.UnknownBranch name) = ⊥
 MayRefuse fixed old new (refusal.Dropped branch) = is_dropped (store_of fixed.terms.origin old).branches branch ≡ true
+MayRefuse fixed old new refusal.KeepsMain = ⊥
 MayRefuse fixed old new (refusal.Exhausted clock) = clock ≡ fixed.terms.limits.clock
 MayRefuse fixed old new (refusal.FullCommits count) = (count ≡ fixed.terms.limits.commits) × (count ≡ length (store_of fixed.terms.origin new).commits)
 MayRefuse fixed old new (refusal.FullBranches count) = (count ≡ fixed.terms.limits.branches) × (count ≡ length (store_of fixed.terms.origin new).branches)

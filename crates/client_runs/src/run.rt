@@ -52,7 +52,10 @@ pub fn run_on<
     ensures terms { result.core.terms ≡ core.terms }
     ensures opened { D.faults result.core.opened ≡ D.faults core.opened }
     ensures faults { D.faults core.disk ≤ D.faults result.core.disk }
-    ensures worked { IfOk result.outcomes (HaveWorked (setting (fix T.meaning core.terms A.address) T.op_of (D.faults core.opened)) core.history result.core.history (faults_since D.faults result.core) work.count work.steps work.number) }
+    ensures worked { IfOk result.outcomes
+        (HaveWorked (setting (fix T.meaning core.terms A.address) T.op_of (D.faults core.opened))
+        core.history result.core.history (faults_since D.faults result.core) work.count work.steps
+        work.number) }
     ensures idle { OnErr result.outcomes (result.core.history ≡ core.history) }
 {
     keeps_limits::<T>();

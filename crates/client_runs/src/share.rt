@@ -1,11 +1,11 @@
 // A core that clients share for the time of their scripts.
-ghost use Rattle.std.specs.Prelude.{◌≡◌, ◌*◌, ◌<◌, ◌≤◌, length, IfOk, OnErr};
+ghost use Rattle.std.specs.Prelude.{◌≡◌, ◌*◌, ◌<◌, ◌≤◌, false, length, IfOk, OnErr};
 ghost use mathlib.Core.List.{IsPrefix};
 ghost use Rattle.branch_machine.specs.Fixed.{fix};
 ghost use Rattle.branch_machine.specs.Validity.{IsFullyValid};
 ghost use Rattle.branch_shared.specs.Keeps.{DropsNone, faults_since};
 ghost use Rattle.branch_shared.specs.Names.{IsNamed};
-ghost use Rattle.parallel_clients.specs.Outcomes.{setting};
+ghost use Rattle.parallel_clients.specs.Outcomes.{MayDropIn, setting};
 ghost use Rattle.client_runs.specs.Worked.{HaveRun};
 
 use branch_address::Address;
@@ -40,6 +40,8 @@ pub(crate) fn share<
 >(rt: &R, alloc: Global, blank: Blank<T, D, A>, scripts: &[Listing<Step>]) -> Finished<T, D, A>
     requires name { IsNamed blank N.table N.begun N.terms N.parts N.opened }
     requires parts { 2 * length scripts.now < blank.parts }
+    requires drops { N.drops ≡ false }
+    requires scripts { MayDropIn N.drops scripts.now }
     ensures grows { IsPrefix blank.core.history result.core.history }
     ensures drops_none { DropsNone blank.core.history result.core.history }
     ensures valid { IsFullyValid (fix T.meaning blank.core.terms A.address) result.core.history }
@@ -47,7 +49,9 @@ pub(crate) fn share<
     ensures opened { D.faults result.core.opened ≡ blank.opened }
     ensures later { D.faults result.core.opened ≤ D.faults result.core.disk }
     ensures faults { faults_since D.faults blank.core ≤ faults_since D.faults result.core }
-    ensures ran { IfOk result.outcomes (HaveRun (setting (fix T.meaning blank.core.terms A.address) T.op_of blank.opened) blank.core.history result.core.history (faults_since D.faults result.core) scripts.now) }
+    ensures ran { IfOk result.outcomes
+        (HaveRun (setting (fix T.meaning blank.core.terms A.address) T.op_of blank.opened)
+        blank.core.history result.core.history (faults_since D.faults result.core) scripts.now) }
     ensures idle { OnErr result.outcomes (result.core.history ≡ blank.core.history) }
 {
     stays_outcome::<T>();

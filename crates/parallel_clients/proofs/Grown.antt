@@ -9,12 +9,12 @@ use Rattle.branch_history.specs.declared.moves.Move.TheVariants as move
 use Rattle.branch_history.proofs.Lists.{slice_get-append}
 use Rattle.branch_doc.specs.declared.plain.PlainOp.{PlainOp}
 use Rattle.branch_script.specs.declared.step.Step.{Step}
-use Rattle.branch_script.specs.declared.step.Step.TheVariants.{Look, Fork, Merge, Join, Do, Ask}
+use Rattle.branch_script.specs.declared.step.Step.TheVariants.{Look, Fork, Merge, Join, Do, Ask, Drop}
 use Rattle.parallel_clients.specs.declared.outcome.ClientRefusal.{ClientRefusal}
-use Rattle.parallel_clients.specs.declared.outcome.ClientRefusal.TheVariants.{UnknownBranch, Dropped, Exhausted, FullCommits, FullBranches, FullMoves, ValueTooLarge, Collision, DiskFault, Failed, Memory}
+use Rattle.parallel_clients.specs.declared.outcome.ClientRefusal.TheVariants.{UnknownBranch, Dropped, KeepsMain, Exhausted, FullCommits, FullBranches, FullMoves, ValueTooLarge, Collision, DiskFault, Failed, Memory}
 use Rattle.parallel_clients.specs.declared.outcome.Outcome.{Outcome}
 use Rattle.parallel_clients.specs.declared.outcome.Outcome.TheVariants.{Done, Refused, Unseen}
-use Rattle.parallel_clients.specs.Played.{Sights, no_sights, with_sight, sights_after, IsMoveAt, HasBranch, IsDone, IsForked, IsMerged, IsJoined, IsTaken, IsReached, BringsNothing, TakesOne, TakesNone, PlayedFrom, Played}
+use Rattle.parallel_clients.specs.Played.{Sights, no_sights, with_sight, IsMoveAt, HasNumber, HasBranch, IsDone, IsForked, IsMerged, IsJoined, IsTaken, IsReached, BringsNothing, TakesOne, TakesNone, PlayedFrom, PlayedTo, Played}
 use Rattle.parallel_clients.specs.Outcomes.{Setting, HasFailed, StepRefused, ComesTo, StaysOutcome}
 use Rattle.parallel_clients.proofs.Went.{named-later, head-later, joins-later, sees-more}
 
@@ -24,23 +24,21 @@ module _ {O R : Type 0} (op_of : PlainOp → O) (origin : ℕ) (moves later : Li
       let there : place - 1 < length moves = slice_get_within moves (place - 1) made at in
       subst (λ ms. IsMoveAt ms place made) grows.1 (slice_get-append moves grows.0 (place - 1) there ∙ at)
 
-  done-later : (branch : List ℕ) (op : O) (place : ℕ) → IsDone origin moves branch op place → IsDone origin later branch op place
-  done-later branch op place is = record { number = is.number; named = named-later origin moves later grows branch is.number is.named; reply = is.reply; made = move-later place (move.Operation is.number op is.reply) is.made }
+  done-later : (branch : ℕ) (op : O) (place : ℕ) → IsDone moves branch op place → IsDone later branch op place
+  done-later branch op place is = record { reply = is.reply; made = move-later place (move.Operation branch op is.reply) is.made }
 
   forked-later : (new from : List ℕ) (place : ℕ) → IsForked origin moves new from place → IsForked origin later new from place
   forked-later new from place is = record { number = is.number; source = is.source; named = named-later origin moves later grows from is.source is.named; made = move-later place (move.Fork new is.number is.source) is.made }
 
-  merged-later : (branch from : List ℕ) (place : ℕ) → IsMerged origin moves branch from place → IsMerged origin later branch from place
+  merged-later : (branch : ℕ) (from : List ℕ) (place : ℕ) → IsMerged origin moves branch from place → IsMerged origin later branch from place
   merged-later branch from place is = record {
-    number = is.number;
     source = is.source;
     commit = is.commit;
-    named = named-later origin moves later grows branch is.number is.named;
     head = head-later origin moves later grows from is.source is.commit is.head;
-    made = ⊎_elim (λ m. inl (move-later place (move.Merge is.number is.commit) m)) (λ m. inr (move-later place (move.Forward is.number is.commit) m)) is.made;
+    made = ⊎_elim (λ m. inl (move-later place (move.Merge branch is.commit) m)) (λ m. inr (move-later place (move.Forward branch is.commit) m)) is.made;
   }
 
-  joined-later : (branch : List ℕ) (from : List (List ℕ)) (place : ℕ) → IsJoined origin moves branch from place → IsJoined origin later branch from place
+  joined-later : (branch : ℕ) (from : List (List ℕ)) (place : ℕ) → IsJoined origin moves branch from place → IsJoined origin later branch from place
   joined-later branch from place is = record { made = is.made; joins = joins-later origin moves later grows branch from is.made is.joins; at = move-later place is.made is.at }
 
   none-later : (Holds : List (Move O R) → Type 0) (Rest Rest' : ℕ → List ℕ → Type 0) → ((place : ℕ) (places : List ℕ) → Rest place places → Rest' place places)
@@ -58,52 +56,62 @@ module _ {O R : Type 0} (op_of : PlainOp → O) (origin : ℕ) (moves later : Li
   takes-later Is Is' Rest Rest' one rest last [] is = is
   takes-later Is Is' Rest Rest' one rest last (place ∷ places) is = (is.0, one place is.1, rest place places is.2)
 
-  pub played_from-later : (steps : List Step) (sights : Sights) (last : ℕ) (places : List ℕ) → PlayedFrom op_of origin moves steps sights last places → PlayedFrom op_of origin later steps sights last places
-  played_from-later [] sights last places is = is
-  played_from-later (Look session branch ∷ steps) sights last places is =
-      let seen = with_sight sights session branch in
-      none-later (HasBranch origin branch) (PlayedFrom op_of origin moves steps seen) (PlayedFrom op_of origin later steps seen) (played_from-later steps seen) last places is
-  played_from-later (Ask branch query ∷ steps) sights last places is =
-      none-later (HasBranch origin branch) (PlayedFrom op_of origin moves steps sights) (PlayedFrom op_of origin later steps sights) (played_from-later steps sights) last places is
-  played_from-later (Do session op ∷ steps) sights last places is =
-      let Rest = PlayedFrom op_of origin moves steps sights in
-      let Rest' = PlayedFrom op_of origin later steps sights in
-      sees-more (λ branch. TakesOne (IsDone origin moves branch (op_of op)) Rest last places) (λ branch. TakesOne (IsDone origin later branch (op_of op)) Rest' last places)
-      (λ branch. takes-later (IsDone origin moves branch (op_of op)) (IsDone origin later branch (op_of op)) Rest Rest' (done-later branch (op_of op)) (played_from-later steps sights) last places)
+  pub played_from-later : (steps : List Step) (sights after : Sights) (last : ℕ) (places : List ℕ) → PlayedFrom op_of origin moves steps sights after last places → PlayedFrom op_of origin later steps sights after last places
+  played_from-later [] sights after last places is = is
+  played_from-later (Look session branch ∷ steps) sights after last places is =
+      let seen = with_sight sights session is.0 in
+      (is.0, none-later (HasNumber origin branch is.0) (PlayedFrom op_of origin moves steps seen after) (PlayedFrom op_of origin later steps seen after) (played_from-later steps seen after) last places is.1)
+  played_from-later (Ask branch query ∷ steps) sights after last places is =
+      none-later (HasBranch origin branch) (PlayedFrom op_of origin moves steps sights after) (PlayedFrom op_of origin later steps sights after) (played_from-later steps sights after) last places is
+  played_from-later (Do session op ∷ steps) sights after last places is =
+      let Rest = PlayedFrom op_of origin moves steps sights after in
+      let Rest' = PlayedFrom op_of origin later steps sights after in
+      sees-more (λ branch. TakesOne (IsDone moves branch (op_of op)) Rest last places) (λ branch. TakesOne (IsDone later branch (op_of op)) Rest' last places)
+      (λ branch. takes-later (IsDone moves branch (op_of op)) (IsDone later branch (op_of op)) Rest Rest' (done-later branch (op_of op)) (played_from-later steps sights after) last places)
       (sights session) is
-  played_from-later (Fork new from ∷ steps) sights last places is =
-      let Rest = PlayedFrom op_of origin moves steps sights in
-      let Rest' = PlayedFrom op_of origin later steps sights in
+  played_from-later (Fork new from ∷ steps) sights after last places is =
+      let Rest = PlayedFrom op_of origin moves steps sights after in
+      let Rest' = PlayedFrom op_of origin later steps sights after in
       ⊎_elim
-      (λ one. inl (takes-later (IsForked origin moves new from) (IsForked origin later new from) Rest Rest' (forked-later new from) (played_from-later steps sights) last places one))
-      (λ none. inr (none-later (IsTaken origin new from) Rest Rest' (played_from-later steps sights) last places none))
+      (λ one. inl (takes-later (IsForked origin moves new from) (IsForked origin later new from) Rest Rest' (forked-later new from) (played_from-later steps sights after) last places one))
+      (λ none. inr (none-later (IsTaken origin new from) Rest Rest' (played_from-later steps sights after) last places none))
       is
-  played_from-later (Merge session from ∷ steps) sights last places is =
-      let Rest = PlayedFrom op_of origin moves steps sights in
-      let Rest' = PlayedFrom op_of origin later steps sights in
+  played_from-later (Merge session from ∷ steps) sights after last places is =
+      let Rest = PlayedFrom op_of origin moves steps sights after in
+      let Rest' = PlayedFrom op_of origin later steps sights after in
       sees-more
       (λ branch. TakesOne (IsMerged origin moves branch from) Rest last places ⊎ TakesNone moves (IsReached origin branch from) Rest last places)
       (λ branch. TakesOne (IsMerged origin later branch from) Rest' last places ⊎ TakesNone later (IsReached origin branch from) Rest' last places)
       (λ branch both. ⊎_elim
-      (λ one. inl (takes-later (IsMerged origin moves branch from) (IsMerged origin later branch from) Rest Rest' (merged-later branch from) (played_from-later steps sights) last places one))
-      (λ none. inr (none-later (IsReached origin branch from) Rest Rest' (played_from-later steps sights) last places none))
+      (λ one. inl (takes-later (IsMerged origin moves branch from) (IsMerged origin later branch from) Rest Rest' (merged-later branch from) (played_from-later steps sights after) last places one))
+      (λ none. inr (none-later (IsReached origin branch from) Rest Rest' (played_from-later steps sights after) last places none))
       both)
       (sights session) is
-  played_from-later (Join session from ∷ steps) sights last places is =
-      let Rest = PlayedFrom op_of origin moves steps sights in
-      let Rest' = PlayedFrom op_of origin later steps sights in
+  played_from-later (Join session from ∷ steps) sights after last places is =
+      let Rest = PlayedFrom op_of origin moves steps sights after in
+      let Rest' = PlayedFrom op_of origin later steps sights after in
       sees-more
       (λ branch. TakesOne (IsJoined origin moves branch from) Rest last places ⊎ TakesNone moves (BringsNothing origin branch from) Rest last places)
       (λ branch. TakesOne (IsJoined origin later branch from) Rest' last places ⊎ TakesNone later (BringsNothing origin branch from) Rest' last places)
       (λ branch both. ⊎_elim
-      (λ one. inl (takes-later (IsJoined origin moves branch from) (IsJoined origin later branch from) Rest Rest' (joined-later branch from) (played_from-later steps sights) last places one))
-      (λ none. inr (none-later (BringsNothing origin branch from) Rest Rest' (played_from-later steps sights) last places none))
+      (λ one. inl (takes-later (IsJoined origin moves branch from) (IsJoined origin later branch from) Rest Rest' (joined-later branch from) (played_from-later steps sights after) last places one))
+      (λ none. inr (none-later (BringsNothing origin branch from) Rest Rest' (played_from-later steps sights after) last places none))
       both)
       (sights session) is
+  played_from-later (Drop session ∷ steps) sights after last places is =
+      let Rest = PlayedFrom op_of origin moves steps sights after in
+      let Rest' = PlayedFrom op_of origin later steps sights after in
+      sees-more (λ branch. TakesOne (λ place. IsMoveAt moves place (move.Drop branch)) Rest last places) (λ branch. TakesOne (λ place. IsMoveAt later place (move.Drop branch)) Rest' last places)
+      (λ branch. takes-later (λ place. IsMoveAt moves place (move.Drop branch)) (λ place. IsMoveAt later place (move.Drop branch)) Rest Rest' (λ place at. move-later place (move.Drop branch) at)
+      (played_from-later steps sights after) last places)
+      (sights session) is
+
+  pub played_to-later : (begun : ℕ) (steps : List Step) (places : List ℕ) (after : Sights) → PlayedTo op_of origin begun steps places moves after → PlayedTo op_of origin begun steps places later after
+  unfolding PlayedTo
+  played_to-later begun steps places after is = played_from-later steps no_sights after begun places is
 
   pub played-later : (begun : ℕ) (steps : List Step) (places : List ℕ) → Played op_of origin begun steps places moves → Played op_of origin begun steps places later
-  unfolding Played
-  played-later begun steps places is = played_from-later steps no_sights begun places is
+  played-later begun steps places is = (is.0, played_to-later begun steps places is.0 is.1)
 
 -- a disk that has failed has failed when more faults are known
 pub failed-later : {S O R Q A : Type 0} (on : Setting S O R Q A) (few many : ℕ) → few ≤ many → HasFailed on few → HasFailed on many
@@ -113,6 +121,7 @@ module _ {S O R Q A : Type 0} (on : Setting S O R Q A) (moves : List (Move O R))
   pub refused-later : (refusal : ClientRefusal) → StepRefused on moves few sights step refusal → StepRefused on moves many sights step refusal
   refused-later (UnknownBranch name) h = h
   refused-later (Dropped branch) h = h
+  refused-later KeepsMain h = h
   refused-later (Exhausted clock) h = h
   refused-later (FullCommits count) h = h
   refused-later (FullBranches count) h = h
@@ -133,13 +142,15 @@ comes-later on old new later few many steps (Refused number refusal places) grow
   before = is.before;
   begun = is.begun;
   begins = prefix_trans is.before new later is.begins grows;
+  sights = is.sights;
   played = is.played;
-  refused = refused-later on is.before few many le (sights_after (take number steps) no_sights) is.step refusal is.refused;
+  refused = refused-later on is.before few many le is.sights is.step refusal is.refused;
 }
 comes-later on old new later few many steps (Unseen number places) grows le is = record {
   step = is.step;
   is_step = is.is_step;
-  played = played-later on.op_of on.fixed.terms.origin new later grows (length old) (take number steps) places is.played;
+  sights = is.sights;
+  played = played_to-later on.op_of on.fixed.terms.origin new later grows (length old) (take number steps) places is.sights is.played;
   unseen = is.unseen;
 }
 

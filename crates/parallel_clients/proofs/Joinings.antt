@@ -26,7 +26,7 @@ use Rattle.parallel_clients.specs.declared.sessions.Session.{Session}
 use Rattle.parallel_clients.specs.declared.landing.Landing.{Landing}
 use Rattle.parallel_clients.specs.declared.landing.Landing.TheVariants.{Moved, Stale, Same}
 use Rattle.parallel_clients.specs.declared.outcome.ClientRefusal.{ClientRefusal}
-use Rattle.parallel_clients.specs.declared.outcome.ClientRefusal.TheVariants.{UnknownBranch, Dropped, Exhausted, FullCommits, FullBranches, FullMoves, ValueTooLarge, Collision, DiskFault, Failed, Memory}
+use Rattle.parallel_clients.specs.declared.outcome.ClientRefusal.TheVariants.{UnknownBranch, Dropped, KeepsMain, Exhausted, FullCommits, FullBranches, FullMoves, ValueTooLarge, Collision, DiskFault, Failed, Memory}
 use Rattle.parallel_clients.specs.Played.{Sights, AreNamedHeads, WereHeads, IsMoveOf, IfSees}
 use Rattle.parallel_clients.specs.Outcomes.{Setting, RefusesLook, RefusesJoin, RefusesStep, StepRefused}
 use Rattle.parallel_clients.specs.Sessions.{IsSession, HasNothing, IsLanding, RefusesMade, IsLandRefused, IsTriedJoin, IsJoinUnready, ungrouped_as}
@@ -37,12 +37,12 @@ use Rattle.parallel_clients.proofs.Went.{heads-later}
 use Rattle.parallel_clients.proofs.Mergings.{moved-earlier, stayed-earlier}
 
 -- a join is refused of a session that sees a branch
-sees-refused : {S O R Q A : Type 0} (on : Setting S O R Q A) (moves : List (Move O R)) (sights : Sights) (session : List ℕ) (from : List (List ℕ)) (branch : List ℕ) → sights session ≡ Some branch → (why : machine.Refusal)
+sees-refused : {S O R Q A : Type 0} (on : Setting S O R Q A) (moves : List (Move O R)) (sights : Sights) (session : List ℕ) (from : List (List ℕ)) (branch : ℕ) → sights session ≡ Some branch → (why : machine.Refusal)
     → RefusesLook on moves from why ⊎ RefusesJoin on moves branch from why → RefusesStep on moves sights (Join session from) why
 sees-refused on moves sights session from branch sees why = subst (λ o. IfSees o (λ b. RefusesLook on moves from why ⊎ RefusesJoin on moves b from why)) (sym sees)
 
 -- a join of a head of no branch
-join-unknown : {S O R Q A : Type 0} (on : Setting S O R Q A) (moves : List (Move O R)) (sights : Sights) (session : List ℕ) (from : List (List ℕ)) (branch : List ℕ) → sights session ≡ Some branch → (name : List ℕ)
+join-unknown : {S O R Q A : Type 0} (on : Setting S O R Q A) (moves : List (Move O R)) (sights : Sights) (session : List ℕ) (from : List (List ℕ)) (branch : ℕ) → sights session ≡ Some branch → (name : List ℕ)
     → GroupRefusedAs on.fixed.meaning (record { history = moves; terms = on.fixed.terms }) from (pair_refusal.UnknownBranch name) → RefusesStep on moves sights (Join session from) (machine.UnknownBranch name)
 join-unknown on moves sights session from branch sees name none =
     let why : machine.Refusal = machine.UnknownBranch name in
@@ -64,7 +64,7 @@ join-ungrouped meaning core seen from (pair_refusal.UnknownBranch name) none = n
 join-ungrouped meaning core seen from pair_refusal.Memory none = tt
 
 module _ {S O R Q A : Type 0} (on : Setting S O R Q A) (old mid : PassView (Move O R)) (grows : IsPrefix old.moves mid.moves) (seen : IsSeenOn old mid)
-    (s : Session (SeenView (Move O R))) (is : IsSession on.fixed.terms old.moves s) (sights : Sights) (session : List ℕ) (from : List (List ℕ)) (sees : sights session ≡ Some s.branch)
+    (s : Session (SeenView (Move O R))) (is : IsSession on.fixed.terms old.moves s) (sights : Sights) (session : List ℕ) (from : List (List ℕ)) (sees : sights session ≡ Some s.seen.branch)
     (group : GroupView (Move O R)) (grouped : IsGrouped on.fixed.meaning (record { history = mid.moves; terms = on.fixed.terms }) s.seen from group) where
   here : IsSession on.fixed.terms mid.moves s
   here = session-later on.fixed.terms old.moves mid.moves s grows is
@@ -86,7 +86,7 @@ module _ {S O R Q A : Type 0} (on : Setting S O R Q A) (old mid : PassView (Move
   pub join-same : KeepsOrder on.fixed.meaning → RaisesHeads on.fixed.meaning → IsValid on.fixed.meaning on.fixed.terms mid.moves → (places : List ℕ) → MergesAllAs on.fixed.meaning group machine.Same
       → HasNothing on.fixed.terms.origin (sights session) from old mid places places
   join-same order raises valid places merges = record {
-    branch = s.branch;
+    branch = s.seen.branch;
     sees = sees;
     brings = session-brings on.fixed.terms mid.moves s here on.fixed.meaning order raises valid from group.others heads
         (merge-nothing on.fixed.meaning on.fixed.terms mid.moves s.seen.branch s.seen.head group.others (turned machine.Same merges));
@@ -96,9 +96,8 @@ module _ {S O R Q A : Type 0} (on : Setting S O R Q A) (old mid : PassView (Move
   -- a join that the machine refuses, after the grouping and later
   join-refused : (moves : List (Move O R)) → IsPrefix mid.moves moves → (why : machine.Refusal) → FullyRefuses on.fixed moves joining why → RefusesStep on moves sights (Join session from) why
   join-refused moves later why no_turn =
-      sees-refused on moves sights session from s.branch sees why
+      sees-refused on moves sights session from s.seen.branch sees why
       (inr (record {
-        number = s.seen.branch;
         head = s.seen.head;
         heads = group.others;
         seen = session-head on.fixed.terms moves s (session-later on.fixed.terms mid.moves moves s later here);
@@ -142,6 +141,7 @@ module _ {S O R Q A : Type 0} (on : Setting S O R Q A) (old mid : PassView (Move
         by : (r : ClientRefusal) → IsLandRefused on made new r → StepRefused on new.moves new.faults sights (Join session from) r
         by (UnknownBranch name) h = absurd h
         by (Dropped branch) h = no_turn (machine.Dropped branch) h
+        by KeepsMain h = absurd h
         by (Exhausted clock) h = absurd h
         by (FullCommits count) h = no_turn (machine.FullCommits count) h
         by (FullBranches count) h = absurd h
@@ -180,11 +180,10 @@ module _ {S O R Q A : Type 0} (on : Setting S O R Q A) (old mid : PassView (Move
       where
         by : (landing : Landing) → IsLanding (move_of made.seen.branch made.work) mid new places after landing → IsTriedJoin on.fixed.terms.origin (sights session) from old new places after landing
         by Moved moved = record {
-          branch = s.branch;
+          branch = s.seen.branch;
           sees = sees;
           made = move_of made.seen.branch made.work;
           joins = record {
-            number = s.seen.branch;
             head = s.seen.head;
             heads = group.others;
             before = mid.moves;
@@ -200,12 +199,13 @@ module _ {S O R Q A : Type 0} (on : Setting S O R Q A) (old mid : PassView (Move
 
 -- a join of which nothing was prepared
 pub join-unready : {S O R Q A : Type 0} (on : Setting S O R Q A) (old mid : PassView (Move O R)) → IsPrefix old.moves mid.moves → IsSeenOn old mid → (s : Session (SeenView (Move O R))) → IsSession on.fixed.terms old.moves s
-    → (sights : Sights) (session : List ℕ) (from : List (List ℕ)) → sights session ≡ Some s.branch → (refusal : ClientRefusal)
+    → (sights : Sights) (session : List ℕ) (from : List (List ℕ)) → sights session ≡ Some s.seen.branch → (refusal : ClientRefusal)
     → IsJoinUnready on.fixed.meaning (record { history = mid.moves; terms = on.fixed.terms }) s.seen from refusal → StepRefused on mid.moves mid.faults sights (Join session from) refusal
-join-unready on old mid grows seen s is sights session from sees (UnknownBranch name) h = join-unknown on mid.moves sights session from s.branch sees name h
+join-unready on old mid grows seen s is sights session from sees (UnknownBranch name) h = join-unknown on mid.moves sights session from s.seen.branch sees name h
 join-unready on old mid grows seen s is sights session from sees (ValueTooLarge size) h =
     join-unprepared on old mid grows seen s is sights session from sees h.group h.grouped (machine.ValueTooLarge size) h.refused
 join-unready on old mid grows seen s is sights session from sees (Dropped branch) h = absurd h
+join-unready on old mid grows seen s is sights session from sees KeepsMain h = absurd h
 join-unready on old mid grows seen s is sights session from sees (Exhausted clock) h = absurd h
 join-unready on old mid grows seen s is sights session from sees (FullCommits count) h = absurd h
 join-unready on old mid grows seen s is sights session from sees (FullBranches count) h = absurd h

@@ -8,6 +8,7 @@ pub mod Sessioned
 pub mod Tried
 pub mod Mergings
 pub mod Joinings
+pub mod Droppings
 pub mod Runs
 pub mod Ended
 pub mod Started

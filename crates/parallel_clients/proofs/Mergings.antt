@@ -24,12 +24,12 @@ use Rattle.parallel_clients.specs.declared.sessions.Session.{Session}
 use Rattle.parallel_clients.specs.declared.landing.Landing.{Landing}
 use Rattle.parallel_clients.specs.declared.landing.Landing.TheVariants.{Moved, Stale, Same}
 use Rattle.parallel_clients.specs.declared.outcome.ClientRefusal.{ClientRefusal}
-use Rattle.parallel_clients.specs.declared.outcome.ClientRefusal.TheVariants.{UnknownBranch, Dropped, Exhausted, FullCommits, FullBranches, FullMoves, ValueTooLarge, Collision, DiskFault, Failed, Memory}
-use Rattle.parallel_clients.specs.Played.{Sights, WasHead, IfSees}
+use Rattle.parallel_clients.specs.declared.outcome.ClientRefusal.TheVariants.{UnknownBranch, Dropped, KeepsMain, Exhausted, FullCommits, FullBranches, FullMoves, ValueTooLarge, Collision, DiskFault, Failed, Memory}
+use Rattle.parallel_clients.specs.Played.{Sights, WasHead, HadHead, IfSees}
 use Rattle.parallel_clients.specs.Outcomes.{Setting, RefusesStep, StepRefused}
 use Rattle.parallel_clients.specs.Sessions.{Sessions, IsSession, IsWaiting, Advances, HasMoved, HasStayed, HasMerged, HasSame, IsLanding, RefusesMade, IsLandRefused, IsTriedMerge}
 use Rattle.parallel_clients.proofs.Machines.{full-answers}
-use Rattle.parallel_clients.proofs.Sessioned.{session-named, session-head, session-later, session-reaches}
+use Rattle.parallel_clients.proofs.Sessioned.{session-head, session-later, session-reaches}
 use Rattle.parallel_clients.proofs.Turned.{look-named, merge-reaches}
 use Rattle.parallel_clients.proofs.Went.{head-later}
 
@@ -52,23 +52,23 @@ stayed-earlier {M} old mid new places after seen stayed = record {
 }
 
 -- a merge is refused of a session that sees a branch
-sees-refused : {S O R Q A : Type 0} (on : Setting S O R Q A) (moves : List (Move O R)) (sights : Sights) (session from branch : List ℕ) → sights session ≡ Some branch → (why : machine.Refusal)
+sees-refused : {S O R Q A : Type 0} (on : Setting S O R Q A) (moves : List (Move O R)) (sights : Sights) (session from : List ℕ) (branch : ℕ) → sights session ≡ Some branch → (why : machine.Refusal)
     → FullyRefuses on.fixed moves (machine.Look from) why
-    ⊎ ((number head source commit : ℕ) × WasHead on.fixed.terms.origin moves branch number head × WasHead on.fixed.terms.origin moves from source commit × FullyRefuses on.fixed moves (machine.Merge number head (commit ∷ [])) why)
+    ⊎ ((head source commit : ℕ) × HadHead on.fixed.terms.origin moves branch head × WasHead on.fixed.terms.origin moves from source commit × FullyRefuses on.fixed moves (machine.Merge branch head (commit ∷ [])) why)
     → RefusesStep on moves sights (Merge session from) why
 sees-refused on moves sights session from branch sees why =
     subst (λ o. IfSees o (λ b. FullyRefuses on.fixed moves (machine.Look from) why
-    ⊎ ((number head source commit : ℕ) × WasHead on.fixed.terms.origin moves b number head × WasHead on.fixed.terms.origin moves from source commit × FullyRefuses on.fixed moves (machine.Merge number head (commit ∷ [])) why))) (sym sees)
+    ⊎ ((head source commit : ℕ) × HadHead on.fixed.terms.origin moves b head × WasHead on.fixed.terms.origin moves from source commit × FullyRefuses on.fixed moves (machine.Merge b head (commit ∷ [])) why))) (sym sees)
 
 -- a merge of a head of no branch
-pub merge-unknown : {S O R Q A : Type 0} (on : Setting S O R Q A) (moves : List (Move O R)) (sights : Sights) (session from branch : List ℕ) → sights session ≡ Some branch
+pub merge-unknown : {S O R Q A : Type 0} (on : Setting S O R Q A) (moves : List (Move O R)) (sights : Sights) (session from : List ℕ) (branch : ℕ) → sights session ≡ Some branch
     → turn on.fixed.meaning on.fixed.terms moves (machine.Look from) ≡ answers (machine.Refused (machine.UnknownBranch from)) → RefusesStep on moves sights (Merge session from) (machine.UnknownBranch from)
 merge-unknown on moves sights session from branch sees none =
     let why : machine.Refusal = machine.UnknownBranch from in
     sees-refused on moves sights session from branch sees why (inl (full-answers on.fixed moves (machine.Look from) (machine.Refused why) refl none))
 
 module _ {S O R Q A : Type 0} (on : Setting S O R Q A) (old mid : PassView (Move O R)) (grows : IsPrefix old.moves mid.moves) (seen : IsSeenOn old mid)
-    (s : Session (SeenView (Move O R))) (is : IsSession on.fixed.terms old.moves s) (sights : Sights) (session from : List ℕ) (sees : sights session ≡ Some s.branch)
+    (s : Session (SeenView (Move O R))) (is : IsSession on.fixed.terms old.moves s) (sights : Sights) (session from : List ℕ) (sees : sights session ≡ Some s.seen.branch)
     (pair : PairView (Move O R)) (paired : IsPaired on.fixed.meaning (record { history = mid.moves; terms = on.fixed.terms }) s.seen from pair) where
   here : IsSession on.fixed.terms mid.moves s
   here = session-later on.fixed.terms old.moves mid.moves s grows is
@@ -88,7 +88,7 @@ module _ {S O R Q A : Type 0} (on : Setting S O R Q A) (old mid : PassView (Move
   merge-same order raises valid places merges =
       let below = merge-reaches on.fixed.meaning on.fixed.terms mid.moves s.seen.branch s.seen.head pair.other (turned machine.Same merges) in
       record {
-        branch = s.branch;
+        branch = s.seen.branch;
         sees = sees;
         reached = session-reaches on.fixed.terms mid.moves s here on.fixed.meaning order raises valid from paired.source looked.0
             (subst (λ h. IsTrue (reaches (graph_of (store_of on.fixed.terms.origin mid.moves).commits) s.seen.head h)) (sym looked.1) below);
@@ -99,8 +99,8 @@ module _ {S O R Q A : Type 0} (on : Setting S O R Q A) (old mid : PassView (Move
   pub merge-refused : (moves : List (Move O R)) → IsPrefix mid.moves moves → (why : machine.Refusal) → FullyRefuses on.fixed moves (machine.Merge s.seen.branch s.seen.head (pair.other ∷ [])) why
       → RefusesStep on moves sights (Merge session from) why
   merge-refused moves later why no_turn =
-      sees-refused on moves sights session from s.branch sees why
-      (inr (s.seen.branch, s.seen.head, paired.source, pair.other, session-head on.fixed.terms moves s (session-later on.fixed.terms mid.moves moves s later here), head-later on.fixed.terms.origin mid.moves moves later from paired.source pair.other other-head, no_turn))
+      sees-refused on moves sights session from s.seen.branch sees why
+      (inr (s.seen.head, paired.source, pair.other, session-head on.fixed.terms moves s (session-later on.fixed.terms mid.moves moves s later here), head-later on.fixed.terms.origin mid.moves moves later from paired.source pair.other other-head, no_turn))
 
   pub merge-unprepared : (why : machine.Refusal) → MergesAs on.fixed.meaning pair (machine.Refused why) → RefusesStep on mid.moves sights (Merge session from) why
   merge-unprepared why merges =
@@ -132,6 +132,7 @@ module _ {S O R Q A : Type 0} (on : Setting S O R Q A) (old mid : PassView (Move
         by : (r : ClientRefusal) → IsLandRefused on made new r → StepRefused on new.moves new.faults sights (Merge session from) r
         by (UnknownBranch name) h = absurd h
         by (Dropped branch) h = no_turn (machine.Dropped branch) h
+        by KeepsMain h = absurd h
         by (Exhausted clock) h = absurd h
         by (FullCommits count) h = no_turn (machine.FullCommits count) h
         by (FullBranches count) h = absurd h
@@ -162,12 +163,10 @@ module _ {S O R Q A : Type 0} (on : Setting S O R Q A) (old mid : PassView (Move
 
         by : (landing : Landing) → IsLanding (move_of made.seen.branch made.work) mid new places after landing → IsTriedMerge on.fixed.terms.origin (sights session) from old new places after landing
         by Moved moved = record {
-          branch = s.branch;
+          branch = s.seen.branch;
           sees = sees;
-          number = s.seen.branch;
           source = paired.source;
           commit = pair.other;
-          named = session-named on.fixed.terms old.moves s is;
           head = head-later on.fixed.terms.origin mid.moves new.moves later from paired.source pair.other other-head;
           moved = kind made.work made_work moved;
         }
@@ -181,8 +180,8 @@ module _ {O R : Type 0} (terms : Terms) (old mid after : PassView (Move O R)) (s
       let a : length noted ≡ length waited + 1 = ap length moved.noted ∙ length-append waited (length after.moves ∷ []) in
       let b : length waited ≡ length places = ap length wait.noted in omega arith
 
-  pub merged-few : (sight : Option (List ℕ)) (from : List ℕ) → HasMerged terms.origin sight from mid after waited noted → length noted ≤ length places + 1
-  merged-few sight from merged = ⊎_elim (λ moved. moved-few (move.Merge merged.number merged.commit) moved) (λ moved. moved-few (move.Forward merged.number merged.commit) moved) merged.moved
+  pub merged-few : (sight : Option ℕ) (from : List ℕ) → HasMerged terms.origin sight from mid after waited noted → length noted ≤ length places + 1
+  merged-few sight from merged = ⊎_elim (λ moved. moved-few (move.Merge merged.branch merged.commit) moved) (λ moved. moved-few (move.Forward merged.branch merged.commit) moved) merged.moved
 
   module _ (new : PassView (Move O R)) (landed : IsPrefix mid.moves after.moves) (faults : mid.faults ≤ after.faults) (looked : IsPrefix after.moves new.moves) (later : after.faults ≤ new.faults) (rest : IsSeenOn after new) where
     pub moved-advances : (made : Move O R) → HasMoved made mid after waited noted → Advances old new places noted
@@ -198,5 +197,5 @@ module _ {O R : Type 0} (terms : Terms) (old mid after : PassView (Move O R)) (s
           counted = let m = moved.receipts in omega arith;
         }
 
-    pub merged-advances : (sight : Option (List ℕ)) (from : List ℕ) → HasMerged terms.origin sight from mid after waited noted → Advances old new places noted
-    merged-advances sight from merged = ⊎_elim (λ moved. moved-advances (move.Merge merged.number merged.commit) moved) (λ moved. moved-advances (move.Forward merged.number merged.commit) moved) merged.moved
+    pub merged-advances : (sight : Option ℕ) (from : List ℕ) → HasMerged terms.origin sight from mid after waited noted → Advances old new places noted
+    merged-advances sight from merged = ⊎_elim (λ moved. moved-advances (move.Merge merged.branch merged.commit) moved) (λ moved. moved-advances (move.Forward merged.branch merged.commit) moved) merged.moved

@@ -1,6 +1,7 @@
 -- A client's steps, one after another, and what it comes to.
-use Rattle.std.proofs.Common.{◌≡◌, ℕ, List, [], ◌∷◌, ◌++◌, length, take, refl, sym, subst, ◌∙◌, Some, arith}
+use Rattle.std.proofs.Common.{zero, suc, ◌≡◌, ℕ, List, [], ◌∷◌, ◌++◌, length, take, refl, sym, subst, ◌∙◌, Some, arith}
 use Rattle.std.specs.Prelude.{slice_get}
+use Rattle.std.specs.List.{AllByRecursion}
 use mathlib.Core.List.{IsPrefix}
 use Rattle.branch_front.proofs.Prefixes.{prefix_self, prefix_trans}
 use Rattle.branch_names.specs.declared.terms.Terms.{Terms}
@@ -12,10 +13,16 @@ use Rattle.parallel_clients.specs.declared.landing.Stop.{Stop}
 use Rattle.parallel_clients.specs.declared.landing.Stop.TheVariants.{Refused, Unseen}
 use Rattle.parallel_clients.specs.declared.outcome.ClientRefusal.TheVariants.{Memory}
 use Rattle.parallel_clients.specs.declared.outcome.Outcome.TheVariants.{Done}
-use Rattle.parallel_clients.specs.Played.{Sights, no_sights, Played}
-use Rattle.parallel_clients.specs.Outcomes.{Setting, ArePast, StepRefused, SeesNone, IsOutcome}
+use Rattle.parallel_clients.specs.Played.{no_sights, PlayedTo}
+use Rattle.parallel_clients.specs.Outcomes.{Setting, ArePast, IsOutcome}
 use Rattle.parallel_clients.specs.Sessions.{Sessions, AreSessions, sights_of, stage_of, PlaysOn, Advances, Stops, stopped_at, IsPlaying}
 use Rattle.parallel_clients.proofs.Went.{plays-none, plays-both, plays-played}
+
+-- what holds of each item holds of one that is there
+pub all-got : {X : Type 0} (P : X → Type 0) (xs : List X) (k : ℕ) (x : X) → AllByRecursion P xs → slice_get xs k ≡ Some x → P x
+all-got P [] k x all is = absurd (let never : ⊥ = cc in never)
+all-got P (y ∷ ys) zero x all is = let same : y ≡ x = cc in subst P same all.0
+all-got P (y ∷ ys) (suc k) x all is = all-got P ys k x all.1 is
 
 pub advances-both : {M : Type 0} (a b c : PassView M) (xs ys zs : List ℕ) → Advances a b xs ys → Advances b c ys zs → Advances a c xs zs
 advances-both a b c xs ys zs p q = record {
@@ -48,7 +55,7 @@ module _ {O R : Type 0} (op_of : PlainOp → O) (terms : Terms) where
 
   module _ (done : List Step) (old new : PassView (Move O R)) (sessions : Sessions (Move O R)) (places : List ℕ) (playing : IsPlaying op_of terms done old new sessions places) where
     -- what was played, at any longer history
-    playing-played : (later : List (Move O R)) → IsPrefix new.moves later → Played op_of terms.origin (length old.moves) done places later
+    playing-played : (later : List (Move O R)) → IsPrefix new.moves later → PlayedTo op_of terms.origin (length old.moves) done places later (sights_of sessions)
     playing-played later grows = plays-played op_of terms.origin done (record { moves = old.moves; sights = no_sights; places = [] }) (stage_of new sessions places) later playing.plays refl refl grows
 
     playing-past : ArePast (length old.moves) places
@@ -58,12 +65,12 @@ module _ {O R : Type 0} (op_of : PlainOp → O) (terms : Terms) where
 module _ {S O R Q A : Type 0} (on : Setting S O R Q A) (steps : List Step) (old mid : PassView (Move O R)) (sessions : Sessions (Move O R)) (places : List ℕ) where
   pub done-became : IsPlaying on.op_of on.fixed.terms steps old mid sessions places → IsOutcome on old.moves mid.moves mid.faults steps (Done places)
   done-became playing = record {
-    comes = playing-played on.op_of on.fixed.terms steps old mid sessions places playing mid.moves (prefix_self mid.moves);
+    comes = (sights_of sessions, playing-played on.op_of on.fixed.terms steps old mid sessions places playing mid.moves (prefix_self mid.moves));
     past = playing-past on.op_of on.fixed.terms steps old mid sessions places playing;
   }
 
   module _ (number : ℕ) (step : Step) (is_step : slice_get steps number ≡ Some step) (playing : IsPlaying on.op_of on.fixed.terms (take number steps) old mid sessions places) where
-    played-at : (later : List (Move O R)) → IsPrefix mid.moves later → Played on.op_of on.fixed.terms.origin (length old.moves) (take number steps) places later
+    played-at : (later : List (Move O R)) → IsPrefix mid.moves later → PlayedTo on.op_of on.fixed.terms.origin (length old.moves) (take number steps) places later (sights_of sessions)
     played-at later grows = playing-played on.op_of on.fixed.terms (take number steps) old mid sessions places playing later grows
 
     past-at : ArePast (length old.moves) places
@@ -80,8 +87,9 @@ module _ {S O R Q A : Type 0} (on : Setting S O R Q A) (steps : List Step) (old 
             before = new.moves;
             begun = prefix_trans old.moves mid.moves new.moves playing.plays.grown advances.seen;
             begins = prefix_self new.moves;
-            played = subst (λ ps. Played on.op_of on.fixed.terms.origin (length old.moves) (take number steps) ps new.moves) (sym same) (played-at new.moves advances.seen);
-            refused = subst (λ (sights : Sights). StepRefused on new.moves new.faults sights step refusal) playing.plays.sights stops.why;
+            sights = sights_of sessions;
+            played = subst (λ ps. PlayedTo on.op_of on.fixed.terms.origin (length old.moves) (take number steps) ps new.moves (sights_of sessions)) (sym same) (played-at new.moves advances.seen);
+            refused = stops.why;
           };
           past = subst (ArePast (length old.moves)) (sym same) past-at;
         }
@@ -91,8 +99,9 @@ module _ {S O R Q A : Type 0} (on : Setting S O R Q A) (steps : List Step) (old 
           comes = record {
             step = step;
             is_step = is_step;
-            played = subst (λ ps. Played on.op_of on.fixed.terms.origin (length old.moves) (take number steps) ps new.moves) (sym same) (played-at new.moves advances.seen);
-            unseen = subst (λ (sights : Sights). SeesNone sights step) playing.plays.sights stops.why;
+            sights = sights_of sessions;
+            played = subst (λ ps. PlayedTo on.op_of on.fixed.terms.origin (length old.moves) (take number steps) ps new.moves (sights_of sessions)) (sym same) (played-at new.moves advances.seen);
+            unseen = stops.why;
           };
           past = subst (ArePast (length old.moves)) (sym same) past-at;
         }

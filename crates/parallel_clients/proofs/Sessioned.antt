@@ -23,39 +23,39 @@ use Rattle.branch_history.proofs.Reach.{reaches-trans}
 use Rattle.branch_history.proofs.Stores.{branch_named-there}
 use Rattle.store_seen.specs.Views.{SeenView}
 use Rattle.parallel_clients.specs.declared.sessions.Session.{Session}
-use Rattle.parallel_clients.specs.Played.{Sights, with_sight, WasNamed, WasHead, AreNamedHeads, IsReached, BringsNothing}
+use Rattle.parallel_clients.specs.Played.{Sights, with_sight, HadHead, AreNamedHeads, IsReached, BringsNothing}
 use Rattle.parallel_clients.specs.Sessions.{Sessions, session_named, Puts, sights_of, IsSession, AreSessions}
 use Rattle.branch_history.specs.Steps as machine
 use Rattle.branch_history.specs.Machine.{turn, answers}
 use Rattle.parallel_clients.proofs.Turned.{look-named}
 use Rattle.parallel_clients.proofs.Brought.{brings-nothing}
 
-put_step : {M : Type 0} (t : Bool) (s : Session (SeenView M)) (old : Option (Session (SeenView M))) → option_map (λ s. s.branch) (cond t (Some s) old) ≡ cond t (Some s.branch) (option_map (λ s. s.branch) old)
+put_step : {M : Type 0} (t : Bool) (s : Session (SeenView M)) (old : Option (Session (SeenView M))) → option_map (λ s. s.seen.branch) (cond t (Some s) old) ≡ cond t (Some s.seen.branch) (option_map (λ s. s.seen.branch) old)
 put_step true s old = refl
 put_step false s old = refl
 
 -- a session came to see the branch of a look
-pub sights-put : {M : Type 0} (old new : Sessions M) (session : List ℕ) (s : Session (SeenView M)) → Puts old new session s → sights_of new ≡ with_sight (sights_of old) session s.branch
+pub sights-put : {M : Type 0} (old new : Sessions M) (session : List ℕ) (s : Session (SeenView M)) → Puts old new session s → sights_of new ≡ with_sight (sights_of old) session s.seen.branch
 sights-put old new session s puts = fun_ext (λ name.
-    ap (option_map (λ s. s.branch)) (puts name) ∙ put_step (is_eq (slice_cmp nat_cmp session name)) s (session_named old name)
-    ∙ ap (λ t. cond t (Some s.branch) (sights_of old name)) (is_eq-slice_cmp session name))
+    ap (option_map (λ s. s.seen.branch)) (puts name) ∙ put_step (is_eq (slice_cmp nat_cmp session name)) s (session_named old name)
+    ∙ ap (λ t. cond t (Some s.seen.branch) (sights_of old name)) (is_eq-slice_cmp session name))
 
 pub sights-kept : {M : Type 0} (old new : Sessions M) → ((name : List ℕ) → session_named new name ≡ session_named old name) → sights_of new ≡ sights_of old
-sights-kept old new kept = fun_ext (λ name. ap (option_map (λ s. s.branch)) (kept name))
+sights-kept old new kept = fun_ext (λ name. ap (option_map (λ s. s.seen.branch)) (kept name))
 
-again_step : (sights : Sights) (session branch name : List ℕ) → sights session ≡ Some branch → (t : Bool) → bytes_eq session name ≡ t → cond t (Some branch) (sights name) ≡ sights name
+again_step : (sights : Sights) (session : List ℕ) (branch : ℕ) (name : List ℕ) → sights session ≡ Some branch → (t : Bool) → bytes_eq session name ≡ t → cond t (Some branch) (sights name) ≡ sights name
 again_step sights session branch name is true test = sym is ∙ ap sights ((bytes_eq-Decides session name).0 test)
 again_step sights session branch name is false test = refl
 
 -- one that sees the same branch again
-pub sights-again : (sights : Sights) (session branch : List ℕ) → sights session ≡ Some branch → with_sight sights session branch ≡ sights
+pub sights-again : (sights : Sights) (session : List ℕ) (branch : ℕ) → sights session ≡ Some branch → with_sight sights session branch ≡ sights
 sights-again sights session branch is = fun_ext (λ name. again_step sights session branch name is (bytes_eq session name) refl)
 
-pub sight-found : {M : Type 0} (sessions : Sessions M) (session : List ℕ) (s : Session (SeenView M)) → session_named sessions session ≡ Some s → sights_of sessions session ≡ Some s.branch
-sight-found sessions session s found = ap (option_map (λ s. s.branch)) found
+pub sight-found : {M : Type 0} (sessions : Sessions M) (session : List ℕ) (s : Session (SeenView M)) → session_named sessions session ≡ Some s → sights_of sessions session ≡ Some s.seen.branch
+sight-found sessions session s found = ap (option_map (λ s. s.seen.branch)) found
 
 pub sight-none : {M : Type 0} (sessions : Sessions M) (session : List ℕ) → session_named sessions session ≡ None → sights_of sessions session ≡ None
-sight-none sessions session none = ap (option_map (λ s. s.branch)) none
+sight-none sessions session none = ap (option_map (λ s. s.seen.branch)) none
 
 module _ {O R : Type 0} (terms : Terms) where
   pub session-later : (moves later : List (Move O R)) (s : Session (SeenView (Move O R))) → IsPrefix moves later → IsSession terms moves s → IsSession terms later s
@@ -90,11 +90,8 @@ module _ {O R : Type 0} (terms : Terms) where
   sessions-kept moves old new kept are = record { each = λ name s found. are.each name s (sym (kept name) ∙ found) }
 
   module _ (moves : List (Move O R)) (s : Session (SeenView (Move O R))) (is : IsSession terms moves s) where
-    pub session-named : WasNamed terms.origin moves s.branch s.seen.branch
-    session-named = record { before = s.seen.history; begins = is.begins; named = is.named }
-
-    pub session-head : WasHead terms.origin moves s.branch s.seen.branch s.seen.head
-    session-head = record { before = s.seen.history; begins = is.begins; named = is.named; head = is.head }
+    pub session-head : HadHead terms.origin moves s.seen.branch s.seen.head
+    session-head = (s.branch, record { before = s.seen.history; begins = is.begins; named = is.named; head = is.head })
 
     -- the head of its branch reaches the one that a session sees
     session-risen : {S Q A : Type 0} (meaning : Meaning S O R Q A) → RaisesHeads meaning → IsValid meaning terms moves
@@ -110,14 +107,12 @@ module _ {O R : Type 0} (terms : Terms) where
     -- what a session's head reaches, the head of its branch reaches
     pub session-reaches : {S Q A : Type 0} (meaning : Meaning S O R Q A) → KeepsOrder meaning → RaisesHeads meaning → IsValid meaning terms moves
         → (from : List ℕ) (source : ℕ) → branch_named (store_of terms.origin moves).branches from ≡ Some source
-        → IsTrue (reaches (graph_of (store_of terms.origin moves).commits) s.seen.head (head_of (store_of terms.origin moves).branches source)) → IsReached terms.origin s.branch from moves
+        → IsTrue (reaches (graph_of (store_of terms.origin moves).commits) s.seen.head (head_of (store_of terms.origin moves).branches source)) → IsReached terms.origin s.seen.branch from moves
     session-reaches meaning order raises valid from source found below =
         let r : ℕ = s.seen.branch in
         let here = session-risen meaning raises valid in
         record {
-          number = r;
           source = source;
-          named = session-named;
           other = found;
           reached = reaches-trans (graph_of (store_of terms.origin moves).commits) (order terms moves valid).ranked (head_of (store_of terms.origin moves).branches r) s.seen.head (head_of (store_of terms.origin moves).branches source) here below;
         }
@@ -125,11 +120,9 @@ module _ {O R : Type 0} (terms : Terms) where
     -- where a merge brings nothing to a session's head, it brings nothing to the head of its branch
     pub session-brings : {S Q A : Type 0} (meaning : Meaning S O R Q A) → KeepsOrder meaning → RaisesHeads meaning → IsValid meaning terms moves
         → (from : List (List ℕ)) (heads : List ℕ) → AreNamedHeads terms.origin moves from heads
-        → brought (graph_of (store_of terms.origin moves).commits) s.seen.head heads ≡ [] → BringsNothing terms.origin s.branch from moves
+        → brought (graph_of (store_of terms.origin moves).commits) s.seen.head heads ≡ [] → BringsNothing terms.origin s.seen.branch from moves
     session-brings meaning order raises valid from heads others none = record {
-      number = s.seen.branch;
       heads = heads;
-      named = session-named;
       others = others;
       nothing = brings-nothing (graph_of (store_of terms.origin moves).commits) (order terms moves valid).ranked s.seen.head (head_of (store_of terms.origin moves).branches s.seen.branch) heads
           (session-risen meaning raises valid) none;

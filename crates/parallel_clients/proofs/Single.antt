@@ -7,10 +7,10 @@ use Rattle.branch_history.specs.declared.moves.Move.TheVariants as move
 use Rattle.branch_doc.specs.declared.plain.PlainOp.{PlainOp}
 use Rattle.branch_doc.specs.declared.plain.PlainQuery.{PlainQuery}
 use Rattle.branch_script.specs.declared.step.Step.{Step}
-use Rattle.branch_script.specs.declared.step.Step.TheVariants.{Look, Fork, Merge, Join, Do, Ask}
+use Rattle.branch_script.specs.declared.step.Step.TheVariants.{Look, Fork, Merge, Join, Do, Ask, Drop}
 use Rattle.branch_shared.specs.Passes.{PassView}
-use Rattle.parallel_clients.specs.Played.{with_sight, sights_after, IsMoveAt, WasNamed, HasBranch, IsDone, IsForked, IsMerged, IsJoined, IsTaken, IsReached, BringsNothing, TakesOne, TakesNone, IfSees, PlayedFrom}
-use Rattle.parallel_clients.specs.Sessions.{Stage, PlaysOn, HasMoved, HasDone, HasMerged, HasJoined}
+use Rattle.parallel_clients.specs.Played.{Sights, with_sight, IsMoveAt, WasNamed, HasNumber, HasBranch, IsDone, IsForked, IsMerged, IsJoined, IsTaken, IsReached, BringsNothing, TakesOne, TakesNone, IfSees, PlayedFrom}
+use Rattle.parallel_clients.specs.Sessions.{Stage, PlaysOn, HasMoved, HasDone, HasMerged, HasJoined, HasDropped}
 use Rattle.parallel_clients.proofs.Went.{named-later, head-later, joins-later, move-last, played-earlier, plays-still, plays-move}
 
 module _ {O R : Type 0} (op_of : PlainOp → O) (origin : ℕ) (old new : Stage (Move O R)) (mid after : PassView (Move O R)) (from_old : IsPrefix old.moves mid.moves) (to_new : IsPrefix after.moves new.moves) (places noted : List ℕ) (had : old.places ≡ places) (has : new.places ≡ noted) where
@@ -41,117 +41,121 @@ module _ {O R : Type 0} (op_of : PlainOp → O) (origin : ℕ) (old new : Stage 
         let all : IsPrefix (moved.before ++ made ∷ []) later = subst (λ ms. IsPrefix ms later) moved.last (prefix_trans after.moves new.moves later to_new grows) in
         subst (λ n. IsMoveAt later n made) (sym (ap length moved.last)) (move-last moved.before later made all)
 
-    pub plays-made : (step : Step) → new.sights ≡ sights_after (step ∷ []) old.sights
-        → ((later : List (Move O R)) (rest : List Step) (more : List ℕ) → IsPrefix new.moves later → IsMoveAt later place made
-        → PlayedFrom op_of origin later rest new.sights place more → PlayedFrom op_of origin later (step ∷ rest) old.sights (length old.moves) (place ∷ more))
+    pub plays-made : (step : Step)
+        → ((later : List (Move O R)) (rest : List Step) (ends : Sights) (more : List ℕ) → IsPrefix new.moves later → IsMoveAt later place made
+        → PlayedFrom op_of origin later rest new.sights ends place more → PlayedFrom op_of origin later (step ∷ rest) old.sights ends (length old.moves) (place ∷ more))
         → PlaysOn op_of origin (step ∷ []) old new
-    plays-made step sights goes =
-        plays-move op_of origin old new grown step place past (prefix_length after.moves new.moves to_new) noted-is sights
-        (λ later rest more grows played. goes later rest more grows (stands later grows) played)
+    plays-made step goes =
+        plays-move op_of origin old new grown step place past (prefix_length after.moves new.moves to_new) noted-is
+        (λ later rest ends more grows played. goes later rest ends more grows (stands later grows) played)
 
   module _ (same : new.sights ≡ old.sights) where
-    kept : (later : List (Move O R)) (rest : List Step) (last : ℕ) (more : List ℕ) → PlayedFrom op_of origin later rest new.sights last more → PlayedFrom op_of origin later rest old.sights last more
-    kept later rest last more played = subst (λ sights. PlayedFrom op_of origin later rest sights last more) same played
+    kept : (later : List (Move O R)) (rest : List Step) (ends : Sights) (last : ℕ) (more : List ℕ) → PlayedFrom op_of origin later rest new.sights ends last more → PlayedFrom op_of origin later rest old.sights ends last more
+    kept later rest ends last more played = subst (λ sights. PlayedFrom op_of origin later rest sights ends last more) same played
 
-    pub plays-done : (session : List ℕ) (op : PlainOp) → HasDone origin (old.sights session) (op_of op) mid after places noted → PlaysOn op_of origin (Do session op ∷ []) old new
+    pub plays-done : (session : List ℕ) (op : PlainOp) → HasDone (old.sights session) (op_of op) mid after places noted → PlaysOn op_of origin (Do session op ∷ []) old new
     plays-done session op done =
-        let made : Move O R = move.Operation done.number (op_of op) done.reply in
-        plays-made made done.moved (Do session op) same
-        (λ later rest more grows at played.
-        let all : IsPrefix mid.moves later = prefix_trans mid.moves after.moves later (mid-after made done.moved) (prefix_trans after.moves new.moves later to_new grows) in
-        let is : IsDone origin later done.branch (op_of op) (length after.moves) = record { number = done.number; named = named-later origin mid.moves later all done.branch done.number done.named; reply = done.reply; made = at } in
-        subst (λ o. IfSees o (λ branch. TakesOne (IsDone origin later branch (op_of op)) (PlayedFrom op_of origin later rest old.sights) (length old.moves) (length after.moves ∷ more))) (sym done.sees)
-        (past made done.moved, is, kept later rest (length after.moves) more played))
+        let made : Move O R = move.Operation done.branch (op_of op) done.reply in
+        plays-made made done.moved (Do session op)
+        (λ later rest ends more grows at played.
+        let is : IsDone later done.branch (op_of op) (length after.moves) = record { reply = done.reply; made = at } in
+        subst (λ o. IfSees o (λ branch. TakesOne (IsDone later branch (op_of op)) (PlayedFrom op_of origin later rest old.sights ends) (length old.moves) (length after.moves ∷ more))) (sym done.sees)
+        (past made done.moved, is, kept later rest ends (length after.moves) more played))
+
+    pub plays-dropped : (session : List ℕ) → HasDropped (old.sights session) mid after places noted → PlaysOn op_of origin (Drop session ∷ []) old new
+    plays-dropped session done =
+        let made : Move O R = move.Drop done.branch in
+        plays-made made done.moved (Drop session)
+        (λ later rest ends more grows at played.
+        subst (λ o. IfSees o (λ branch. TakesOne (λ place. IsMoveAt later place (move.Drop branch)) (PlayedFrom op_of origin later rest old.sights ends) (length old.moves) (length after.moves ∷ more))) (sym done.sees)
+        (past made done.moved, at, kept later rest ends (length after.moves) more played))
 
     pub plays-merged : (session from : List ℕ) → HasMerged origin (old.sights session) from mid after places noted → PlaysOn op_of origin (Merge session from ∷ []) old new
-    plays-merged session from done = ⊎_elim (λ moved. by (move.Merge done.number done.commit) moved (λ later at. inl at)) (λ moved. by (move.Forward done.number done.commit) moved (λ later at. inr at)) done.moved
+    plays-merged session from done = ⊎_elim (λ moved. by (move.Merge done.branch done.commit) moved (λ later at. inl at)) (λ moved. by (move.Forward done.branch done.commit) moved (λ later at. inr at)) done.moved
       where
         by : (made : Move O R) → HasMoved made mid after places noted
-            → ((later : List (Move O R)) → IsMoveAt later (length after.moves) made → IsMoveAt later (length after.moves) (move.Merge done.number done.commit) ⊎ IsMoveAt later (length after.moves) (move.Forward done.number done.commit))
+            → ((later : List (Move O R)) → IsMoveAt later (length after.moves) made → IsMoveAt later (length after.moves) (move.Merge done.branch done.commit) ⊎ IsMoveAt later (length after.moves) (move.Forward done.branch done.commit))
             → PlaysOn op_of origin (Merge session from ∷ []) old new
         by made moved either =
-            plays-made made moved (Merge session from) same
-            (λ later rest more grows at played.
+            plays-made made moved (Merge session from)
+            (λ later rest ends more grows at played.
             let to_later = prefix_trans after.moves new.moves later to_new grows in
-            let all : IsPrefix mid.moves later = prefix_trans mid.moves after.moves later (mid-after made moved) to_later in
             let is : IsMerged origin later done.branch from (length after.moves) = record {
-              number = done.number;
               source = done.source;
               commit = done.commit;
-              named = named-later origin mid.moves later all done.branch done.number done.named;
               head = head-later origin after.moves later to_later from done.source done.commit done.head;
               made = either later at;
             } in
-            let Rest = PlayedFrom op_of origin later rest old.sights in
+            let Rest = PlayedFrom op_of origin later rest old.sights ends in
             subst (λ o. IfSees o (λ branch. TakesOne (IsMerged origin later branch from) Rest (length old.moves) (length after.moves ∷ more) ⊎ TakesNone later (IsReached origin branch from) Rest (length old.moves) (length after.moves ∷ more))) (sym done.sees)
-            (inl (past made moved, is, kept later rest (length after.moves) more played)))
+            (inl (past made moved, is, kept later rest ends (length after.moves) more played)))
 
     pub plays-joined : (session : List ℕ) (from : List (List ℕ)) → HasJoined origin (old.sights session) from mid after places noted → PlaysOn op_of origin (Join session from ∷ []) old new
     plays-joined session from done =
-        plays-made done.made done.moved (Join session from) same
-        (λ later rest more grows at played.
+        plays-made done.made done.moved (Join session from)
+        (λ later rest ends more grows at played.
         let to_later = prefix_trans after.moves new.moves later to_new grows in
         let is : IsJoined origin later done.branch from (length after.moves) = record { made = done.made; joins = joins-later origin after.moves later to_later done.branch from done.made done.joins; at = at } in
-        let Rest = PlayedFrom op_of origin later rest old.sights in
+        let Rest = PlayedFrom op_of origin later rest old.sights ends in
         subst (λ o. IfSees o (λ branch. TakesOne (IsJoined origin later branch from) Rest (length old.moves) (length after.moves ∷ more) ⊎ TakesNone later (BringsNothing origin branch from) Rest (length old.moves) (length after.moves ∷ more))) (sym done.sees)
-        (inl (past done.made done.moved, is, kept later rest (length after.moves) more played)))
+        (inl (past done.made done.moved, is, kept later rest ends (length after.moves) more played)))
 
     pub plays-forked : (name from : List ℕ) (number source : ℕ) → WasNamed origin after.moves from source → HasMoved (move.Fork name number source) mid after places noted → PlaysOn op_of origin (Fork name from ∷ []) old new
     plays-forked name from number source named moved =
         let made : Move O R = move.Fork name number source in
-        plays-made made moved (Fork name from) same
-        (λ later rest more grows at played.
+        plays-made made moved (Fork name from)
+        (λ later rest ends more grows at played.
         let to_later = prefix_trans after.moves new.moves later to_new grows in
         let is : IsForked origin later name from (length after.moves) = record { number = number; source = source; named = named-later origin after.moves later to_later from source named; made = at } in
-        inl (past made moved, is, kept later rest (length after.moves) more played))
+        inl (past made moved, is, kept later rest ends (length after.moves) more played))
 
   -- a step that makes no move was done where its last look was
   module _ (seen : IsPrefix mid.moves after.moves) (none : noted ≡ places) where
     on : IsPrefix old.moves new.moves
     on = prefix_trans old.moves mid.moves new.moves from_old (prefix_trans mid.moves after.moves new.moves seen to_new)
 
-    takes-none : (Holds : List (Move O R) → Type 0) (later : List (Move O R)) (rest : List Step) (more : List ℕ) → Holds after.moves → IsPrefix new.moves later
-        → PlayedFrom op_of origin later rest new.sights (length new.moves) more → TakesNone later Holds (PlayedFrom op_of origin later rest new.sights) (length old.moves) more
-    takes-none Holds later rest more here grows played = record {
+    takes-none : (Holds : List (Move O R) → Type 0) (later : List (Move O R)) (rest : List Step) (ends : Sights) (more : List ℕ) → Holds after.moves → IsPrefix new.moves later
+        → PlayedFrom op_of origin later rest new.sights ends (length new.moves) more → TakesNone later Holds (PlayedFrom op_of origin later rest new.sights ends) (length old.moves) more
+    takes-none Holds later rest ends more here grows played = record {
       before = after.moves;
       begins = prefix_trans after.moves new.moves later to_new grows;
       behind = prefix_length old.moves after.moves (prefix_trans old.moves mid.moves after.moves from_old seen);
       here = here;
-      rest = played-earlier op_of origin later (length after.moves) (length new.moves) (prefix_length after.moves new.moves to_new) rest new.sights more played;
+      rest = played-earlier op_of origin later (length after.moves) (length new.moves) (prefix_length after.moves new.moves to_new) rest new.sights ends more played;
     }
 
-    pub plays-looked : (session branch : List ℕ) → new.sights ≡ with_sight old.sights session branch → HasBranch origin branch after.moves → PlaysOn op_of origin (Look session branch ∷ []) old new
-    plays-looked session branch sights there =
-        plays-still op_of origin old new on (Look session branch) (has ∙ none ∙ sym had) sights
-        (λ later rest more grows played.
-        subst (λ s. TakesNone later (HasBranch origin branch) (PlayedFrom op_of origin later rest s) (length old.moves) more) sights (takes-none (HasBranch origin branch) later rest more there grows played))
+    pub plays-looked : (session branch : List ℕ) (number : ℕ) → new.sights ≡ with_sight old.sights session number → HasNumber origin branch number after.moves → PlaysOn op_of origin (Look session branch ∷ []) old new
+    plays-looked session branch number sights there =
+        plays-still op_of origin old new on (Look session branch) (has ∙ none ∙ sym had)
+        (λ later rest ends more grows played.
+        (number, subst (λ s. TakesNone later (HasNumber origin branch number) (PlayedFrom op_of origin later rest s ends) (length old.moves) more) sights (takes-none (HasNumber origin branch number) later rest ends more there grows played)))
 
     module _ (same : new.sights ≡ old.sights) where
-      kept-none : (Holds : List (Move O R) → Type 0) (later : List (Move O R)) (rest : List Step) (more : List ℕ) → Holds after.moves → IsPrefix new.moves later
-          → PlayedFrom op_of origin later rest new.sights (length new.moves) more → TakesNone later Holds (PlayedFrom op_of origin later rest old.sights) (length old.moves) more
-      kept-none Holds later rest more here grows played =
-          subst (λ s. TakesNone later Holds (PlayedFrom op_of origin later rest s) (length old.moves) more) same (takes-none Holds later rest more here grows played)
+      kept-none : (Holds : List (Move O R) → Type 0) (later : List (Move O R)) (rest : List Step) (ends : Sights) (more : List ℕ) → Holds after.moves → IsPrefix new.moves later
+          → PlayedFrom op_of origin later rest new.sights ends (length new.moves) more → TakesNone later Holds (PlayedFrom op_of origin later rest old.sights ends) (length old.moves) more
+      kept-none Holds later rest ends more here grows played =
+          subst (λ s. TakesNone later Holds (PlayedFrom op_of origin later rest s ends) (length old.moves) more) same (takes-none Holds later rest ends more here grows played)
 
-      pub plays-same : (session from branch : List ℕ) → old.sights session ≡ Some branch → IsReached origin branch from after.moves → PlaysOn op_of origin (Merge session from ∷ []) old new
+      pub plays-same : (session from : List ℕ) (branch : ℕ) → old.sights session ≡ Some branch → IsReached origin branch from after.moves → PlaysOn op_of origin (Merge session from ∷ []) old new
       plays-same session from branch sees reached =
-          plays-still op_of origin old new on (Merge session from) (has ∙ none ∙ sym had) same
-          (λ later rest more grows played.
-          let Rest = PlayedFrom op_of origin later rest old.sights in
+          plays-still op_of origin old new on (Merge session from) (has ∙ none ∙ sym had)
+          (λ later rest ends more grows played.
+          let Rest = PlayedFrom op_of origin later rest old.sights ends in
           subst (λ o. IfSees o (λ b. TakesOne (IsMerged origin later b from) Rest (length old.moves) more ⊎ TakesNone later (IsReached origin b from) Rest (length old.moves) more)) (sym sees)
-          (inr (kept-none (IsReached origin branch from) later rest more reached grows played)))
+          (inr (kept-none (IsReached origin branch from) later rest ends more reached grows played)))
 
-      pub plays-nothing : (session : List ℕ) (from : List (List ℕ)) (branch : List ℕ) → old.sights session ≡ Some branch → BringsNothing origin branch from after.moves → PlaysOn op_of origin (Join session from ∷ []) old new
+      pub plays-nothing : (session : List ℕ) (from : List (List ℕ)) (branch : ℕ) → old.sights session ≡ Some branch → BringsNothing origin branch from after.moves → PlaysOn op_of origin (Join session from ∷ []) old new
       plays-nothing session from branch sees brings =
-          plays-still op_of origin old new on (Join session from) (has ∙ none ∙ sym had) same
-          (λ later rest more grows played.
-          let Rest = PlayedFrom op_of origin later rest old.sights in
+          plays-still op_of origin old new on (Join session from) (has ∙ none ∙ sym had)
+          (λ later rest ends more grows played.
+          let Rest = PlayedFrom op_of origin later rest old.sights ends in
           subst (λ o. IfSees o (λ b. TakesOne (IsJoined origin later b from) Rest (length old.moves) more ⊎ TakesNone later (BringsNothing origin b from) Rest (length old.moves) more)) (sym sees)
-          (inr (kept-none (BringsNothing origin branch from) later rest more brings grows played)))
+          (inr (kept-none (BringsNothing origin branch from) later rest ends more brings grows played)))
 
       pub plays-taken : (name from : List ℕ) → IsTaken origin name from after.moves → PlaysOn op_of origin (Fork name from ∷ []) old new
       plays-taken name from taken =
-          plays-still op_of origin old new on (Fork name from) (has ∙ none ∙ sym had) same (λ later rest more grows played. inr (kept-none (IsTaken origin name from) later rest more taken grows played))
+          plays-still op_of origin old new on (Fork name from) (has ∙ none ∙ sym had) (λ later rest ends more grows played. inr (kept-none (IsTaken origin name from) later rest ends more taken grows played))
 
       pub plays-asked : (branch : List ℕ) (query : PlainQuery) → HasBranch origin branch after.moves → PlaysOn op_of origin (Ask branch query ∷ []) old new
       plays-asked branch query there =
-          plays-still op_of origin old new on (Ask branch query) (has ∙ none ∙ sym had) same (λ later rest more grows played. kept-none (HasBranch origin branch) later rest more there grows played)
+          plays-still op_of origin old new on (Ask branch query) (has ∙ none ∙ sym had) (λ later rest ends more grows played. kept-none (HasBranch origin branch) later rest ends more there grows played)

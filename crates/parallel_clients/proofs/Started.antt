@@ -67,6 +67,16 @@ module _ {M : Type 0} (from : PassView M) (scripts : List (List Step)) (seats : 
   pub all-room : AllByRecursion HasRoom entrants
   all-room = zip-second (Starts from) HasRoom (λ steps e is. (is.none, is.room)) scripts entrants starts
 
+  -- what holds of each script holds of that of each client
+  pub all-scripts : (P : List Step → Type 0) → AllByRecursion P scripts → AllByRecursion (λ (e : Entrant (PassView M)). P e.seat.steps.now) entrants
+  all-scripts P = also scripts entrants starts
+    where
+      also : (ss : List (List Step)) (es : List (Entrant (PassView M))) → AllZip (Starts from) ss es → AllByRecursion P ss → AllByRecursion (λ (e : Entrant (PassView M)). P e.seat.steps.now) es
+      also [] [] zip all = tt
+      also [] (e ∷ es) zip all = absurd zip
+      also (s ∷ ss) [] zip all = tt
+      also (s ∷ ss) (e ∷ es) zip all = (subst P (sym zip.0.steps_are) all.0, also ss es zip.1 all.1)
+
   pub as-many : length entrants ≡ length scripts
   as-many = AllZip-long (Starts from) scripts entrants starts
 

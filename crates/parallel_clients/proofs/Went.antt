@@ -4,11 +4,12 @@ use Rattle.std.specs.Prelude.{slice_get}
 use mathlib.Core.List.{IsPrefix}
 use Rattle.branch_front.proofs.Prefixes.{prefix_self, prefix_trans, prefix_length}
 use Rattle.branch_history.specs.declared.moves.Move.{Move}
+use Rattle.branch_history.specs.declared.moves.Move.TheVariants as move
 use Rattle.branch_history.proofs.Lists.{slice_get-append, slice_get-new}
 use Rattle.branch_doc.specs.declared.plain.PlainOp.{PlainOp}
 use Rattle.branch_script.specs.declared.step.Step.{Step}
-use Rattle.branch_script.specs.declared.step.Step.TheVariants.{Look, Fork, Merge, Join, Do, Ask}
-use Rattle.parallel_clients.specs.Played.{Sights, no_sights, with_sight, sights_after, IsMoveAt, WasNamed, WasHead, WereHeads, HasBranch, IsDone, IsForked, IsMerged, Joins, IsJoined, IsTaken, IsReached, BringsNothing, TakesOne, TakesNone, IfSees, PlayedFrom, Played}
+use Rattle.branch_script.specs.declared.step.Step.TheVariants.{Look, Fork, Merge, Join, Do, Ask, Drop}
+use Rattle.parallel_clients.specs.Played.{Sights, no_sights, with_sight, IsMoveAt, WasNamed, WasHead, HadHead, WereHeads, HasNumber, HasBranch, IsDone, IsForked, IsMerged, Joins, IsJoined, IsTaken, IsReached, BringsNothing, TakesOne, TakesNone, IfSees, PlayedFrom, PlayedTo}
 use Rattle.parallel_clients.specs.Outcomes.{ArePast}
 use Rattle.parallel_clients.specs.Sessions.{Stage, GoesOn, PlaysOn}
 
@@ -21,12 +22,14 @@ module _ {O R : Type 0} (origin : ℕ) (moves later : List (Move O R)) (grows : 
   pub head-later : (name : List ℕ) (branch commit : ℕ) → WasHead origin moves name branch commit → WasHead origin later name branch commit
   head-later name branch commit was = record { before = was.before; begins = prefix_trans was.before moves later was.begins grows; named = was.named; head = was.head }
 
+  pub had-later : (branch commit : ℕ) → HadHead origin moves branch commit → HadHead origin later branch commit
+  had-later branch commit had = (had.0, head-later had.0 branch commit had.1)
+
   pub heads-later : (names : List (List ℕ)) (heads : List ℕ) → WereHeads origin moves names heads → WereHeads origin later names heads
   heads-later names heads were = record { before = were.before; begins = prefix_trans were.before moves later were.begins grows; are = were.are }
 
-  pub joins-later : (branch : List ℕ) (from : List (List ℕ)) (made : Move O R) → Joins origin moves branch from made → Joins origin later branch from made
+  pub joins-later : (branch : ℕ) (from : List (List ℕ)) (made : Move O R) → Joins origin moves branch from made → Joins origin later branch from made
   joins-later branch from made joins = record {
-    number = joins.number;
     head = joins.head;
     heads = joins.heads;
     before = joins.before;
@@ -56,18 +59,8 @@ pub past-both : (n : ℕ) (xs ys : List ℕ) → ArePast n xs → ArePast n ys �
 past-both n [] ys a b = b
 past-both n (x ∷ xs) ys a b = (a.0, past-both n xs ys a.1 b)
 
--- what sessions see after some steps, and some more
-pub sights-both : (first second : List Step) (sights : Sights) → sights_after (first ++ second) sights ≡ sights_after second (sights_after first sights)
-sights-both [] second sights = refl
-sights-both (Look session branch ∷ first) second sights = sights-both first second (with_sight sights session branch)
-sights-both (Fork new from ∷ first) second sights = sights-both first second sights
-sights-both (Merge session branch ∷ first) second sights = sights-both first second sights
-sights-both (Join session branches ∷ first) second sights = sights-both first second sights
-sights-both (Do session op ∷ first) second sights = sights-both first second sights
-sights-both (Ask branch query ∷ first) second sights = sights-both first second sights
-
 -- what a session that sees a branch does is something more
-pub sees-more : (Does More : List ℕ → Type 0) → ((branch : List ℕ) → Does branch → More branch) → (sight : Option (List ℕ)) → IfSees sight Does → IfSees sight More
+pub sees-more : (Does More : ℕ → Type 0) → ((branch : ℕ) → Does branch → More branch) → (sight : Option ℕ) → IfSees sight Does → IfSees sight More
 sees-more Does More more None is = is
 sees-more Does More more (Some branch) is = more branch is
 
@@ -80,29 +73,34 @@ module _ {O R : Type 0} (op_of : PlainOp → O) (origin : ℕ) (moves : List (Mo
   none-earlier : (Holds : List (Move O R) → Type 0) (Rest : ℕ → List ℕ → Type 0) (places : List ℕ) → TakesNone moves Holds Rest n places → TakesNone moves Holds Rest m places
   none-earlier Holds Rest places is = let behind = is.behind in record { before = is.before; begins = is.begins; behind = omega (arith, behind); here = is.here; rest = is.rest }
 
-  pub played-earlier : (steps : List Step) (sights : Sights) (places : List ℕ) → PlayedFrom op_of origin moves steps sights n places → PlayedFrom op_of origin moves steps sights m places
-  played-earlier [] sights places is = is
-  played-earlier (Look session branch ∷ steps) sights places is = none-earlier (HasBranch origin branch) (PlayedFrom op_of origin moves steps (with_sight sights session branch)) places is
-  played-earlier (Ask branch query ∷ steps) sights places is = none-earlier (HasBranch origin branch) (PlayedFrom op_of origin moves steps sights) places is
-  played-earlier (Do session op ∷ steps) sights places is =
-      let Rest = PlayedFrom op_of origin moves steps sights in
-      sees-more (λ branch. TakesOne (IsDone origin moves branch (op_of op)) Rest n places) (λ branch. TakesOne (IsDone origin moves branch (op_of op)) Rest m places)
-      (λ branch. one-earlier (IsDone origin moves branch (op_of op)) Rest places) (sights session) is
-  played-earlier (Fork new from ∷ steps) sights places is =
-      let Rest = PlayedFrom op_of origin moves steps sights in
+  pub played-earlier : (steps : List Step) (sights after : Sights) (places : List ℕ) → PlayedFrom op_of origin moves steps sights after n places → PlayedFrom op_of origin moves steps sights after m places
+  played-earlier [] sights after places is = is
+  played-earlier (Look session branch ∷ steps) sights after places is =
+      (is.0, none-earlier (HasNumber origin branch is.0) (PlayedFrom op_of origin moves steps (with_sight sights session is.0) after) places is.1)
+  played-earlier (Ask branch query ∷ steps) sights after places is = none-earlier (HasBranch origin branch) (PlayedFrom op_of origin moves steps sights after) places is
+  played-earlier (Do session op ∷ steps) sights after places is =
+      let Rest = PlayedFrom op_of origin moves steps sights after in
+      sees-more (λ branch. TakesOne (IsDone moves branch (op_of op)) Rest n places) (λ branch. TakesOne (IsDone moves branch (op_of op)) Rest m places)
+      (λ branch. one-earlier (IsDone moves branch (op_of op)) Rest places) (sights session) is
+  played-earlier (Fork new from ∷ steps) sights after places is =
+      let Rest = PlayedFrom op_of origin moves steps sights after in
       ⊎_elim (λ one. inl (one-earlier (IsForked origin moves new from) Rest places one)) (λ none. inr (none-earlier (IsTaken origin new from) Rest places none)) is
-  played-earlier (Merge session from ∷ steps) sights places is =
-      let Rest = PlayedFrom op_of origin moves steps sights in
+  played-earlier (Merge session from ∷ steps) sights after places is =
+      let Rest = PlayedFrom op_of origin moves steps sights after in
       sees-more (λ branch. TakesOne (IsMerged origin moves branch from) Rest n places ⊎ TakesNone moves (IsReached origin branch from) Rest n places)
       (λ branch. TakesOne (IsMerged origin moves branch from) Rest m places ⊎ TakesNone moves (IsReached origin branch from) Rest m places)
       (λ branch both. ⊎_elim (λ one. inl (one-earlier (IsMerged origin moves branch from) Rest places one)) (λ none. inr (none-earlier (IsReached origin branch from) Rest places none)) both)
       (sights session) is
-  played-earlier (Join session from ∷ steps) sights places is =
-      let Rest = PlayedFrom op_of origin moves steps sights in
+  played-earlier (Join session from ∷ steps) sights after places is =
+      let Rest = PlayedFrom op_of origin moves steps sights after in
       sees-more (λ branch. TakesOne (IsJoined origin moves branch from) Rest n places ⊎ TakesNone moves (BringsNothing origin branch from) Rest n places)
       (λ branch. TakesOne (IsJoined origin moves branch from) Rest m places ⊎ TakesNone moves (BringsNothing origin branch from) Rest m places)
       (λ branch both. ⊎_elim (λ one. inl (one-earlier (IsJoined origin moves branch from) Rest places one)) (λ none. inr (none-earlier (BringsNothing origin branch from) Rest places none)) both)
       (sights session) is
+  played-earlier (Drop session ∷ steps) sights after places is =
+      let Rest = PlayedFrom op_of origin moves steps sights after in
+      sees-more (λ branch. TakesOne (λ place. IsMoveAt moves place (move.Drop branch)) Rest n places) (λ branch. TakesOne (λ place. IsMoveAt moves place (move.Drop branch)) Rest m places)
+      (λ branch. one-earlier (λ place. IsMoveAt moves place (move.Drop branch)) Rest places) (sights session) is
 
 -- steps one after another
 
@@ -113,8 +111,7 @@ module _ {O R : Type 0} (op_of : PlainOp → O) (origin : ℕ) where
     grown = prefix_self s.moves;
     added = sym (append-nil s.places);
     past = tt;
-    sights = refl;
-    goes_on = λ later rest more grows played. played;
+    goes_on = λ later rest after more grows played. played;
   }
 
   pub plays-both : (first second : List Step) (a b c : Stage (Move O R)) → PlaysOn op_of origin first a b → PlaysOn op_of origin second b c → PlaysOn op_of origin (first ++ second) a c
@@ -123,49 +120,46 @@ module _ {O R : Type 0} (op_of : PlainOp → O) (origin : ℕ) where
     grown = prefix_trans a.moves b.moves c.moves p.grown q.grown;
     added = q.added ∙ ap (λ ps. ps ++ q.own) p.added ∙ append_assoc a.places p.own q.own;
     past = past-both (length a.moves) p.own q.own p.past (past-less (length a.moves) (length b.moves) q.own (prefix_length a.moves b.moves p.grown) q.past);
-    sights = q.sights ∙ ap (sights_after second) p.sights ∙ sym (sights-both first second a.sights);
-    goes_on = λ later rest more grows played.
-        let tail = q.goes_on later rest more grows played in
-        let all = p.goes_on later (second ++ rest) (q.own ++ more) (prefix_trans b.moves c.moves later q.grown grows) tail in
-        subst (λ ss. PlayedFrom op_of origin later ss a.sights (length a.moves) ((p.own ++ q.own) ++ more)) (sym (append_assoc first second rest))
-        (subst (PlayedFrom op_of origin later (first ++ (second ++ rest)) a.sights (length a.moves)) (sym (append_assoc p.own q.own more)) all);
+    goes_on = λ later rest after more grows played.
+        let tail = q.goes_on later rest after more grows played in
+        let all = p.goes_on later (second ++ rest) after (q.own ++ more) (prefix_trans b.moves c.moves later q.grown grows) tail in
+        subst (λ ss. PlayedFrom op_of origin later ss a.sights after (length a.moves) ((p.own ++ q.own) ++ more)) (sym (append_assoc first second rest))
+        (subst (PlayedFrom op_of origin later (first ++ (second ++ rest)) a.sights after (length a.moves)) (sym (append_assoc p.own q.own more)) all);
   }
 
   -- what a client has played in all
   pub plays-played : (steps : List Step) (a b : Stage (Move O R)) (later : List (Move O R)) → PlaysOn op_of origin steps a b → a.sights ≡ no_sights → a.places ≡ [] → IsPrefix b.moves later
-      → Played op_of origin (length a.moves) steps b.places later
-  unfolding Played
+      → PlayedTo op_of origin (length a.moves) steps b.places later b.sights
+  unfolding PlayedTo
   plays-played steps a b later p none empty grows =
-      let all = p.goes_on later [] [] grows refl in
+      let all = p.goes_on later [] b.sights [] grows (refl, refl) in
       let own_is : p.own ++ [] ≡ b.places = append-nil p.own ∙ sym (p.added ∙ ap (λ ps. ps ++ p.own) empty) in
-      subst (λ sights. PlayedFrom op_of origin later steps sights (length a.moves) b.places) none
-      (subst (λ ps. PlayedFrom op_of origin later steps a.sights (length a.moves) ps) own_is
-      (subst (λ ss. PlayedFrom op_of origin later ss a.sights (length a.moves) (p.own ++ [])) (append-nil steps) all))
+      subst (λ sights. PlayedFrom op_of origin later steps sights b.sights (length a.moves) b.places) none
+      (subst (λ ps. PlayedFrom op_of origin later steps a.sights b.sights (length a.moves) ps) own_is
+      (subst (λ ss. PlayedFrom op_of origin later ss a.sights b.sights (length a.moves) (p.own ++ [])) (append-nil steps) all))
 
   -- one step
 
   module _ (old new : Stage (Move O R)) (grown : IsPrefix old.moves new.moves) where
     -- one that makes no move
-    pub plays-still : (step : Step) → new.places ≡ old.places → new.sights ≡ sights_after (step ∷ []) old.sights → GoesOn op_of origin (step ∷ []) [] old new → PlaysOn op_of origin (step ∷ []) old new
-    plays-still step same sights goes = record {
+    pub plays-still : (step : Step) → new.places ≡ old.places → GoesOn op_of origin (step ∷ []) [] old new → PlaysOn op_of origin (step ∷ []) old new
+    plays-still step same goes = record {
       own = [];
       grown = grown;
       added = same ∙ sym (append-nil old.places);
       past = tt;
-      sights = sights;
       goes_on = goes;
     }
 
     -- one that makes a move
-    pub plays-move : (step : Step) (place : ℕ) → length old.moves < place → place ≤ length new.moves → new.places ≡ old.places ++ place ∷ [] → new.sights ≡ sights_after (step ∷ []) old.sights
-        → ((later : List (Move O R)) (rest : List Step) (more : List ℕ) → IsPrefix new.moves later
-        → PlayedFrom op_of origin later rest new.sights place more → PlayedFrom op_of origin later (step ∷ rest) old.sights (length old.moves) (place ∷ more))
+    pub plays-move : (step : Step) (place : ℕ) → length old.moves < place → place ≤ length new.moves → new.places ≡ old.places ++ place ∷ []
+        → ((later : List (Move O R)) (rest : List Step) (after : Sights) (more : List ℕ) → IsPrefix new.moves later
+        → PlayedFrom op_of origin later rest new.sights after place more → PlayedFrom op_of origin later (step ∷ rest) old.sights after (length old.moves) (place ∷ more))
         → PlaysOn op_of origin (step ∷ []) old new
-    plays-move step place past within noted sights goes = record {
+    plays-move step place past within noted goes = record {
       own = place ∷ [];
       grown = grown;
       added = noted;
       past = (past, tt);
-      sights = sights;
-      goes_on = λ later rest more grows played. goes later rest more grows (played-earlier op_of origin later place (length new.moves) within rest new.sights more played);
+      goes_on = λ later rest after more grows played. goes later rest after more grows (played-earlier op_of origin later place (length new.moves) within rest new.sights after more played);
     }

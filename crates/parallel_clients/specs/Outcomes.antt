@@ -1,5 +1,5 @@
 -- What becomes of a client.
-use Rattle.std.specs.Prelude.{◌≡◌, ℕ, ◌+◌, ◌<◌, ◌≤◌, ◌⊎◌, List, [], ◌∷◌, ◌++◌, length, take, slice_get, Some, None}
+use Rattle.std.specs.Prelude.{◌≡◌, ℕ, ◌+◌, ◌<◌, ◌≤◌, ◌⊎◌, List, [], ◌∷◌, ◌++◌, length, take, slice_get, Some, None, Bool, true}
 use Rattle.std.specs.List.{AllByRecursion}
 use mathlib.Core.List.{IsPrefix}
 use Rattle.branch_io.specs.Causes.{Rose}
@@ -8,13 +8,13 @@ use Rattle.branch_history.specs.Steps as machine
 use Rattle.branch_machine.specs.Fixed.{Fixed}
 use Rattle.branch_doc.specs.declared.plain.PlainOp.{PlainOp}
 use Rattle.branch_script.specs.declared.step.Step.{Step}
-use Rattle.branch_script.specs.declared.step.Step.TheVariants.{Look, Fork, Merge, Join, Do, Ask}
+use Rattle.branch_script.specs.declared.step.Step.TheVariants.{Look, Fork, Merge, Join, Do, Ask, Drop}
 use Rattle.recorded_history.specs.Machine.{FullyRefuses}
 use Rattle.parallel_clients.specs.declared.outcome.ClientRefusal.{ClientRefusal}
 use Rattle.parallel_clients.specs.declared.outcome.ClientRefusal.TheVariants as client_refusal
 use Rattle.parallel_clients.specs.declared.outcome.Outcome.{Outcome}
 use Rattle.parallel_clients.specs.declared.outcome.Outcome.TheVariants.{Done, Refused, Unseen}
-use Rattle.parallel_clients.specs.Played.{Sights, no_sights, sights_after, WasHead, AreNamedHeads, WereHeads, IfSees, Played}
+use Rattle.parallel_clients.specs.Played.{Sights, WasHead, HadHead, AreNamedHeads, WereHeads, IfSees, Played, PlayedTo}
 
 -- what is fixed for the clients of a store: the store's meaning, terms and addresses, the operation that a plain form stands for, and the count of the disk's
 -- faults when the store was opened
@@ -37,27 +37,37 @@ pub record RefusesLook {S O R Q A : Type 0} (on : Setting S O R Q A) (moves : Li
   pub refused : FullyRefuses on.fixed moves (machine.Look name) refusal
 
 -- the machine refuses a merge of commits that were the heads of the branches with these names, from a head that a session's branch had
-pub record RefusesJoin {S O R Q A : Type 0} (on : Setting S O R Q A) (moves : List (Move O R)) (branch : List ℕ) (from : List (List ℕ)) (refusal : machine.Refusal) : Type 0 where
-  pub number : ℕ
+pub record RefusesJoin {S O R Q A : Type 0} (on : Setting S O R Q A) (moves : List (Move O R)) (branch : ℕ) (from : List (List ℕ)) (refusal : machine.Refusal) : Type 0 where
   pub head : ℕ
   pub heads : List ℕ
-  pub seen : WasHead on.fixed.terms.origin moves branch number head
+  pub seen : HadHead on.fixed.terms.origin moves branch head
   pub others : WereHeads on.fixed.terms.origin moves from heads
-  pub refused : FullyRefuses on.fixed moves (machine.Merge number head heads) refusal
+  pub refused : FullyRefuses on.fixed moves (machine.Merge branch head heads) refusal
 
--- The machine refuses a client's step after a history: an operation or a merge is made from a head that the session's branch had, and a merge is of a head that the
+-- The machine refuses a client's step after a history: an operation, a merge or a drop is made from a head that the session's branch had, and a merge is of a head that the
 -- other branch had, if there is one with its name, and a join of those of several. Of a session that has not looked it is not asked.
 abbrev pub RefusesStep : {S O R Q A : Type 0} → Setting S O R Q A → List (Move O R) → Sights → Step → machine.Refusal → Type 0
 RefusesStep on moves sights (Look session branch) refusal = FullyRefuses on.fixed moves (machine.Look branch) refusal
 RefusesStep on moves sights (Ask branch query) refusal = FullyRefuses on.fixed moves (machine.Look branch) refusal
 RefusesStep on moves sights (Fork new from) refusal = FullyRefuses on.fixed moves (machine.Fork new from) refusal
 RefusesStep on moves sights (Do session op) refusal =
-    IfSees (sights session) (λ branch. (number head : ℕ) × WasHead on.fixed.terms.origin moves branch number head × FullyRefuses on.fixed moves (machine.Land number head (on.op_of op)) refusal)
+    IfSees (sights session) (λ branch. (head : ℕ) × HadHead on.fixed.terms.origin moves branch head × FullyRefuses on.fixed moves (machine.Land branch head (on.op_of op)) refusal)
 RefusesStep on moves sights (Merge session from) refusal =
     IfSees (sights session) (λ branch. FullyRefuses on.fixed moves (machine.Look from) refusal
-    ⊎ ((number head source commit : ℕ) × WasHead on.fixed.terms.origin moves branch number head × WasHead on.fixed.terms.origin moves from source commit
-    × FullyRefuses on.fixed moves (machine.Merge number head (commit ∷ [])) refusal))
+    ⊎ ((head source commit : ℕ) × HadHead on.fixed.terms.origin moves branch head × WasHead on.fixed.terms.origin moves from source commit
+    × FullyRefuses on.fixed moves (machine.Merge branch head (commit ∷ [])) refusal))
 RefusesStep on moves sights (Join session from) refusal = IfSees (sights session) (λ branch. RefusesLook on moves from refusal ⊎ RefusesJoin on moves branch from refusal)
+RefusesStep on moves sights (Drop session) refusal =
+    IfSees (sights session) (λ branch. (head : ℕ) × HadHead on.fixed.terms.origin moves branch head × FullyRefuses on.fixed moves (machine.Drop branch head) refusal)
+
+-- a step that drops a branch is one of a store that drops some
+abbrev pub MayDrop : Bool → Step → Type 0
+MayDrop drops (Drop session) = drops ≡ true
+MayDrop drops step = Unit {0}
+
+-- each step of each script is
+abbrev pub MayDropIn : Bool → List (List Step) → Type 0
+MayDropIn drops scripts = AllByRecursion (AllByRecursion (MayDrop drops)) scripts
 
 -- the disk has failed since the store was opened
 abbrev pub HasFailed : {S O R Q A : Type 0} → Setting S O R Q A → ℕ → Type 0
@@ -67,6 +77,7 @@ HasFailed on faults = Rose on.opened (on.opened + faults)
 abbrev pub StepRefused : {S O R Q A : Type 0} → Setting S O R Q A → List (Move O R) → ℕ → Sights → Step → ClientRefusal → Type 0
 StepRefused on moves faults sights step (client_refusal.UnknownBranch name) = RefusesStep on moves sights step (machine.UnknownBranch name)
 StepRefused on moves faults sights step (client_refusal.Dropped branch) = RefusesStep on moves sights step (machine.Dropped branch)
+StepRefused on moves faults sights step client_refusal.KeepsMain = RefusesStep on moves sights step machine.KeepsMain
 StepRefused on moves faults sights step (client_refusal.Exhausted clock) = RefusesStep on moves sights step (machine.Exhausted clock)
 StepRefused on moves faults sights step (client_refusal.FullCommits count) = RefusesStep on moves sights step (machine.FullCommits count)
 StepRefused on moves faults sights step (client_refusal.FullBranches count) = RefusesStep on moves sights step (machine.FullBranches count)
@@ -85,22 +96,25 @@ pub record IsRefused {S O R Q A : Type 0} (on : Setting S O R Q A) (old new : Li
   pub before : List (Move O R)
   pub begun : IsPrefix old before
   pub begins : IsPrefix before new
-  pub played : Played on.op_of on.fixed.terms.origin (length old) (take number steps) places before
-  pub refused : StepRefused on before faults (sights_after (take number steps) no_sights) step refusal
+  pub sights : Sights
+  pub played : PlayedTo on.op_of on.fixed.terms.origin (length old) (take number steps) places before sights
+  pub refused : StepRefused on before faults sights step refusal
 
 -- a step names a session that has to have looked, and sees no branch
 abbrev pub SeesNone : Sights → Step → Type 0
 SeesNone sights (Do session op) = sights session ≡ None
 SeesNone sights (Merge session from) = sights session ≡ None
 SeesNone sights (Join session from) = sights session ≡ None
+SeesNone sights (Drop session) = sights session ≡ None
 SeesNone sights step = ⊥
 
 -- the step behind so many names a session without a look, after what the steps before it made at the places
 pub record IsUnseen {S O R Q A : Type 0} (on : Setting S O R Q A) (old new : List (Move O R)) (steps : List Step) (number : ℕ) (places : List ℕ) : Type 0 where
   pub step : Step
   pub is_step : slice_get steps number ≡ Some step
-  pub played : Played on.op_of on.fixed.terms.origin (length old) (take number steps) places new
-  pub unseen : SeesNone (sights_after (take number steps) no_sights) step
+  pub sights : Sights
+  pub played : PlayedTo on.op_of on.fixed.terms.origin (length old) (take number steps) places new sights
+  pub unseen : SeesNone sights step
 
 -- what became of the steps of a client, where a history grew from an old one to a new one, and the disk has had so many faults since it was opened
 abbrev pub ComesTo : {S O R Q A : Type 0} → Setting S O R Q A → List (Move O R) → List (Move O R) → ℕ → List Step → Outcome → Type 0

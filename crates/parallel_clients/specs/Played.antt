@@ -11,27 +11,17 @@ use Rattle.branch_history.specs.History.{store_of}
 use Rattle.branch_history.specs.Merging.{brought}
 use Rattle.branch_doc.specs.declared.plain.PlainOp.{PlainOp}
 use Rattle.branch_script.specs.declared.step.Step.{Step}
-use Rattle.branch_script.specs.declared.step.Step.TheVariants.{Look, Fork, Merge, Join, Do, Ask}
+use Rattle.branch_script.specs.declared.step.Step.TheVariants.{Look, Fork, Merge, Join, Do, Ask, Drop}
 
--- the branch of each session's last look, by its name
+-- the branch of each session's last look, by the number that it had then
 abbrev pub Sights : Type 0
-Sights = List ℕ → Option (List ℕ)
+Sights = List ℕ → Option ℕ
 
 abbrev pub no_sights : Sights
 no_sights session = None
 
-abbrev pub with_sight : Sights → List ℕ → List ℕ → Sights
+abbrev pub with_sight : Sights → List ℕ → ℕ → Sights
 with_sight sights session branch name = if bytes_eq session name then Some branch else sights name
-
--- after some steps
-abbrev pub sights_after : List Step → Sights → Sights
-sights_after [] sights = sights
-sights_after (Look session branch ∷ steps) sights = sights_after steps (with_sight sights session branch)
-sights_after (Fork new from ∷ steps) sights = sights_after steps sights
-sights_after (Merge session branch ∷ steps) sights = sights_after steps sights
-sights_after (Join session branches ∷ steps) sights = sights_after steps sights
-sights_after (Do session op ∷ steps) sights = sights_after steps sights
-sights_after (Ask branch query ∷ steps) sights = sights_after steps sights
 
 -- the move of a history at a place, counted from 1
 abbrev pub IsMoveAt : {M : Type 0} → List M → ℕ → M → Type 0
@@ -50,12 +40,14 @@ pub record WasHead {O R : Type 0} (origin : ℕ) (moves : List (Move O R)) (name
   pub named : branch_named (store_of origin before).branches name ≡ Some branch
   pub head : head_of (store_of origin before).branches branch ≡ commit
 
+-- the branch of this number had a name, and this commit for its head, after some first part of a history
+abbrev pub HadHead : {O R : Type 0} → ℕ → List (Move O R) → ℕ → ℕ → Type 0
+HadHead origin moves branch commit = (name : List ℕ) × WasHead origin moves name branch commit
+
 -- the operation on a session's branch
-pub record IsDone {O R : Type 0} (origin : ℕ) (moves : List (Move O R)) (branch : List ℕ) (op : O) (place : ℕ) : Type 0 where
-  pub number : ℕ
-  pub named : WasNamed origin moves branch number
+pub record IsDone {O R : Type 0} (moves : List (Move O R)) (branch : ℕ) (op : O) (place : ℕ) : Type 0 where
   pub reply : R
-  pub made : IsMoveAt moves place (move.Operation number op reply)
+  pub made : IsMoveAt moves place (move.Operation branch op reply)
 
 -- the fork of a new branch from another
 pub record IsForked {O R : Type 0} (origin : ℕ) (moves : List (Move O R)) (new from : List ℕ) (place : ℕ) : Type 0 where
@@ -65,13 +57,11 @@ pub record IsForked {O R : Type 0} (origin : ℕ) (moves : List (Move O R)) (new
   pub made : IsMoveAt moves place (move.Fork new number source)
 
 -- the merge into a session's branch, or its move up to, of a commit that was the head of another
-pub record IsMerged {O R : Type 0} (origin : ℕ) (moves : List (Move O R)) (branch from : List ℕ) (place : ℕ) : Type 0 where
-  pub number : ℕ
+pub record IsMerged {O R : Type 0} (origin : ℕ) (moves : List (Move O R)) (branch : ℕ) (from : List ℕ) (place : ℕ) : Type 0 where
   pub source : ℕ
   pub commit : ℕ
-  pub named : WasNamed origin moves branch number
   pub head : WasHead origin moves from source commit
-  pub made : IsMoveAt moves place (move.Merge number commit) ⊎ IsMoveAt moves place (move.Forward number commit)
+  pub made : IsMoveAt moves place (move.Merge branch commit) ⊎ IsMoveAt moves place (move.Forward branch commit)
 
 -- these are the heads of the branches that have the names, in order
 abbrev pub AreNamedHeads : {O R : Type 0} → ℕ → List (Move O R) → List (List ℕ) → List ℕ → Type 0
@@ -95,45 +85,44 @@ IsMoveOf number (m ∷ []) made = (made ≡ move.Merge number m) ⊎ (made ≡ m
 IsMoveOf number (m ∷ k ∷ ks) made = made ≡ move.Join number (m ∷ k ∷ ks)
 
 -- a move that joins into a session's branch: it brings what a merge of commits, which were the heads of others at one time, brings to a head that had been seen then
-pub record Joins {O R : Type 0} (origin : ℕ) (moves : List (Move O R)) (branch : List ℕ) (from : List (List ℕ)) (made : Move O R) : Type 0 where
-  pub number : ℕ
+pub record Joins {O R : Type 0} (origin : ℕ) (moves : List (Move O R)) (branch : ℕ) (from : List (List ℕ)) (made : Move O R) : Type 0 where
   pub head : ℕ
   pub heads : List ℕ
   pub before : List (Move O R)
   pub begins : IsPrefix before moves
-  pub seen : WasHead origin before branch number head
+  pub seen : HadHead origin before branch head
   pub others : AreNamedHeads origin before from heads
-  pub is_move : IsMoveOf number (brought (graph_of (store_of origin before).commits) head heads) made
+  pub is_move : IsMoveOf branch (brought (graph_of (store_of origin before).commits) head heads) made
 
 -- the join into a session's branch of the heads of others
-pub record IsJoined {O R : Type 0} (origin : ℕ) (moves : List (Move O R)) (branch : List ℕ) (from : List (List ℕ)) (place : ℕ) : Type 0 where
+pub record IsJoined {O R : Type 0} (origin : ℕ) (moves : List (Move O R)) (branch : ℕ) (from : List (List ℕ)) (place : ℕ) : Type 0 where
   pub made : Move O R
   pub joins : Joins origin moves branch from made
   pub at : IsMoveAt moves place made
 
+-- the branch of this number has the name
+abbrev pub HasNumber : {O R : Type 0} → ℕ → List ℕ → ℕ → List (Move O R) → Type 0
+HasNumber origin name number moves = branch_named (store_of origin moves).branches name ≡ Some number
+
 -- some branch has the name
 abbrev pub HasBranch : {O R : Type 0} → ℕ → List ℕ → List (Move O R) → Type 0
-HasBranch origin name moves = (number : ℕ) × (branch_named (store_of origin moves).branches name ≡ Some number)
+HasBranch origin name moves = (number : ℕ) × HasNumber origin name number moves
 
 -- a branch cannot be forked from another, which is there, since some branch has its name
 abbrev pub IsTaken : {O R : Type 0} → ℕ → List ℕ → List ℕ → List (Move O R) → Type 0
 IsTaken origin new from moves = HasBranch origin new moves × HasBranch origin from moves
 
--- the head of a session's branch reaches the head of another
-pub record IsReached {O R : Type 0} (origin : ℕ) (branch from : List ℕ) (moves : List (Move O R)) : Type 0 where
-  pub number : ℕ
+-- the head of a session's branch reaches the head of another; a session's branch that was dropped has the last head that it had
+pub record IsReached {O R : Type 0} (origin branch : ℕ) (from : List ℕ) (moves : List (Move O R)) : Type 0 where
   pub source : ℕ
-  pub named : WasNamed origin moves branch number
   pub other : branch_named (store_of origin moves).branches from ≡ Some source
-  pub reached : IsTrue (reaches (graph_of (store_of origin moves).commits) (head_of (store_of origin moves).branches number) (head_of (store_of origin moves).branches source))
+  pub reached : IsTrue (reaches (graph_of (store_of origin moves).commits) (head_of (store_of origin moves).branches branch) (head_of (store_of origin moves).branches source))
 
--- a merge of the heads of these branches brings nothing to the head of a session's branch
-pub record BringsNothing {O R : Type 0} (origin : ℕ) (branch : List ℕ) (from : List (List ℕ)) (moves : List (Move O R)) : Type 0 where
-  pub number : ℕ
+-- a merge of the heads of these branches brings nothing to the head of a session's branch, to that of a dropped one as in the case of one other
+pub record BringsNothing {O R : Type 0} (origin branch : ℕ) (from : List (List ℕ)) (moves : List (Move O R)) : Type 0 where
   pub heads : List ℕ
-  pub named : WasNamed origin moves branch number
   pub others : AreNamedHeads origin moves from heads
-  pub nothing : brought (graph_of (store_of origin moves).commits) (head_of (store_of origin moves).branches number) heads ≡ []
+  pub nothing : brought (graph_of (store_of origin moves).commits) (head_of (store_of origin moves).branches branch) heads ≡ []
 
 -- the first of the places is such a one, behind the last, and the others go on from it
 abbrev pub TakesOne : (ℕ → Type 0) → (ℕ → List ℕ → Type 0) → ℕ → List ℕ → Type 0
@@ -149,34 +138,42 @@ pub record TakesNone {M : Type 0} (moves : List M) (Holds : List M → Type 0) (
   pub rest : Rest (length before) places
 
 -- what a session that sees a branch does; one that sees none does nothing
-abbrev pub IfSees : Option (List ℕ) → (List ℕ → Type 0) → Type 0
+abbrev pub IfSees : Option ℕ → (ℕ → Type 0) → Type 0
 IfSees None Does = ⊥
 IfSees (Some branch) Does = Does branch
 
--- the moves of a history at these places, behind the last one, are those of the steps, in order, where sessions see this at first, in a store with this first origin
-abbrev pub PlayedFrom : {O R : Type 0} → (PlainOp → O) → ℕ → List (Move O R) → List Step → Sights → ℕ → List ℕ → Type 0
-PlayedFrom op_of origin moves [] sights last places = places ≡ []
-PlayedFrom op_of origin moves (Look session branch ∷ steps) sights last places = TakesNone moves (HasBranch origin branch) (PlayedFrom op_of origin moves steps (with_sight sights session branch)) last places
-PlayedFrom op_of origin moves (Ask branch query ∷ steps) sights last places = TakesNone moves (HasBranch origin branch) (PlayedFrom op_of origin moves steps sights) last places
-PlayedFrom op_of origin moves (Do session op ∷ steps) sights last places =
-    IfSees (sights session) (λ branch. TakesOne (IsDone origin moves branch (op_of op)) (PlayedFrom op_of origin moves steps sights) last places)
-PlayedFrom op_of origin moves (Fork new from ∷ steps) sights last places =
-    TakesOne (IsForked origin moves new from) (PlayedFrom op_of origin moves steps sights) last places
-    ⊎ TakesNone moves (IsTaken origin new from) (PlayedFrom op_of origin moves steps sights) last places
-PlayedFrom op_of origin moves (Merge session from ∷ steps) sights last places =
+-- the moves of a history at these places, behind the last one, are those of the steps, in order, where sessions see this at first and that at the end, in a store with this first origin
+abbrev pub PlayedFrom : {O R : Type 0} → (PlainOp → O) → ℕ → List (Move O R) → List Step → Sights → Sights → ℕ → List ℕ → Type 0
+PlayedFrom op_of origin moves [] sights after last places = (places ≡ []) × (sights ≡ after)
+PlayedFrom op_of origin moves (Look session branch ∷ steps) sights after last places =
+    (number : ℕ) × TakesNone moves (HasNumber origin branch number) (PlayedFrom op_of origin moves steps (with_sight sights session number) after) last places
+PlayedFrom op_of origin moves (Ask branch query ∷ steps) sights after last places = TakesNone moves (HasBranch origin branch) (PlayedFrom op_of origin moves steps sights after) last places
+PlayedFrom op_of origin moves (Do session op ∷ steps) sights after last places =
+    IfSees (sights session) (λ branch. TakesOne (IsDone moves branch (op_of op)) (PlayedFrom op_of origin moves steps sights after) last places)
+PlayedFrom op_of origin moves (Fork new from ∷ steps) sights after last places =
+    TakesOne (IsForked origin moves new from) (PlayedFrom op_of origin moves steps sights after) last places
+    ⊎ TakesNone moves (IsTaken origin new from) (PlayedFrom op_of origin moves steps sights after) last places
+PlayedFrom op_of origin moves (Merge session from ∷ steps) sights after last places =
     IfSees (sights session) (λ branch.
-    TakesOne (IsMerged origin moves branch from) (PlayedFrom op_of origin moves steps sights) last places
-    ⊎ TakesNone moves (IsReached origin branch from) (PlayedFrom op_of origin moves steps sights) last places)
-PlayedFrom op_of origin moves (Join session from ∷ steps) sights last places =
+    TakesOne (IsMerged origin moves branch from) (PlayedFrom op_of origin moves steps sights after) last places
+    ⊎ TakesNone moves (IsReached origin branch from) (PlayedFrom op_of origin moves steps sights after) last places)
+PlayedFrom op_of origin moves (Join session from ∷ steps) sights after last places =
     IfSees (sights session) (λ branch.
-    TakesOne (IsJoined origin moves branch from) (PlayedFrom op_of origin moves steps sights) last places
-    ⊎ TakesNone moves (BringsNothing origin branch from) (PlayedFrom op_of origin moves steps sights) last places)
+    TakesOne (IsJoined origin moves branch from) (PlayedFrom op_of origin moves steps sights after) last places
+    ⊎ TakesNone moves (BringsNothing origin branch from) (PlayedFrom op_of origin moves steps sights after) last places)
+PlayedFrom op_of origin moves (Drop session ∷ steps) sights after last places =
+    IfSees (sights session) (λ branch. TakesOne (λ place. IsMoveAt moves place (move.Drop branch)) (PlayedFrom op_of origin moves steps sights after) last places)
 
 -- The moves of a history of a store with this first origin at these places, behind its first so many, are those of a client's steps, in order: one for each operation; one for each fork, or none where
--- the name is taken; one for each merge and each join, or none where there is nothing to merge. A look and a query make none. Each step that makes none was done after some first
--- part of the history, no shorter than that of the step before it: of a look and a query, one that has the branch.
-unfoldable pub Played : {O R : Type 0} → (PlainOp → O) → ℕ → ℕ → List Step → List ℕ → List (Move O R) → Type 0
-Played op_of origin begun steps places moves = PlayedFrom op_of origin moves steps no_sights begun places
+-- the name is taken; one for each merge and each join, or none where there is nothing to merge; one for each drop, of its session's branch. A look and a query make none. Each step that makes none was
+-- done after some first part of the history, no shorter than that of the step before it: of a look and a query, one that has the branch. A session's branch is the one that had the name at its last
+-- look, also where another has the name later. Behind the steps the sessions see this.
+unfoldable pub PlayedTo : {O R : Type 0} → (PlainOp → O) → ℕ → ℕ → List Step → List ℕ → List (Move O R) → Sights → Type 0
+PlayedTo op_of origin begun steps places moves after = PlayedFrom op_of origin moves steps no_sights after begun places
+
+-- and they see something
+abbrev pub Played : {O R : Type 0} → (PlainOp → O) → ℕ → ℕ → List Step → List ℕ → List (Move O R) → Type 0
+Played op_of origin begun steps places moves = (after : Sights) × PlayedTo op_of origin begun steps places moves after
 
 -- what a history has of a client's steps, each longer one has
 abbrev pub StaysPlayed : {O : Type 0} (R : Type 0) → (PlainOp → O) → Type 0

@@ -1,5 +1,5 @@
 -- What a client's sessions see, and how a client goes on.
-use Rattle.std.specs.Prelude.{◌≡◌, ℕ, ◌+◌, ◌≤◌, ◌⊎◌, List, [], ◌∷◌, ◌++◌, length, Some, if◌then◌else◌}
+use Rattle.std.specs.Prelude.{◌≡◌, ℕ, ◌+◌, ◌≤◌, ◌⊎◌, List, [], ◌∷◌, ◌++◌, length, Some, None, if◌then◌else◌}
 use Rattle.std.specs.declared.option.Option.{Option}
 use Rattle.std.specs.Option.{option_map}
 use Rattle.std.specs.Map.{lookup}
@@ -22,6 +22,8 @@ use Rattle.store_seen.specs.Groups.{IsGrouped, GroupRefusedAs, MergesAllAs, IsSt
 use Rattle.store_seen.specs.Turns.{step_of}
 use Rattle.store_seen.specs.Views.{CoreView, SeenView, PreparedView, GroupView}
 use Rattle.recorded_history.specs.Machine.{FullyRefuses}
+use Rattle.store_core.specs.declared.answers.DropRefused.{DropRefused}
+use Rattle.store_core.specs.declared.answers.DropRefused.TheVariants as drop_refusal
 use Rattle.branch_shared.specs.Passes.{PassView, IsSeenOn}
 use Rattle.parallel_clients.specs.declared.landing.Landing.{Landing}
 use Rattle.parallel_clients.specs.declared.landing.Landing.TheVariants.{Moved, Stale, Same}
@@ -32,7 +34,7 @@ use Rattle.parallel_clients.specs.declared.outcome.ClientRefusal.TheVariants as 
 use Rattle.parallel_clients.specs.declared.outcome.Outcome.{Outcome}
 use Rattle.parallel_clients.specs.declared.outcome.Outcome.TheVariants as outcome
 use Rattle.parallel_clients.specs.declared.sessions.Session.{Session}
-use Rattle.parallel_clients.specs.Played.{Sights, no_sights, sights_after, WasNamed, WasHead, IsReached, Joins, BringsNothing, PlayedFrom}
+use Rattle.parallel_clients.specs.Played.{Sights, no_sights, WasHead, IsReached, Joins, BringsNothing, PlayedFrom}
 use Rattle.parallel_clients.specs.Outcomes.{Setting, ArePast, HasFailed, StepRefused, SeesNone}
 
 -- the sessions of a client: of each, the branch of its last look, and what it sees there
@@ -47,9 +49,9 @@ session_named entries name = lookup (λ other. is_eq (slice_cmp nat_cmp name oth
 abbrev pub Puts : {S : Type 0} → List (List ℕ × S) → List (List ℕ × S) → List ℕ → S → Type 0
 Puts old new session s = (name : List ℕ) → session_named new name ≡ (if is_eq (slice_cmp nat_cmp session name) then Some s else session_named old name)
 
--- what the sessions see, by name
+-- the branches that the sessions see, by their numbers
 abbrev pub sights_of : {M : Type 0} → Sessions M → Sights
-sights_of sessions name = option_map (λ s. s.branch) (session_named sessions name)
+sights_of sessions name = option_map (λ s. s.seen.branch) (session_named sessions name)
 
 -- a look at the branch's head, after some first part of a history
 pub record IsSession {O R : Type 0} (terms : Terms) (moves : List (Move O R)) (s : Session (SeenView (Move O R))) : Type 0 where
@@ -71,8 +73,8 @@ pub record Stage (M : Type 0) : Type 0 where
 -- where a client goes on from a stage, it has gone on so from an earlier one, by some steps and places in front
 abbrev pub GoesOn : {O R : Type 0} → (PlainOp → O) → ℕ → List Step → List ℕ → Stage (Move O R) → Stage (Move O R) → Type 0
 GoesOn {O} {R} op_of origin steps own old new =
-    (later : List (Move O R)) (rest : List Step) (more : List ℕ) → IsPrefix new.moves later → PlayedFrom op_of origin later rest new.sights (length new.moves) more
-    → PlayedFrom op_of origin later (steps ++ rest) old.sights (length old.moves) (own ++ more)
+    (later : List (Move O R)) (rest : List Step) (after : Sights) (more : List ℕ) → IsPrefix new.moves later → PlayedFrom op_of origin later rest new.sights after (length new.moves) more
+    → PlayedFrom op_of origin later (steps ++ rest) old.sights after (length old.moves) (own ++ more)
 
 -- a client came by these steps from one stage to another
 pub record PlaysOn {O R : Type 0} (op_of : PlainOp → O) (origin : ℕ) (steps : List Step) (old new : Stage (Move O R)) : Type 0 where
@@ -80,7 +82,6 @@ pub record PlaysOn {O R : Type 0} (op_of : PlainOp → O) (origin : ℕ) (steps 
   pub grown : IsPrefix old.moves new.moves
   pub added : new.places ≡ old.places ++ own
   pub past : ArePast (length old.moves) own
-  pub sights : new.sights ≡ sights_after steps old.sights
   pub goes_on : GoesOn op_of origin steps own old new
 
 abbrev pub stage_of : {M : Type 0} → PassView M → Sessions M → List ℕ → Stage M
@@ -129,43 +130,49 @@ IsLandRefused on made new client_refusal.Memory = Unit {0}
 IsLandRefused on made new other = ⊥
 
 -- an operation landed on the branch that a session sees
-pub record HasDone {O R : Type 0} (origin : ℕ) (sight : Option (List ℕ)) (op : O) (old new : PassView (Move O R)) (places after : List ℕ) : Type 0 where
-  pub branch : List ℕ
+pub record HasDone {O R : Type 0} (sight : Option ℕ) (op : O) (old new : PassView (Move O R)) (places after : List ℕ) : Type 0 where
+  pub branch : ℕ
   pub sees : sight ≡ Some branch
-  pub number : ℕ
-  pub named : WasNamed origin old.moves branch number
   pub reply : R
-  pub moved : HasMoved (move.Operation number op reply) old new places after
+  pub moved : HasMoved (move.Operation branch op reply) old new places after
 
 -- what came of a try to land it
-abbrev pub IsTried : {O R : Type 0} → ℕ → Option (List ℕ) → O → PassView (Move O R) → PassView (Move O R) → List ℕ → List ℕ → Landing → Type 0
-IsTried origin sight op old new places after Moved = HasDone origin sight op old new places after
-IsTried origin sight op old new places after Stale = HasStayed old new places after
-IsTried origin sight op old new places after Same = ⊥
+abbrev pub IsTried : {O R : Type 0} → Option ℕ → O → PassView (Move O R) → PassView (Move O R) → List ℕ → List ℕ → Landing → Type 0
+IsTried sight op old new places after Moved = HasDone sight op old new places after
+IsTried sight op old new places after Stale = HasStayed old new places after
+IsTried sight op old new places after Same = ⊥
 
 -- a head of another branch was merged into the branch that a session sees
-pub record HasMerged {O R : Type 0} (origin : ℕ) (sight : Option (List ℕ)) (from : List ℕ) (old new : PassView (Move O R)) (places after : List ℕ) : Type 0 where
-  pub branch : List ℕ
+pub record HasMerged {O R : Type 0} (origin : ℕ) (sight : Option ℕ) (from : List ℕ) (old new : PassView (Move O R)) (places after : List ℕ) : Type 0 where
+  pub branch : ℕ
   pub sees : sight ≡ Some branch
-  pub number : ℕ
   pub source : ℕ
   pub commit : ℕ
-  pub named : WasNamed origin old.moves branch number
   pub head : WasHead origin new.moves from source commit
-  pub moved : HasMoved (move.Merge number commit) old new places after ⊎ HasMoved (move.Forward number commit) old new places after
+  pub moved : HasMoved (move.Merge branch commit) old new places after ⊎ HasMoved (move.Forward branch commit) old new places after
 
 -- there was nothing to merge
-pub record HasSame {O R : Type 0} (origin : ℕ) (sight : Option (List ℕ)) (from : List ℕ) (old new : PassView (Move O R)) (places after : List ℕ) : Type 0 where
-  pub branch : List ℕ
+pub record HasSame {O R : Type 0} (origin : ℕ) (sight : Option ℕ) (from : List ℕ) (old new : PassView (Move O R)) (places after : List ℕ) : Type 0 where
+  pub branch : ℕ
   pub sees : sight ≡ Some branch
   pub reached : IsReached origin branch from new.moves
   pub stayed : HasStayed old new places after
 
 -- what came of a try to merge
-abbrev pub IsTriedMerge : {O R : Type 0} → ℕ → Option (List ℕ) → List ℕ → PassView (Move O R) → PassView (Move O R) → List ℕ → List ℕ → Landing → Type 0
+abbrev pub IsTriedMerge : {O R : Type 0} → ℕ → Option ℕ → List ℕ → PassView (Move O R) → PassView (Move O R) → List ℕ → List ℕ → Landing → Type 0
 IsTriedMerge origin sight from old new places after Moved = HasMerged origin sight from old new places after
 IsTriedMerge origin sight from old new places after Stale = HasStayed old new places after
 IsTriedMerge origin sight from old new places after Same = HasSame origin sight from old new places after
+
+-- why a client stops whose branch was not dropped, unless it has a newer head
+abbrev pub undropped_as : DropRefused → Option ClientRefusal
+undropped_as (drop_refusal.Dropped branch) = Some (client_refusal.Dropped branch)
+undropped_as drop_refusal.KeepsMain = Some client_refusal.KeepsMain
+undropped_as (drop_refusal.Stale newest) = None
+undropped_as (drop_refusal.FullMoves count) = Some (client_refusal.FullMoves count)
+undropped_as drop_refusal.DiskFault = Some client_refusal.DiskFault
+undropped_as (drop_refusal.Failed moves) = Some (client_refusal.Failed moves)
+undropped_as drop_refusal.Memory = Some client_refusal.Memory
 
 -- why a client stops whose look was not grouped
 abbrev pub ungrouped_as : PairRefused → ClientRefusal
@@ -192,25 +199,37 @@ IsJoinUnready meaning core seen from client_refusal.Memory = Unit {0}
 IsJoinUnready meaning core seen from other = ⊥
 
 -- heads of other branches were joined into the branch that a session sees
-pub record HasJoined {O R : Type 0} (origin : ℕ) (sight : Option (List ℕ)) (from : List (List ℕ)) (old new : PassView (Move O R)) (places after : List ℕ) : Type 0 where
-  pub branch : List ℕ
+pub record HasJoined {O R : Type 0} (origin : ℕ) (sight : Option ℕ) (from : List (List ℕ)) (old new : PassView (Move O R)) (places after : List ℕ) : Type 0 where
+  pub branch : ℕ
   pub sees : sight ≡ Some branch
   pub made : Move O R
   pub joins : Joins origin new.moves branch from made
   pub moved : HasMoved made old new places after
 
 -- there was nothing to join
-pub record HasNothing {O R : Type 0} (origin : ℕ) (sight : Option (List ℕ)) (from : List (List ℕ)) (old new : PassView (Move O R)) (places after : List ℕ) : Type 0 where
-  pub branch : List ℕ
+pub record HasNothing {O R : Type 0} (origin : ℕ) (sight : Option ℕ) (from : List (List ℕ)) (old new : PassView (Move O R)) (places after : List ℕ) : Type 0 where
+  pub branch : ℕ
   pub sees : sight ≡ Some branch
   pub brings : BringsNothing origin branch from new.moves
   pub stayed : HasStayed old new places after
 
 -- what came of a try to join
-abbrev pub IsTriedJoin : {O R : Type 0} → ℕ → Option (List ℕ) → List (List ℕ) → PassView (Move O R) → PassView (Move O R) → List ℕ → List ℕ → Landing → Type 0
+abbrev pub IsTriedJoin : {O R : Type 0} → ℕ → Option ℕ → List (List ℕ) → PassView (Move O R) → PassView (Move O R) → List ℕ → List ℕ → Landing → Type 0
 IsTriedJoin origin sight from old new places after Moved = HasJoined origin sight from old new places after
 IsTriedJoin origin sight from old new places after Stale = HasStayed old new places after
 IsTriedJoin origin sight from old new places after Same = HasNothing origin sight from old new places after
+
+-- the branch that a session sees was dropped
+pub record HasDropped {O R : Type 0} (sight : Option ℕ) (old new : PassView (Move O R)) (places after : List ℕ) : Type 0 where
+  pub branch : ℕ
+  pub sees : sight ≡ Some branch
+  pub moved : HasMoved (move.Drop branch) old new places after
+
+-- what came of a try to drop it
+abbrev pub IsTriedDrop : {O R : Type 0} → Option ℕ → PassView (Move O R) → PassView (Move O R) → List ℕ → List ℕ → Landing → Type 0
+IsTriedDrop sight old new places after Moved = HasDropped sight old new places after
+IsTriedDrop sight old new places after Stale = HasStayed old new places after
+IsTriedDrop sight old new places after Same = ⊥
 
 -- why a client stops at a step
 abbrev pub IsStopped : {S O R Q A : Type 0} → Setting S O R Q A → Sights → Step → PassView (Move O R) → Stop → Type 0

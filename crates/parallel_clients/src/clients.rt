@@ -4,7 +4,7 @@ ghost use Rattle.std.specs.List.{AllByRecursion, AllZip};
 ghost use Rattle.branch_machine.specs.Fixed.{fix};
 ghost use Rattle.parallel_clients.specs.Clients.{Ran};
 ghost use Rattle.parallel_clients.specs.Entrants.{HasRunOwn, HasWorked, HaveEntered, HaveLeft, IsReady, IsSeat};
-ghost use Rattle.parallel_clients.specs.Outcomes.{setting};
+ghost use Rattle.parallel_clients.specs.Outcomes.{MayDrop, MayDropIn, setting};
 
 use crate::client::Client;
 use crate::gate::Gate;
@@ -95,9 +95,11 @@ fn work<T: Plain, D: Disk + Drop, A: Address, N: Named<T::Op, T::Reply>, G: Gate
     alloc: Global,
     entrant: &mut Entrant<'_, Pass<T, N>>,
 )
+    requires drops { AllByRecursion (MayDrop N.drops) entrant.old.seat.steps.now }
     requires none { entrant.old.seat.places.items ≡ [] }
     requires room { length entrant.old.seat.steps.now ≤ vec_capacity entrant.old.seat.places }
-    ensures { HasWorked (setting (fix T.meaning N.terms A.address) T.op_of N.opened) entrant.old entrant.new }
+    ensures { HasWorked (setting (fix T.meaning N.terms A.address) T.op_of N.opened) entrant.old
+        entrant.new }
 {
     let places = mem::replace(&mut entrant.seat.places, Vec::new(alloc));
     entrant.outcome = client.run(alloc, &mut entrant.pass, entrant.seat.steps, places);
@@ -118,10 +120,17 @@ fn work_all<
     gate: &G,
     entrants: &mut [Entrant<'_, Pass<T, N>>],
 )
-    requires none { (i : ℕ) (d : _) → i < length entrants.old → (slice_index_or entrants.old i d).seat.places.items ≡ [] }
-    requires room { (i : ℕ) (d : _) → i < length entrants.old → length (slice_index_or entrants.old i d).seat.steps.now ≤ vec_capacity (slice_index_or entrants.old i d).seat.places }
+    requires drops { (i : ℕ) (d : _) → i < length entrants.old
+        → AllByRecursion (MayDrop N.drops) (slice_index_or entrants.old i d).seat.steps.now }
+    requires none { (i : ℕ) (d : _) → i < length entrants.old
+        → (slice_index_or entrants.old i d).seat.places.items ≡ [] }
+    requires room { (i : ℕ) (d : _) → i < length entrants.old
+        → length (slice_index_or entrants.old i d).seat.steps.now
+        ≤ vec_capacity (slice_index_or entrants.old i d).seat.places }
     ensures same { length entrants.new ≡ length entrants.old }
-    ensures worked { (i : ℕ) (d : _) → i < length entrants.old → HasWorked (setting (fix T.meaning N.terms A.address) T.op_of N.opened) (slice_index_or entrants.old i d) (slice_index_or entrants.new i d) }
+    ensures worked { (i : ℕ) (d : _) → i < length entrants.old
+        → HasWorked (setting (fix T.meaning N.terms A.address) T.op_of N.opened)
+        (slice_index_or entrants.old i d) (slice_index_or entrants.new i d) }
 {
     let threads = entrants.len().max(1);
     thread::for_each_mut(
@@ -129,8 +138,11 @@ fn work_all<
         entrants,
         threads,
         &|number: usize, entrant: &mut Entrant<'_, Pass<T, N>>|
-            requires { (entrant.old.seat.places.items ≡ []) × (length entrant.old.seat.steps.now ≤ vec_capacity entrant.old.seat.places) }
-            ensures { HasWorked (setting (fix T.meaning N.terms A.address) T.op_of N.opened) entrant.old entrant.new }
+            requires { AllByRecursion (MayDrop N.drops) entrant.old.seat.steps.now
+                × (entrant.old.seat.places.items ≡ [])
+                × (length entrant.old.seat.steps.now ≤ vec_capacity entrant.old.seat.places) }
+            ensures { HasWorked (setting (fix T.meaning N.terms A.address) T.op_of N.opened)
+                entrant.old entrant.new }
         {
             let client = Client {
                 rt,
@@ -150,10 +162,13 @@ fn leave_all<T: Plain, D: Disk + Drop, A: Address, N: Named<T::Op, T::Reply> + D
     entrants: Vec<Entrant<'_, Pass<T, N>>>,
     mut outcomes: Vec<Outcome>,
 ) -> Vec<Outcome>
-    requires ran { AllByRecursion (HasRunOwn (setting (fix T.meaning N.terms A.address) T.op_of N.opened) pass.old) entrants.items }
+    requires ran { AllByRecursion
+        (HasRunOwn (setting (fix T.meaning N.terms A.address) T.op_of N.opened) pass.old)
+        entrants.items }
     requires none { outcomes.items ≡ [] }
     requires room { length entrants.items ≤ vec_capacity outcomes }
-    ensures { HaveLeft (setting (fix T.meaning N.terms A.address) T.op_of N.opened) pass.old pass.new entrants.entry.items result.items }
+    ensures { HaveLeft (setting (fix T.meaning N.terms A.address) T.op_of N.opened) pass.old
+        pass.new entrants.entry.items result.items }
 {
     for entrant in entrants {
         let Entrant {
@@ -168,9 +183,10 @@ fn leave_all<T: Plain, D: Disk + Drop, A: Address, N: Named<T::Op, T::Reply> + D
 }
 
 /// Does the steps of each script, as a client with sessions and a pass of its own, in a thread of its own; where no
-/// thread is to be had, the caller's does them. Of threads no clause speaks. A client looks again after each of its moves,
-/// and where its landing is stale, before it repeats the step; a fork whose name is taken is passed over. Any other
-/// refusal ends it.
+/// thread is to be had, the caller's does them. Of threads no clause speaks. A client looks again after each of its moves
+/// but a drop, and where its landing or drop is stale, before it repeats the step; a look again at a branch that was dropped
+/// is passed over, also where another has its name by then, and so is a fork whose name is taken. Any other refusal ends
+/// it. A script drops branches only in a store whose name says that it drops some.
 ///
 /// There is one outcome for each script, in their order, by what the pass has seen when all are done: the moves of a
 /// client's steps, in order, all behind what the pass had seen before, and a moment from there on at which each step that
@@ -192,7 +208,10 @@ pub fn run_clients<
     gate: &G,
 ) -> Result<Listing<Outcome>, Memory>
     requires parts { 2 * length scripts.now < pass.old.parts }
-    ensures ran { IfOk result (Ran (setting (fix T.meaning N.terms A.address) T.op_of N.opened) pass.old pass.new scripts.now) }
+    requires drops { MayDropIn N.drops scripts.now }
+    ensures ran { IfOk result
+        (Ran (setting (fix T.meaning N.terms A.address) T.op_of N.opened) pass.old pass.new
+        scripts.now) }
     ensures kept { OnErr result (pass.new ≡ pass.old) }
 {
     let seats = take_seats(alloc, scripts)?;

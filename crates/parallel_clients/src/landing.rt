@@ -65,14 +65,19 @@ impl<T: Plain, D: Disk + Drop, A: Address, N: Named<T::Op, T::Reply>, G: Gate, R
         places: &mut Vec<u64>,
         prepared: Prepared<T>,
     ) -> Result<Landing, ClientRefusal>
-        requires made { IsPrefix prepared.seen.history pass.old.moves × (prepared.seen.terms ≡ N.terms) }
+        requires made { IsPrefix prepared.seen.history pass.old.moves
+            × (prepared.seen.terms ≡ N.terms) }
         requires room { length places.old.items < vec_capacity places.old }
         ensures prefix { IsPrefix pass.old.moves pass.new.moves }
         ensures valid { IsFullyValid (fix T.meaning N.terms A.address) pass.new.moves }
         ensures faults { pass.old.faults ≤ pass.new.faults }
         ensures capacity { vec_capacity places.old ≤ vec_capacity places.new }
-        ensures landed { IfOk result (IsLanding (move_of prepared.seen.branch prepared.work) pass.old pass.new places.old.items places.new.items) }
-        ensures refused { IfErr result (λ refusal. IsLandRefused (setting (fix T.meaning N.terms A.address) T.op_of N.opened) prepared pass.new refusal × HasStayed pass.old pass.new places.old.items places.new.items) }
+        ensures landed { IfOk result
+            (IsLanding (move_of prepared.seen.branch prepared.work) pass.old pass.new
+            places.old.items places.new.items) }
+        ensures refused { IfErr result (λ refusal.
+            IsLandRefused (setting (fix T.meaning N.terms A.address) T.op_of N.opened) prepared
+            pass.new refusal × HasStayed pass.old pass.new places.old.items places.new.items) }
     {
         match self.shared.land(self.rt, pass, prepared) {
             Ok(landed) => {

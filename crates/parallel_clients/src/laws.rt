@@ -14,5 +14,6 @@ pub fn stays_played<T: Plain>()
 
 /// What became of a client stays that where the history grows, and more faults of the disk are known.
 pub fn stays_outcome<T: Plain>()
-    ensures { (terms : Terms) (address : List ℕ → List ℕ) (opened : ℕ) → StaysOutcome (setting (fix T.meaning terms address) T.op_of opened) }
+    ensures { (terms : Terms) (address : List ℕ → List ℕ) (opened : ℕ)
+        → StaysOutcome (setting (fix T.meaning terms address) T.op_of opened) }
 {}

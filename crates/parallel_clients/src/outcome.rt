@@ -37,6 +37,9 @@ pub enum ClientRefusal {
     Dropped {
         branch: u32,
     },
+    /// The session's branch is the first one, which stays.
+    #[error("the first branch stays")]
+    KeepsMain,
     /// The clock of the commit that was seen is at the limit.
     #[error("the clock is at its limit, {clock}")]
     Exhausted {
@@ -91,6 +94,7 @@ impl fmt::Debug for ClientRefusal {
         match self {
             ClientRefusal::UnknownBranch { .. } => write!(f, "UnknownBranch"),
             ClientRefusal::Dropped { branch } => write!(f, "Dropped({branch})"),
+            ClientRefusal::KeepsMain => write!(f, "KeepsMain"),
             ClientRefusal::Exhausted { clock } => write!(f, "Exhausted({clock})"),
             ClientRefusal::FullCommits { count } => write!(f, "FullCommits({count})"),
             ClientRefusal::FullBranches { count } => write!(f, "FullBranches({count})"),

@@ -1,8 +1,9 @@
 // A client does the steps of its script.
 ghost use Rattle.std.specs.Prelude.{◌≡◌, ◌≤◌, [], length, vec_capacity};
+ghost use Rattle.std.specs.List.{AllByRecursion};
 ghost use Rattle.branch_machine.specs.Fixed.{fix};
 ghost use Rattle.parallel_clients.specs.Clients.{KeepsValid};
-ghost use Rattle.parallel_clients.specs.Outcomes.{IsOutcome, places_of, setting};
+ghost use Rattle.parallel_clients.specs.Outcomes.{IsOutcome, MayDrop, places_of, setting};
 ghost use Rattle.parallel_clients.specs.Sessions.{Advances, stopped_at};
 
 use crate::client::Client;
@@ -51,9 +52,11 @@ impl<T: Plain, D: Disk + Drop, A: Address, N: Named<T::Op, T::Reply>, G: Gate, R
         steps: &[Step],
         mut places: Vec<u64>,
     ) -> Outcome
+        requires drops { AllByRecursion (MayDrop N.drops) steps.now }
         requires none { places.items ≡ [] }
         requires room { length steps.now ≤ vec_capacity places }
-        ensures became { IsOutcome (setting (fix T.meaning N.terms A.address) T.op_of N.opened) pass.old.moves pass.new.moves pass.new.faults steps.now result }
+        ensures became { IsOutcome (setting (fix T.meaning N.terms A.address) T.op_of N.opened)
+            pass.old.moves pass.new.moves pass.new.faults steps.now result }
         ensures advances { Advances pass.old pass.new [] (places_of result) }
         ensures valid { KeepsValid (fix T.meaning N.terms A.address) pass.old pass.new }
     {

@@ -20,7 +20,8 @@ pub(crate) fn set_session<S: Drop>(
     seen: S,
 ) -> Result<(), Memory>
     ensures put { OnOk result (Puts sessions.old.entries sessions.new.entries session.now seen) }
-    ensures kept { OnErr result ((name : List ℕ) → session_named sessions.new.entries name ≡ session_named sessions.old.entries name) }
+    ensures kept { OnErr result ((name : List ℕ)
+        → session_named sessions.new.entries name ≡ session_named sessions.old.entries name) }
 {
     match sessions.insert(*session, seen) {
         Ok(_) => Ok(()),

@@ -1,11 +1,11 @@
 // The steps of a client.
-ghost use Rattle.std.specs.Prelude.{◌≡◌, ◌<◌, ◌≤◌, ◌+◌, [], ◌∷◌, length, vec_capacity, IfErr, OnOk};
+ghost use Rattle.std.specs.Prelude.{◌≡◌, ◌<◌, ◌≤◌, ◌+◌, true, [], ◌∷◌, length, vec_capacity, IfErr, OnOk};
 ghost use mathlib.Core.List.{IsPrefix};
 ghost use Rattle.branch_machine.specs.Fixed.{fix};
 ghost use Rattle.branch_script.specs.declared.step.Step.TheVariants as step;
 ghost use Rattle.branch_shared.specs.Passes.{IsSeenOn};
 ghost use Rattle.parallel_clients.specs.Clients.{KeepsValid};
-ghost use Rattle.parallel_clients.specs.Outcomes.{setting};
+ghost use Rattle.parallel_clients.specs.Outcomes.{MayDrop, setting};
 ghost use Rattle.parallel_clients.specs.Sessions.{AreSessions, Advances, IsStopped, PlaysOn, Stops, sights_of, stage_of};
 
 use crate::client::{Client, Sessions};
@@ -13,6 +13,7 @@ use crate::gate::Gate;
 use crate::landing::{Landing, Stop, note};
 use crate::outcome::ClientRefusal;
 use crate::plain::Plain;
+use crate::sessions::{Session, set_session};
 use branch_address::Address;
 use branch_disk::Disk;
 use branch_doc::{PlainOp, PlainQuery};
@@ -33,8 +34,8 @@ impl<T: Plain, D: Disk + Drop, A: Address, N: Named<T::Op, T::Reply>, G: Gate, R
     G,
     R,
 > {
-    // A session looks at its branch again. Where no branch has the name any more, it sees what it saw: its next landing
-    // tells that the branch was dropped.
+    // A session looks at its branch again. Where no branch has the name any more, or another one, it sees what it saw:
+    // its next landing tells that the branch was dropped.
     fn look_again(
         &self,
         pass: &mut Pass<T, N>,
@@ -49,14 +50,26 @@ impl<T: Plain, D: Disk + Drop, A: Address, N: Named<T::Op, T::Reply>, G: Gate, R
         ensures sessions { AreSessions N.terms pass.new.moves sessions.new.entries }
         ensures sights { sights_of sessions.new.entries ≡ sights_of sessions.old.entries }
     {
-        let branch = match sessions.get(session) {
-            Some(at) => at.branch,
+        let (branch, number) = match sessions.get(session) {
+            Some(at) => {
+                let number = at.seen.branch();
+                (at.branch, number)
+            }
             None => return Ok(()),
         };
-        match self.look_at(pass, sessions, session, &branch) {
+        let seen = match self.shared.look(self.rt, pass, &branch) {
+            Ok(seen) => seen,
+            Err(LookRefused::UnknownBranch { .. }) => return Ok(()),
+            Err(LookRefused::Memory) => return Err(Memory),
+        };
+        let now = seen.branch();
+        if now != number {
+            return Ok(());
+        }
+        let looked = Session { branch, seen };
+        match set_session(sessions, session, looked) {
             Ok(()) => Ok(()),
-            Err(LookRefused::UnknownBranch { .. }) => Ok(()),
-            Err(LookRefused::Memory) => Err(Memory),
+            Err(memory) => Err(memory),
         }
     }
 
@@ -75,9 +88,15 @@ impl<T: Plain, D: Disk + Drop, A: Address, N: Named<T::Op, T::Reply>, G: Gate, R
         ensures valid { KeepsValid (fix T.meaning N.terms A.address) pass.old pass.new }
         ensures capacity { vec_capacity places.old ≤ vec_capacity places.new }
         ensures sessions { OnOk result (AreSessions N.terms pass.new.moves sessions.new.entries) }
-        ensures plays { OnOk result (PlaysOn T.op_of N.terms.origin (step.Do session.now op.now ∷ []) (stage_of pass.old sessions.old.entries places.old.items) (stage_of pass.new sessions.new.entries places.new.items)) }
+        ensures plays { OnOk result
+            (PlaysOn T.op_of N.terms.origin (step.Do session.now op.now ∷ [])
+            (stage_of pass.old sessions.old.entries places.old.items)
+            (stage_of pass.new sessions.new.entries places.new.items)) }
         ensures few { length places.new.items ≤ length places.old.items + 1 }
-        ensures stopped { IfErr result (Stops (setting (fix T.meaning N.terms A.address) T.op_of N.opened) (sights_of sessions.old.entries) (step.Do session.now op.now) pass.old pass.new places.old.items places.new.items) }
+        ensures stopped { IfErr result
+            (Stops (setting (fix T.meaning N.terms A.address) T.op_of N.opened)
+            (sights_of sessions.old.entries) (step.Do session.now op.now) pass.old pass.new
+            places.old.items places.new.items) }
     {
         for _ in self.rt.forever() {
             match self.try_operation(pass, sessions, places, session, op)? {
@@ -108,9 +127,15 @@ impl<T: Plain, D: Disk + Drop, A: Address, N: Named<T::Op, T::Reply>, G: Gate, R
         ensures valid { KeepsValid (fix T.meaning N.terms A.address) pass.old pass.new }
         ensures capacity { vec_capacity places.old ≤ vec_capacity places.new }
         ensures sessions { OnOk result (AreSessions N.terms pass.new.moves sessions.new.entries) }
-        ensures plays { OnOk result (PlaysOn T.op_of N.terms.origin (step.Merge session.now from.now ∷ []) (stage_of pass.old sessions.old.entries places.old.items) (stage_of pass.new sessions.new.entries places.new.items)) }
+        ensures plays { OnOk result
+            (PlaysOn T.op_of N.terms.origin (step.Merge session.now from.now ∷ [])
+            (stage_of pass.old sessions.old.entries places.old.items)
+            (stage_of pass.new sessions.new.entries places.new.items)) }
         ensures few { length places.new.items ≤ length places.old.items + 1 }
-        ensures stopped { IfErr result (Stops (setting (fix T.meaning N.terms A.address) T.op_of N.opened) (sights_of sessions.old.entries) (step.Merge session.now from.now) pass.old pass.new places.old.items places.new.items) }
+        ensures stopped { IfErr result
+            (Stops (setting (fix T.meaning N.terms A.address) T.op_of N.opened)
+            (sights_of sessions.old.entries) (step.Merge session.now from.now) pass.old pass.new
+            places.old.items places.new.items) }
     {
         for _ in self.rt.forever() {
             match self.try_merge(pass, sessions, places, session, from)? {
@@ -144,15 +169,58 @@ impl<T: Plain, D: Disk + Drop, A: Address, N: Named<T::Op, T::Reply>, G: Gate, R
         ensures valid { KeepsValid (fix T.meaning N.terms A.address) pass.old pass.new }
         ensures capacity { vec_capacity places.old ≤ vec_capacity places.new }
         ensures sessions { OnOk result (AreSessions N.terms pass.new.moves sessions.new.entries) }
-        ensures plays { OnOk result (PlaysOn T.op_of N.terms.origin (step.Join session.now from.now ∷ []) (stage_of pass.old sessions.old.entries places.old.items) (stage_of pass.new sessions.new.entries places.new.items)) }
+        ensures plays { OnOk result
+            (PlaysOn T.op_of N.terms.origin (step.Join session.now from.now ∷ [])
+            (stage_of pass.old sessions.old.entries places.old.items)
+            (stage_of pass.new sessions.new.entries places.new.items)) }
         ensures few { length places.new.items ≤ length places.old.items + 1 }
-        ensures stopped { IfErr result (Stops (setting (fix T.meaning N.terms A.address) T.op_of N.opened) (sights_of sessions.old.entries) (step.Join session.now from.now) pass.old pass.new places.old.items places.new.items) }
+        ensures stopped { IfErr result
+            (Stops (setting (fix T.meaning N.terms A.address) T.op_of N.opened)
+            (sights_of sessions.old.entries) (step.Join session.now from.now) pass.old pass.new
+            places.old.items places.new.items) }
     {
         for _ in self.rt.forever() {
             match self.try_join(pass, sessions, places, session, from)? {
                 Landing::Moved => return Ok(self.look_again(pass, sessions, session).is_ok()),
                 Landing::Same => return Ok(true),
                 Landing::Stale => {
+                    if self.look_again(pass, sessions, session).is_err() {
+                        return Err(Stop::Refused(ClientRefusal::Memory));
+                    }
+                }
+            }
+        }
+        unreachable!()
+    }
+
+    // Drops the branch that a session sees, which does not look again behind the drop.
+    fn drop_branch(
+        &self,
+        pass: &mut Pass<T, N>,
+        sessions: &mut Sessions<T>,
+        places: &mut Vec<u64>,
+        session: &Name,
+    ) -> Result<(), Stop>
+        requires drops { N.drops ≡ true }
+        requires sessions { AreSessions N.terms pass.old.moves sessions.old.entries }
+        requires room { length places.old.items < vec_capacity places.old }
+        ensures advances { Advances pass.old pass.new places.old.items places.new.items }
+        ensures valid { KeepsValid (fix T.meaning N.terms A.address) pass.old pass.new }
+        ensures capacity { vec_capacity places.old ≤ vec_capacity places.new }
+        ensures sessions { OnOk result (AreSessions N.terms pass.new.moves sessions.new.entries) }
+        ensures plays { OnOk result (PlaysOn T.op_of N.terms.origin (step.Drop session.now ∷ [])
+            (stage_of pass.old sessions.old.entries places.old.items)
+            (stage_of pass.new sessions.new.entries places.new.items)) }
+        ensures few { length places.new.items ≤ length places.old.items + 1 }
+        ensures stopped { IfErr result
+            (Stops (setting (fix T.meaning N.terms A.address) T.op_of N.opened)
+            (sights_of sessions.old.entries) (step.Drop session.now)
+            pass.old pass.new places.old.items places.new.items) }
+    {
+        for _ in self.rt.forever() {
+            match self.try_drop(pass, sessions, places, session)? {
+                Landing::Moved => return Ok(()),
+                Landing::Stale | Landing::Same => {
                     if self.look_again(pass, sessions, session).is_err() {
                         return Err(Stop::Refused(ClientRefusal::Memory));
                     }
@@ -175,9 +243,15 @@ impl<T: Plain, D: Disk + Drop, A: Address, N: Named<T::Op, T::Reply>, G: Gate, R
         ensures advances { Advances pass.old pass.new places.old.items places.new.items }
         ensures valid { KeepsValid (fix T.meaning N.terms A.address) pass.old pass.new }
         ensures capacity { vec_capacity places.old ≤ vec_capacity places.new }
-        ensures plays { OnOk result (PlaysOn T.op_of N.terms.origin (step.Fork new.now from.now ∷ []) (stage_of pass.old sessions.now.entries places.old.items) (stage_of pass.new sessions.now.entries places.new.items)) }
+        ensures plays { OnOk result
+            (PlaysOn T.op_of N.terms.origin (step.Fork new.now from.now ∷ [])
+            (stage_of pass.old sessions.now.entries places.old.items)
+            (stage_of pass.new sessions.now.entries places.new.items)) }
         ensures few { length places.new.items ≤ length places.old.items + 1 }
-        ensures stopped { IfErr result (Stops (setting (fix T.meaning N.terms A.address) T.op_of N.opened) (sights_of sessions.now.entries) (step.Fork new.now from.now) pass.old pass.new places.old.items places.new.items) }
+        ensures stopped { IfErr result
+            (Stops (setting (fix T.meaning N.terms A.address) T.op_of N.opened)
+            (sights_of sessions.now.entries) (step.Fork new.now from.now) pass.old pass.new
+            places.old.items places.new.items) }
     {
         match self.shared.fork(self.rt, pass, *new, from) {
             Ok(forked) => {
@@ -217,11 +291,16 @@ impl<T: Plain, D: Disk + Drop, A: Address, N: Named<T::Op, T::Reply>, G: Gate, R
         ensures faults { pass.old.faults ≤ pass.new.faults }
         ensures rest { IsSeenOn pass.old pass.new }
         ensures sessions { AreSessions N.terms pass.new.moves sessions.new.entries }
-        ensures plays { (places : _) → OnOk result (PlaysOn T.op_of N.terms.origin (step.Look session.now branch.now ∷ []) (stage_of pass.old sessions.old.entries places) (stage_of pass.new sessions.new.entries places)) }
-        ensures stopped { IfErr result (IsStopped (setting (fix T.meaning N.terms A.address) T.op_of N.opened) (sights_of sessions.old.entries) (step.Look session.now branch.now) pass.new) }
+        ensures plays { (places : _)
+            → OnOk result (PlaysOn T.op_of N.terms.origin (step.Look session.now branch.now ∷ [])
+            (stage_of pass.old sessions.old.entries places)
+            (stage_of pass.new sessions.new.entries places)) }
+        ensures stopped { IfErr result
+            (IsStopped (setting (fix T.meaning N.terms A.address) T.op_of N.opened)
+            (sights_of sessions.old.entries) (step.Look session.now branch.now) pass.new) }
     {
         match self.look_at(pass, sessions, session, branch) {
-            Ok(()) => Ok(()),
+            Ok(_) => Ok(()),
             Err(LookRefused::UnknownBranch { .. }) => {
                 Err(Stop::Refused(ClientRefusal::UnknownBranch { name: *branch }))
             }
@@ -241,8 +320,13 @@ impl<T: Plain, D: Disk + Drop, A: Address, N: Named<T::Op, T::Reply>, G: Gate, R
         ensures valid { KeepsValid (fix T.meaning N.terms A.address) pass.old pass.new }
         ensures faults { pass.old.faults ≤ pass.new.faults }
         ensures rest { IsSeenOn pass.old pass.new }
-        ensures plays { (places : _) → OnOk result (PlaysOn T.op_of N.terms.origin (step.Ask branch.now query.now ∷ []) (stage_of pass.old sessions.now.entries places) (stage_of pass.new sessions.now.entries places)) }
-        ensures stopped { IfErr result (IsStopped (setting (fix T.meaning N.terms A.address) T.op_of N.opened) (sights_of sessions.now.entries) (step.Ask branch.now query.now) pass.new) }
+        ensures plays { (places : _)
+            → OnOk result (PlaysOn T.op_of N.terms.origin (step.Ask branch.now query.now ∷ [])
+            (stage_of pass.old sessions.now.entries places)
+            (stage_of pass.new sessions.now.entries places)) }
+        ensures stopped { IfErr result
+            (IsStopped (setting (fix T.meaning N.terms A.address) T.op_of N.opened)
+            (sights_of sessions.now.entries) (step.Ask branch.now query.now) pass.new) }
     {
         let seen = match self.shared.look(self.rt, pass, branch) {
             Ok(seen) => seen,
@@ -268,15 +352,21 @@ impl<T: Plain, D: Disk + Drop, A: Address, N: Named<T::Op, T::Reply>, G: Gate, R
         places: &mut Vec<u64>,
         step: &Step,
     ) -> Result<bool, Stop>
+        requires drops { MayDrop N.drops step.now }
         requires sessions { AreSessions N.terms pass.old.moves sessions.old.entries }
         requires room { length places.old.items < vec_capacity places.old }
         ensures advances { Advances pass.old pass.new places.old.items places.new.items }
         ensures valid { KeepsValid (fix T.meaning N.terms A.address) pass.old pass.new }
         ensures capacity { vec_capacity places.old ≤ vec_capacity places.new }
         ensures sessions { OnOk result (AreSessions N.terms pass.new.moves sessions.new.entries) }
-        ensures plays { OnOk result (PlaysOn T.op_of N.terms.origin (step.now ∷ []) (stage_of pass.old sessions.old.entries places.old.items) (stage_of pass.new sessions.new.entries places.new.items)) }
+        ensures plays { OnOk result (PlaysOn T.op_of N.terms.origin (step.now ∷ [])
+            (stage_of pass.old sessions.old.entries places.old.items)
+            (stage_of pass.new sessions.new.entries places.new.items)) }
         ensures few { length places.new.items ≤ length places.old.items + 1 }
-        ensures stopped { IfErr result (Stops (setting (fix T.meaning N.terms A.address) T.op_of N.opened) (sights_of sessions.old.entries) step.now pass.old pass.new places.old.items places.new.items) }
+        ensures stopped { IfErr result
+            (Stops (setting (fix T.meaning N.terms A.address) T.op_of N.opened)
+            (sights_of sessions.old.entries) step.now pass.old pass.new places.old.items
+            places.new.items) }
     {
         match step {
             Step::Look { session, branch } => {
@@ -294,6 +384,10 @@ impl<T: Plain, D: Disk + Drop, A: Address, N: Named<T::Op, T::Reply>, G: Gate, R
                 self.join(pass, sessions, places, session, branches.as_slice())
             }
             Step::Do { session, op } => self.operation(pass, sessions, places, session, op),
+            Step::Drop { session } => {
+                self.drop_branch(pass, sessions, places, session)?;
+                Ok(true)
+            }
             Step::Ask { branch, query } => {
                 self.ask(pass, sessions, branch, query)?;
                 Ok(true)

@@ -1,5 +1,5 @@
 // The tries of a client to move.
-ghost use Rattle.std.specs.Prelude.{◌≡◌, ◌<◌, ◌≤◌, length, vec_capacity, IfOk, IfErr};
+ghost use Rattle.std.specs.Prelude.{◌≡◌, ◌<◌, ◌≤◌, true, length, vec_capacity, IfOk, IfErr};
 ghost use mathlib.Core.List.{IsPrefix};
 ghost use Rattle.branch_machine.specs.Fixed.{fix};
 ghost use Rattle.branch_machine.specs.Validity.{IsFullyValid};
@@ -7,11 +7,11 @@ ghost use Rattle.branch_script.specs.declared.step.Step.TheVariants as step;
 ghost use Rattle.branch_shared.specs.Passes.{IsSeenOn, seen_by};
 ghost use Rattle.parallel_clients.specs.Clients.{KeepsValid};
 ghost use Rattle.parallel_clients.specs.Outcomes.{setting};
-ghost use Rattle.parallel_clients.specs.Sessions.{AreSessions, IsJoinReady, IsJoinUnready, IsTried, IsTriedJoin, IsTriedMerge, Stops, sights_of, ungrouped_as};
+ghost use Rattle.parallel_clients.specs.Sessions.{AreSessions, IsJoinReady, IsJoinUnready, IsTried, IsTriedDrop, IsTriedJoin, IsTriedMerge, Stops, sights_of, undropped_as, ungrouped_as};
 
 use crate::client::{Client, Sessions};
 use crate::gate::Gate;
-use crate::landing::{Landing, Stop};
+use crate::landing::{Landing, Stop, note};
 use crate::outcome::ClientRefusal;
 use crate::plain::Plain;
 use branch_address::Address;
@@ -22,7 +22,23 @@ use branch_machine::laws::makes_fewer_moves;
 use branch_names::Name;
 use branch_shared::{Named, Pass};
 use std::sync::Wait;
+use store_core::DropRefused;
 use store_seen::{PairPrepareRefused, PairRefused, PairStep, PrepareRefused, Seen};
+
+// Why a client stops whose branch was not dropped, unless it has a newer head.
+fn undropped(refused: DropRefused) -> Option<ClientRefusal>
+    ensures { result ≡ undropped_as refused }
+{
+    match refused {
+        DropRefused::Dropped { branch } => Some(ClientRefusal::Dropped { branch }),
+        DropRefused::KeepsMain => Some(ClientRefusal::KeepsMain),
+        DropRefused::Stale { .. } => None,
+        DropRefused::FullMoves { count } => Some(ClientRefusal::FullMoves { count }),
+        DropRefused::DiskFault => Some(ClientRefusal::DiskFault),
+        DropRefused::Failed { moves } => Some(ClientRefusal::Failed { moves }),
+        DropRefused::Memory => Some(ClientRefusal::Memory),
+    }
+}
 
 // Why a client stops whose look was not grouped.
 fn ungrouped(refused: PairRefused) -> ClientRefusal
@@ -58,8 +74,12 @@ impl<T: Plain, D: Disk + Drop, A: Address, N: Named<T::Op, T::Reply>, G: Gate, R
         ensures valid { KeepsValid (fix T.meaning N.terms A.address) pass.old pass.new }
         ensures faults { pass.old.faults ≤ pass.new.faults }
         ensures capacity { vec_capacity places.old ≤ vec_capacity places.new }
-        ensures tried { IfOk result (IsTried N.terms.origin (sights_of sessions.now.entries session.now) (T.op_of op.now) pass.old pass.new places.old.items places.new.items) }
-        ensures stopped { IfErr result (Stops (setting (fix T.meaning N.terms A.address) T.op_of N.opened) (sights_of sessions.now.entries) (step.Do session.now op.now) pass.old pass.new places.old.items places.new.items) }
+        ensures tried { IfOk result (IsTried (sights_of sessions.now.entries session.now)
+            (T.op_of op.now) pass.old pass.new places.old.items places.new.items) }
+        ensures stopped { IfErr result
+            (Stops (setting (fix T.meaning N.terms A.address) T.op_of N.opened)
+            (sights_of sessions.now.entries) (step.Do session.now op.now) pass.old pass.new
+            places.old.items places.new.items) }
     {
         let Some(at) = sessions.get(session) else {
             return Err(Stop::Unseen);
@@ -99,8 +119,13 @@ impl<T: Plain, D: Disk + Drop, A: Address, N: Named<T::Op, T::Reply>, G: Gate, R
         ensures valid { KeepsValid (fix T.meaning N.terms A.address) pass.old pass.new }
         ensures faults { pass.old.faults ≤ pass.new.faults }
         ensures capacity { vec_capacity places.old ≤ vec_capacity places.new }
-        ensures tried { IfOk result (IsTriedMerge N.terms.origin (sights_of sessions.now.entries session.now) from.now pass.old pass.new places.old.items places.new.items) }
-        ensures stopped { IfErr result (Stops (setting (fix T.meaning N.terms A.address) T.op_of N.opened) (sights_of sessions.now.entries) (step.Merge session.now from.now) pass.old pass.new places.old.items places.new.items) }
+        ensures tried { IfOk result
+            (IsTriedMerge N.terms.origin (sights_of sessions.now.entries session.now) from.now
+            pass.old pass.new places.old.items places.new.items) }
+        ensures stopped { IfErr result
+            (Stops (setting (fix T.meaning N.terms A.address) T.op_of N.opened)
+            (sights_of sessions.now.entries) (step.Merge session.now from.now) pass.old pass.new
+            places.old.items places.new.items) }
     {
         let Some(at) = sessions.get(session) else {
             return Err(Stop::Unseen);
@@ -145,8 +170,10 @@ impl<T: Plain, D: Disk + Drop, A: Address, N: Named<T::Op, T::Reply>, G: Gate, R
         ensures valid { IsFullyValid (fix T.meaning N.terms A.address) pass.new.moves }
         ensures faults { pass.old.faults ≤ pass.new.faults }
         ensures rest { IsSeenOn pass.old pass.new }
-        ensures ready { IfOk result (IsJoinReady T.meaning (seen_by pass.new N.terms) seen.now from.now) }
-        ensures unready { IfErr result (IsJoinUnready T.meaning (seen_by pass.new N.terms) seen.now from.now) }
+        ensures ready { IfOk result
+            (IsJoinReady T.meaning (seen_by pass.new N.terms) seen.now from.now) }
+        ensures unready { IfErr result
+            (IsJoinUnready T.meaning (seen_by pass.new N.terms) seen.now from.now) }
     {
         let group = match self.shared.group(self.rt, pass, seen, from) {
             Ok(group) => group,
@@ -178,8 +205,13 @@ impl<T: Plain, D: Disk + Drop, A: Address, N: Named<T::Op, T::Reply>, G: Gate, R
         ensures valid { KeepsValid (fix T.meaning N.terms A.address) pass.old pass.new }
         ensures faults { pass.old.faults ≤ pass.new.faults }
         ensures capacity { vec_capacity places.old ≤ vec_capacity places.new }
-        ensures tried { IfOk result (IsTriedJoin N.terms.origin (sights_of sessions.now.entries session.now) from.now pass.old pass.new places.old.items places.new.items) }
-        ensures stopped { IfErr result (Stops (setting (fix T.meaning N.terms A.address) T.op_of N.opened) (sights_of sessions.now.entries) (step.Join session.now from.now) pass.old pass.new places.old.items places.new.items) }
+        ensures tried { IfOk result
+            (IsTriedJoin N.terms.origin (sights_of sessions.now.entries session.now) from.now
+            pass.old pass.new places.old.items places.new.items) }
+        ensures stopped { IfErr result
+            (Stops (setting (fix T.meaning N.terms A.address) T.op_of N.opened)
+            (sights_of sessions.now.entries) (step.Join session.now from.now) pass.old pass.new
+            places.old.items places.new.items) }
     {
         let Some(at) = sessions.get(session) else {
             return Err(Stop::Unseen);
@@ -196,6 +228,44 @@ impl<T: Plain, D: Disk + Drop, A: Address, N: Named<T::Op, T::Reply>, G: Gate, R
         match self.land(pass, places, prepared) {
             Ok(landing) => Ok(landing),
             Err(refusal) => Err(Stop::Refused(refusal)),
+        }
+    }
+
+    /// Tries to drop the branch that a session sees.
+    pub(crate) fn try_drop(
+        &self,
+        pass: &mut Pass<T, N>,
+        sessions: &Sessions<T>,
+        places: &mut Vec<u64>,
+        session: &Name,
+    ) -> Result<Landing, Stop>
+        requires drops { N.drops ≡ true }
+        requires sessions { AreSessions N.terms pass.old.moves sessions.now.entries }
+        requires room { length places.old.items < vec_capacity places.old }
+        ensures prefix { IsPrefix pass.old.moves pass.new.moves }
+        ensures valid { KeepsValid (fix T.meaning N.terms A.address) pass.old pass.new }
+        ensures faults { pass.old.faults ≤ pass.new.faults }
+        ensures capacity { vec_capacity places.old ≤ vec_capacity places.new }
+        ensures tried { IfOk result (IsTriedDrop (sights_of sessions.now.entries session.now)
+            pass.old pass.new places.old.items places.new.items) }
+        ensures stopped { IfErr result
+            (Stops (setting (fix T.meaning N.terms A.address) T.op_of N.opened)
+            (sights_of sessions.now.entries) (step.Drop session.now)
+            pass.old pass.new places.old.items places.new.items) }
+    {
+        let Some(at) = sessions.get(session) else {
+            return Err(Stop::Unseen);
+        };
+        match self.shared.drop_branch(self.rt, pass, &at.seen) {
+            Ok(moves) => {
+                note(places, moves);
+                self.gate.after_land(self.rt, self.number, moves);
+                Ok(Landing::Moved)
+            }
+            Err(refused) => match undropped(refused) {
+                Some(refusal) => Err(Stop::Refused(refusal)),
+                None => Ok(Landing::Stale),
+            },
         }
     }
 }

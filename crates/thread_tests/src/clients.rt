@@ -29,6 +29,14 @@ const STEPS_OF_EACH_KIND: [&str; 8] = [
     "ask main counter hits value",
 ];
 
+const STEPS_OF_A_DROP: [&str; 5] = [
+    "fork q main",
+    "look b q",
+    "do b counter hits add 1",
+    "drop b",
+    "do b counter hits add 1",
+];
+
 // What becomes of a client alone in a store, and the store after it.
 fn alone<R: Threads + Wait + Abort + Sync>(
     rt: &R,
@@ -114,6 +122,23 @@ fn one_client_and_each_step(rt: HostRuntime) -> Result<(), Fail> {
         let (came_to, _core) = alone(&rt, rt.alloc(), core, lines)?;
         assert!(rt; came_to.as_str() == want);
     }
+    Ok(())
+}
+
+// A client that drops its branch goes on seeing it.
+#[test]
+fn one_client_drops_its_branch(rt: HostRuntime) -> Result<(), Fail> {
+    let core = fresh(&rt, rt.alloc(), Limits::default(), Vec::new(rt.alloc()));
+    let (came_to, core) = alone(&rt, rt.alloc(), core, &STEPS_OF_A_DROP)?;
+    assert!(rt; came_to.as_str() == "refused 4 Dropped(1) [1, 2, 3]" && core.moves() == 3);
+    Ok(())
+}
+
+#[test]
+fn one_client_keeps_main(rt: HostRuntime) -> Result<(), Fail> {
+    let core = fresh(&rt, rt.alloc(), Limits::default(), Vec::new(rt.alloc()));
+    let (came_to, _core) = alone(&rt, rt.alloc(), core, &["look a main", "drop a"])?;
+    assert!(rt; came_to.as_str() == "refused 1 KeepsMain []");
     Ok(())
 }
 

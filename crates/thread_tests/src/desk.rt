@@ -21,7 +21,15 @@ trait Named {
 impl Named for Brand {
     ghost use Rattle.std.specs.Prelude.{[]};
 
-    ghost table = { record { words = 0; slots = 0; views_name = 0; atom = 0; block = 0; offset = 0; slot_names = [] } };
+    ghost table = { record {
+      words = 0;
+      slots = 0;
+      views_name = 0;
+      atom = 0;
+      block = 0;
+      offset = 0;
+      slot_names = [];
+    } };
 }
 
 /// What lies under the lock: the writer, and a count of what it added.
@@ -40,7 +48,8 @@ impl<N: Named> Model for Desk<N> {
 
     ghost view = { λ d. d.writer };
 
-    ghost invariant = { λ d. (d.writer.table ≡ N.table) × IsIdle d.writer × (d.added ≡ length d.writer.moves) };
+    ghost invariant = { λ d. (d.writer.table ≡ N.table) × IsIdle d.writer
+        × (d.added ≡ length d.writer.moves) };
 }
 
 impl<N: Named> Desk<N> {
@@ -69,14 +78,16 @@ impl<N: Named> Desk<N> {
 
     fn look(&mut self, front: &Front<u64>, pass: &mut Pass<u64>) -> u64
         requires { (front.now.table ≡ N.table) × (pass.old.table ≡ N.table) }
-        ensures { (pass.new.table ≡ pass.old.table) × (pass.new.parts ≡ pass.old.parts) × (pass.new.receipts ≡ pass.old.receipts) }
+        ensures { (pass.new.table ≡ pass.old.table) × (pass.new.parts ≡ pass.old.parts)
+            × (pass.new.receipts ≡ pass.old.receipts) }
     {
         self.writer.look::<Brand>(front, pass)
     }
 
     /// The pass that holds all parts ends, with all receipts.
     fn close(self, front: &Front<u64>, last: Pass<u64>) -> u64
-        requires { (front.now.table ≡ N.table) × (last.table ≡ N.table) × (last.parts ≡ front.now.parts) }
+        requires { (front.now.table ≡ N.table) × (last.table ≡ N.table)
+            × (last.parts ≡ front.now.parts) }
         ensures { result ≡ last.receipts }
     {
         let Desk {
@@ -119,8 +130,10 @@ fn beside<N: Named + Send + Sync, R: Threads + Wait + Abort + Sync>(
     requires front { (front.now.table ≡ N.table) × (front.now.begun ≡ 40) }
     requires u { (u.table ≡ N.table) × (0 < u.parts) }
     requires v { (v.table ≡ N.table) × (0 < v.parts) }
-    ensures u { (result.0.0.table ≡ u.table) × (result.0.0.parts ≡ u.parts) × (result.0.0.receipts ≡ u.receipts + 2) }
-    ensures v { (result.1.0.table ≡ v.table) × (result.1.0.parts ≡ v.parts) × (result.1.0.receipts ≡ v.receipts + 2) }
+    ensures u { (result.0.0.table ≡ u.table) × (result.0.0.parts ≡ u.parts)
+        × (result.0.0.receipts ≡ u.receipts + 2) }
+    ensures v { (result.1.0.table ≡ v.table) × (result.1.0.parts ≡ v.parts)
+        × (result.1.0.receipts ≡ v.receipts + 2) }
 {
     join(
         rt,

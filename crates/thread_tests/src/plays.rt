@@ -1,5 +1,5 @@
 // Clients of a store of documents.
-ghost use Rattle.std.specs.Prelude.{◌*◌, ◌<◌, length};
+ghost use Rattle.std.specs.Prelude.{◌≡◌, ◌*◌, ◌<◌, true, length};
 ghost use Rattle.branch_shared.specs.Names.{IsNamed};
 
 use branch_address::Sha256Address;
@@ -84,6 +84,7 @@ fn share<N: Named<DocOp, DocReply> + Drop + Send + Sync, G: Gate, R: Threads + W
     gate: &G,
 ) -> (Listing<Outcome>, Documents)
     requires name { IsNamed blank N.table N.begun N.terms N.parts N.opened }
+    requires drops { N.drops ≡ true }
     requires parts { 2 * length scripts.now < blank.parts }
 {
     let (shared, mut pass) = Shared::<Doc, MemoryDisk, Sha256Address, N>::new(blank);

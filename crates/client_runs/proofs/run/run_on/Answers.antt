@@ -1,5 +1,5 @@
 -- The scripts are the clients' drawn steps, and over a valid history none of these names a branch that is not there.
-use Rattle.std.proofs.Common.{◌≡◌, List, [], length, ap, sym, ◌∙◌, subst, arith, append-nil}
+use Rattle.std.proofs.Common.{◌≡◌, false, List, [], length, ap, sym, ◌∙◌, subst, arith, append-nil}
 use Rattle.branch_history.specs.declared.moves.Move.{Move}
 use Rattle.branch_machine.specs.Fixed.{fix}
 use Rattle.branch_machine.specs.Validity.{IsFullyValid}
@@ -7,9 +7,10 @@ use Rattle.branch_script.specs.declared.step.Step.{Step}
 use Rattle.branch_shared.specs.Keeps.{DropsNone, faults_since}
 use Rattle.branch_shared.specs.Names.{BlankView}
 use Rattle.store_core.specs.Views.{StoreView}
-use Rattle.parallel_clients.specs.Outcomes.{setting}
+use Rattle.parallel_clients.specs.Outcomes.{MayDropIn, setting}
 use Rattle.client_runs.specs.Scripts.{scripts_of}
 use Rattle.client_runs.specs.Worked.{HaveRun, HaveWorked}
+use Rattle.client_runs.proofs.Drawn.{scripts-may}
 use Rattle.client_runs.proofs.Known.{first-within, first-main}
 use Rattle.client_runs.proofs.Runs.{answer-says, length-scripts_of, have-worked}
 use Rattle.client_runs.proofs.run.run_on.Goals as goal
@@ -20,6 +21,11 @@ share-requires-clause-parts g c =
     let size = ap (λ (xs : List (List Step)). length xs) (c.deref.ensures.value ∙ c.in-Ok.ensures) ∙ length-scripts_of work.count work.steps work.number in
     let parts = ap (λ (b : BlankView (Move _ _) _). b.parts) c.in-Ok-new.ensures.made in
     omega (arith, size, parts)
+
+pub share-requires-clause-scripts : goal.share-requires-clause-scripts
+share-requires-clause-scripts g c κs within =
+    let work = c.args.work in
+    subst (MayDropIn false) (sym (c.deref.ensures.value ∙ c.in-Ok.ensures)) (scripts-may work.count work.steps work.number)
 
 pub returns-clause-grows : goal.returns-clause-grows
 returns-clause-grows g c = ([], append-nil c.args.core.history ∙ ap (λ (s : StoreView (Move _ _) _). s.history) (sym c.in-Err-new.ensures.same))

@@ -1,5 +1,6 @@
--- The store's name says what the store is.
+-- The store's name says what the store is. No branch is dropped in it.
+use Rattle.std.proofs.Common.{false}
 use Rattle.client_runs.proofs.run.run_on.Given as goal
 
 abbrev pub ghosts-share : goal.ghosts-share
-ghosts-share g a = record { table = a.blank.table; begun = a.blank.core.history; terms = a.blank.core.terms; parts = a.blank.parts; opened = a.blank.opened }
+ghosts-share g a = record { table = a.blank.table; begun = a.blank.core.history; terms = a.blank.core.terms; parts = a.blank.parts; opened = a.blank.opened; drops = false }

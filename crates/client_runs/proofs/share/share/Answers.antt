@@ -57,4 +57,4 @@ returns-clause-idle g c =
     (faults_since g.D.Disk.faults c.args.blank.core) (faults_since g.D.Disk.faults c.close_with-closed.result.core) c.args.blank.parts c.args.scripts.now c.run_clients-outcomes.result (over g c)
 
 pub returns-clause-drops_none : goal.returns-clause-drops_none
-returns-clause-drops_none g c = subst (λ (ms : List (Move _ _)). DropsNone ms c.close_with-closed.result.core.history) (sym c.requires.name.history_is) c.close_with-closed.ensures.drops_none
+returns-clause-drops_none g c = subst (λ (ms : List (Move _ _)). DropsNone ms c.close_with-closed.result.core.history) (sym c.requires.name.history_is) (c.close_with-closed.ensures.drops_none c.requires.drops)

@@ -1,5 +1,6 @@
--- The store's name says what the store is.
+-- The store's name says what the store is. Scripts may drop branches of it.
+use Rattle.std.proofs.Common.{true}
 use Rattle.thread_tests.proofs.plays.play.Given as goal
 
 abbrev pub ghosts-share : goal.ghosts-share
-ghosts-share g a = record { table = a.blank.table; begun = a.blank.core.history; terms = a.blank.core.terms; parts = a.blank.parts; opened = a.blank.opened }
+ghosts-share g a = record { table = a.blank.table; begun = a.blank.core.history; terms = a.blank.core.terms; parts = a.blank.parts; opened = a.blank.opened; drops = true }

@@ -11,7 +11,7 @@ add-requires-clause-grown g c κs within =
     let made = move.Fork c.args.new forked.0.number forked.1.0 in
     let grown : c.fork-outcome.new.self.history ≡ c.self.inside.core.history ++ made ∷ [] = ap (λ s. s.history) forked.1.1.history in
     let known : c.self.inside.core.history ≡ g.N.Named.begun ++ c.see.new.writer.moves = c.self.invariant.history_is ∙ sym (ap (λ w. g.N.Named.begun ++ w.moves) c.see.ensures.writer) in
-    (made, grown ∙ ap (λ w. w ++ made ∷ []) known, tt)
+    (made, grown ∙ ap (λ w. w ++ made ∷ []) known, λ off. tt)
 
 pub returns-then-is_ok-clause-prefix : goal.returns-then-is_ok-clause-prefix
 returns-then-is_ok-clause-prefix g c =

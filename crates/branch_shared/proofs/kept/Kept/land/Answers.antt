@@ -14,7 +14,7 @@ add-requires-clause-grown g c κs within =
     let made = move_of branch work in
     let grown : c.land_addressed-outcome.new.self.history ≡ c.self.inside.core.history ++ made ∷ [] = ap (λ s. s.history) landed.1.history in
     let known : c.self.inside.core.history ≡ g.N.Named.begun ++ c.see.new.writer.moves = c.self.invariant.history_is ∙ sym (ap (λ w. g.N.Named.begun ++ w.moves) c.see.ensures.writer) in
-    (made, grown ∙ ap (λ w. w ++ made ∷ []) known, lands-no_drop branch work)
+    (made, grown ∙ ap (λ w. w ++ made ∷ []) known, λ off. lands-no_drop branch work)
 
 pub returns-then-is_ok-clause-prefix : goal.returns-then-is_ok-clause-prefix
 returns-then-is_ok-clause-prefix g c =

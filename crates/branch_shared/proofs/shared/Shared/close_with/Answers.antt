@@ -8,3 +8,10 @@ returns-clause-all g c parts =
     let all : c.close-receipts.result ≡ length c.core.inside.writer.moves = c.close-receipts.ensures.all (held ∙ (parts ∙ sym front)) in
     let history : length c.core.inside.core.history ≡ length g.N.Named.begun + length c.core.inside.writer.moves = ap (λ w. length w) c.core.invariant.history_is ∙ length-append g.N.Named.begun c.core.inside.writer.moves in
     omega (arith, all, history, c.moves.ensures.moves, c.self.invariant.1)
+
+pub returns-clause-drops_none : goal.returns-clause-drops_none
+returns-clause-drops_none g c = λ off. record {
+  more = c.core.inside.writer.moves;
+  is = sym c.core.invariant.history_is;
+  none = c.core.invariant.drops_none off;
+}

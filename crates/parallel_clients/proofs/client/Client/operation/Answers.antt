@@ -18,8 +18,8 @@ returns-in-Moved-clause-plays g c =
     let places = c.loop.places.items in
     let noted = c.try_operation.new.places.items in
     let tried = rw c.in-Moved.is at c.in_ok-try_operation.ensures.tried in
-    let done : HasDone g.N.Named.terms.origin (sights_of c.args.sessions.now.entries session) (g.T.Plain.op_of c.args.op.now) mid after places noted =
-    subst (λ sights. HasDone g.N.Named.terms.origin (sights session) (g.T.Plain.op_of c.args.op.now) mid after places noted) wait.sights tried in
+    let done : HasDone (sights_of c.args.sessions.now.entries session) (g.T.Plain.op_of c.args.op.now) mid after places noted =
+    subst (λ sights. HasDone (sights session) (g.T.Plain.op_of c.args.op.now) mid after places noted) wait.sights tried in
     plays-done g.T.Plain.op_of g.N.Named.terms.origin (stage_of c.args.pass.now c.args.sessions.now.entries c.args.places.now.items) (stage_of c.look_again.new.pass c.look_again.new.sessions.entries noted)
     mid after wait.seen c.look_again.ensures.prefix places noted (sym wait.noted) refl (c.look_again.ensures.sights ∙ wait.sights) session c.args.op.now done
 

@@ -7,3 +7,6 @@ returns-in_ok-fork-in-Fork-clause-sessions g c = sessions_later g.N.Named.terms 
 
 pub returns-in_ok-ask-in-Ask-clause-sessions : goal.returns-in_ok-ask-in-Ask-clause-sessions
 returns-in_ok-ask-in-Ask-clause-sessions g c = sessions_later g.N.Named.terms c.args.pass.now.moves c.ask.new.pass.moves c.args.sessions.now.entries c.ask.ensures.prefix c.requires.sessions
+
+pub drop_branch-requires-clause-drops : goal.drop_branch-requires-clause-drops
+drop_branch-requires-clause-drops g c κs within = rw c.in-Drop.is at c.requires.drops

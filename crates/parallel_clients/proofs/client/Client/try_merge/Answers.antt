@@ -30,7 +30,7 @@ returns-in-Err-UnknownBranch-clause-stopped g c =
     let found : session_named sessions session ≡ Some s = sym c.in-Some.ensures.value in
     let refused = rw c.in-Err-UnknownBranch.field-0-is at c.in-Err-UnknownBranch.ensures.refused in
     record {
-      why = merge-unknown (setting (fix g.T.Mrdt.meaning g.N.Named.terms g.A.Address.address) g.T.Plain.op_of g.N.Named.opened) c.pair.new.pass.moves (sights_of sessions) session c.args.from.now s.branch (sight-found sessions session s found) refused.1;
+      why = merge-unknown (setting (fix g.T.Mrdt.meaning g.N.Named.terms g.A.Address.address) g.T.Plain.op_of g.N.Named.opened) c.pair.new.pass.moves (sights_of sessions) session c.args.from.now s.seen.branch (sight-found sessions session s found) refused.1;
       stayed = record { rest = c.pair.ensures.rest; noted = refl };
     }
 

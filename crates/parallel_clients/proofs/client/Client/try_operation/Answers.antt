@@ -42,8 +42,7 @@ returns-in-Ok-land-clause-tried g c =
     let s = c.in-Some.at.now in
     let sessions = c.args.sessions.now.entries in
     let found : session_named sessions c.args.session.now ≡ Some s = sym c.in-Some.ensures.value in
-    let is = c.requires.sessions.each c.args.session.now s found in
-    do-tried g.N.Named.terms c.args.pass.now c.land.new.pass c.args.places.now.items c.land.new.places.items s is (sights_of sessions c.args.session.now) (sight-found sessions c.args.session.now s found)
+    do-tried c.args.pass.now c.land.new.pass c.args.places.now.items c.land.new.places.items s (sights_of sessions c.args.session.now) (sight-found sessions c.args.session.now s found)
     c.in-Ok-prepare.prepared (g.T.Plain.op_of c.args.op.now) c.in-Ok.op (g.T.Mrdt.meaning.reply_of (visible (store_of s.seen.terms.origin s.seen.history).commits s.seen.head) c.in-Ok.op) c.in-Ok.ensures c.in-Ok-prepare.ensures.prepared
     c.in-Ok-land.landing c.in-Ok-land.ensures.landed
 

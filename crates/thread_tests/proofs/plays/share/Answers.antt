@@ -1,0 +1,23 @@
+-- In a store that drops branches each step may come.
+use Rattle.std.proofs.Common.{◌≡◌, Bool, true, List, [], ◌∷◌}
+use Rattle.std.specs.List.{AllByRecursion}
+use Rattle.branch_script.specs.declared.step.Step.{Step}
+use Rattle.branch_script.specs.declared.step.Step.TheVariants.{Look, Fork, Merge, Join, Do, Ask, Drop}
+use Rattle.parallel_clients.specs.Outcomes.{MayDrop}
+use Rattle.thread_tests.proofs.plays.share.Goals as goal
+
+each : {X : Type 0} (P : X → Type 0) → ((x : X) → P x) → (xs : List X) → AllByRecursion P xs
+each P holds [] = tt
+each P holds (x ∷ xs) = (holds x, each P holds xs)
+
+may : (drops : Bool) → drops ≡ true → (s : Step) → MayDrop drops s
+may drops is (Look session branch) = tt
+may drops is (Fork new from) = tt
+may drops is (Merge session from) = tt
+may drops is (Join session from) = tt
+may drops is (Do session op) = tt
+may drops is (Ask branch query) = tt
+may drops is (Drop session) = is
+
+pub run_clients-requires-clause-drops : goal.run_clients-requires-clause-drops
+run_clients-requires-clause-drops g c κs within = each (AllByRecursion (MayDrop g.N.Named.drops)) (each (MayDrop g.N.Named.drops) (may g.N.Named.drops c.requires.drops)) c.args.scripts.now
