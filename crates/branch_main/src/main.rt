@@ -7,7 +7,18 @@ use std::process::ExitCode;
 
 fn main(rt: HostRuntime) -> ExitCode {
     match read_words(&rt) {
-        Ok(Words { path, command }) => run_command(&rt, &command, FileDisk::new(&rt, path)),
+        Ok(
+            Words {
+                path,
+                second,
+                command,
+            },
+        ) => run_command(
+            &rt,
+            &command,
+            FileDisk::new(&rt, path),
+            FileDisk::new(&rt, second),
+        ),
         Err(ended) => ended,
     }
 }

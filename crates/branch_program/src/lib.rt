@@ -5,6 +5,7 @@ use branch_address::Sha256Address;
 use branch_disk::Disk;
 use branch_io::{ReadSource, WriteSink};
 use branch_shell::{Status, run};
+use std::alloc::AllocError;
 use std::io::Input;
 use std::process::ExitCode;
 use std::rt::Env;
@@ -17,6 +18,8 @@ use std::{env, io};
 pub struct Words {
     /// The path of the store.
     pub path: String,
+    /// The path of the store that `upgrade` makes: that of the store with `.second` behind it.
+    pub second: String,
     /// The words of the command, behind the path.
     pub command: Vec<String>,
 }
@@ -28,6 +31,11 @@ fn all_words<R: Env + AllocGlobal>(rt: &R) -> io::Result<Vec<String>> {
         words.push(word)?;
     }
     Ok(words)
+}
+
+// The path of the second store.
+fn second_path<R: AllocGlobal>(rt: &R, path: &str) -> Result<String, AllocError> {
+    format!(in rt.alloc(); "{path}.second")
 }
 
 // The status of a run whose words cannot be read: one that is not UTF-8, or want of memory.
@@ -44,32 +52,37 @@ pub fn read_words<R: Env + AllocGlobal>(rt: &R) -> Result<Words, ExitCode> {
     match all_words(rt) {
         Ok(mut words) if !words.is_empty() => {
             let path = words.remove(0);
-            Ok(Words {
-                path,
-                command: words,
-            })
+            match second_path(rt, path.as_str()) {
+                Ok(second) => Ok(Words {
+                    path,
+                    second,
+                    command: words,
+                }),
+                Err(AllocError) => Err(ExitCode::from(Status::Memory.number())),
+            }
         }
         Ok(_) => Err(ExitCode::from(Status::Usage.number())),
         Err(error) => Err(ExitCode::from(unread(&error).number())),
     }
 }
 
-/// Runs the command over the disk. It reads standard input, writes to standard output and nothing else, and tells how the
+/// Runs the command over both disks. It reads standard input, writes to standard output and nothing else, and tells how the
 /// program ends: by the number of its status.
-pub fn run_command<D, R>(rt: &R, command: &[String], disk: D) -> ExitCode
+pub fn run_command<D, R>(rt: &R, command: &[String], disk: D, second: D) -> ExitCode
 where
     D: Disk + Drop + Send,
     R: AllocGlobal + Input + Print + Threads + Wait + Sync,
 {
     let mut source = ReadSource::new(rt.reader());
     let mut sink = WriteSink::new(io::writer(rt));
-    let (status, _disk) = run::<_, _, _, Sha256Address, _>(
+    let (status, _disk, _second) = run::<_, _, _, Sha256Address, _>(
         rt,
         rt.alloc(),
         command,
         &mut source,
         &mut sink,
         disk,
+        second,
     );
     ExitCode::from(status.number())
 }

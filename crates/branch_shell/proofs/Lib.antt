@@ -5,6 +5,7 @@ pub mod Told
 pub mod FirstEnd
 pub mod Ends
 pub mod Once
+pub mod Upgraded
 pub mod Inits
 pub mod Reports
 pub mod Opening

@@ -9,10 +9,10 @@ use Rattle.branch_names.specs.declared.terms.Terms.{Terms}
 use Rattle.branch_engine.specs.Play.{History}
 use Rattle.branch_shell.specs.declared.status.Status.{Status}
 use Rattle.branch_shell.specs.declared.status.Status.TheVariants.{Done, Usage, StoreRefused, DiskFault, ReadFault, WriteFault, LineTooLong, InputTooLong, Memory}
-use Rattle.branch_shell.specs.Documents.{DocStore}
+use Rattle.branch_shell.specs.Documents.{DocStore, SaysUnopened}
 use Rattle.branch_shell.specs.Once.{WroteOnce}
 use Rattle.branch_shell.specs.Ran.{LeavesAsBefore, HoldsStore, FailsToOpen}
-use Rattle.branch_shell.specs.Stores.{IsOpenedAs, SaysRefused}
+use Rattle.branch_shell.specs.Stores.{IsOpenedAs}
 
 module _ (address : List ℕ → List ℕ) {D : Type 0} (disk : Ghosts D)
     (counts_now : (d : D) (t : ℕ) (c : Files) → t ≤ disk.moment d → disk.may_leave d c → disk.left_since d t c)
@@ -36,13 +36,13 @@ module _ (address : List ℕ → List ℕ) {D : Type 0} (disk : Ghosts D)
 
   -- files that are refused are no store
   no_refusal : (old : D) (store : DocStore) (text : List ℕ) → HoldsStore disk address old store
-      → SaysRefused document address (disk.contents old) text → ⊥
+      → SaysUnopened address (disk.contents old) text → ⊥
   no_refusal old store text holds says =
       says.1.no_store holds.files holds.told store.terms store.history holds.reads
 
   -- what was written of a store that was not opened: nothing
   no_text : (old : D) (store : DocStore) (status : Status) (text : List ℕ) → HoldsStore disk address old store
-      → WroteOnce (λ whole. ⊥) (SaysRefused document address (disk.contents old)) status text
+      → WroteOnce (λ whole. ⊥) (SaysUnopened address (disk.contents old)) status text
       → (text ≡ []) × ((status ≡ DiskFault) ⊎ (status ≡ Memory))
   no_text old store Done text holds w = absurd w
   no_text old store Usage text holds w = absurd w
@@ -59,7 +59,7 @@ module _ (address : List ℕ → List ℕ) {D : Type 0} (disk : Ghosts D)
   -- a run that only failed to open its store
   pub failed : (old new : D) (store : DocStore) (status : Status) (text : List ℕ) → HoldsStore disk address old store
       → LeavesAsBefore disk old new
-      → WroteOnce (λ whole. ⊥) (SaysRefused document address (disk.contents old)) status text
+      → WroteOnce (λ whole. ⊥) (SaysUnopened address (disk.contents old)) status text
       → FailsToOpen disk old new status [] text
   failed old new store status text holds all w =
       let none = no_text old store status text holds w in

@@ -97,6 +97,7 @@ module _ {S O R Q A : Type 0} (on : Setting S O R Q A) (old new : List (Move O R
   finds_branch : (client step : ℕ) (refusal : ClientRefusal) (places : List ℕ) → HasWorked on old new faults (client_steps client steps number) (outcome.Refused step refusal places) → FindsBranch refusal
   finds_branch client step (refused.UnknownBranch name) places h = h.may
   finds_branch client step (refused.Dropped branch) places h = tt
+  finds_branch client step refused.KeepsMain places h = tt
   finds_branch client step (refused.Exhausted clock) places h = tt
   finds_branch client step (refused.FullCommits n) places h = tt
   finds_branch client step (refused.FullBranches n) places h = tt
@@ -119,6 +120,7 @@ module _ {S O R Q A : Type 0} (on : Setting S O R Q A) (old new : List (Move O R
       → Rose on.opened (on.opened + faults)
   fault_of_step client step (refused.UnknownBranch name) places h fault = absurd fault
   fault_of_step client step (refused.Dropped branch) places h fault = absurd fault
+  fault_of_step client step refused.KeepsMain places h fault = absurd fault
   fault_of_step client step (refused.Exhausted clock) places h fault = absurd fault
   fault_of_step client step (refused.FullCommits n) places h fault = absurd fault
   fault_of_step client step (refused.FullBranches n) places h fault = absurd fault

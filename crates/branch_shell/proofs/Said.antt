@@ -8,7 +8,7 @@ use Rattle.branch_command.specs.declared.command.Command.{Command}
 use Rattle.branch_command.specs.declared.command.Command.TheVariants as read
 use Rattle.branch_command.specs.Numbers.{Numbers, AreLimits}
 use Rattle.branch_command.specs.Work.{Work, Clients as ClientsGiven}
-use Rattle.branch_command.specs.Commands.{Said, Init, Script, Check, Generate, Clients, Help, Means}
+use Rattle.branch_command.specs.Commands.{Said, Init, Script, Check, Generate, Clients, Upgrade, Help, Means}
 use Rattle.branch_shell.specs.Alone.{alone}
 use Rattle.branch_shell.specs.Stores.{AreUnder}
 use Rattle.branch_shell.specs.Ran.{AreTerms}
@@ -19,6 +19,7 @@ is_init Script limits means = absurd means
 is_init Check limits means = absurd means
 is_init (Generate work) limits means = absurd means
 is_init (Clients given) limits means = absurd means
+is_init Upgrade limits means = absurd means
 is_init Help limits means = absurd means
 
 is_script : (said : Said) → Means said read.Script → said ≡ Script
@@ -27,6 +28,7 @@ is_script Script means = refl
 is_script Check means = absurd means
 is_script (Generate work) means = absurd means
 is_script (Clients given) means = absurd means
+is_script Upgrade means = absurd means
 is_script Help means = absurd means
 
 is_check : (said : Said) → Means said read.Check → said ≡ Check
@@ -35,6 +37,7 @@ is_check Script means = absurd means
 is_check Check means = refl
 is_check (Generate work) means = absurd means
 is_check (Clients given) means = absurd means
+is_check Upgrade means = absurd means
 is_check Help means = absurd means
 
 is_generate : (said : Said) (steps number : ℕ) → Means said (read.Generate steps number) → said ≡ Generate (record { steps = steps; number = number })
@@ -43,6 +46,7 @@ is_generate Script steps number means = absurd means
 is_generate Check steps number means = absurd means
 is_generate (Generate work) steps number means = ap Generate means
 is_generate (Clients given) steps number means = absurd means
+is_generate Upgrade steps number means = absurd means
 is_generate Help steps number means = absurd means
 
 is_clients : (said : Said) (count steps number : ℕ) → Means said (read.Clients count steps number) → said ≡ Clients (record { count = count; work = record { steps = steps; number = number } })
@@ -51,6 +55,7 @@ is_clients Script count steps number means = absurd means
 is_clients Check count steps number means = absurd means
 is_clients (Generate work) count steps number means = absurd means
 is_clients (Clients given) count steps number means = ap Clients means
+is_clients Upgrade count steps number means = absurd means
 is_clients Help count steps number means = absurd means
 
 is_help : (said : Said) (text : String Global) → Means said (read.Tell text) → said ≡ Help
@@ -59,7 +64,17 @@ is_help Script text means = absurd means
 is_help Check text means = absurd means
 is_help (Generate work) text means = absurd means
 is_help (Clients given) text means = absurd means
+is_help Upgrade text means = absurd means
 is_help Help text means = refl
+
+is_upgrade : (said : Said) → Means said read.Upgrade → said ≡ Upgrade
+is_upgrade (Init n) means = absurd means
+is_upgrade Script means = absurd means
+is_upgrade Check means = absurd means
+is_upgrade (Generate work) means = absurd means
+is_upgrade (Clients given) means = absurd means
+is_upgrade Upgrade means = refl
+is_upgrade Help means = absurd means
 
 -- what was said, of the command that was read
 abbrev pub Reads : Option Said → Command → Type 0
@@ -74,6 +89,9 @@ module _ (words : Option Said) where
 
   pub said_check : (command : Command) → command ≡ read.Check → Reads words command → words ≡ Some Check
   said_check command is r = r.1 ∙ ap Some (is_check r.0 (subst (Means r.0) is r.2))
+
+  pub said_upgrade : (command : Command) → command ≡ read.Upgrade → Reads words command → words ≡ Some Upgrade
+  said_upgrade command is r = r.1 ∙ ap Some (is_upgrade r.0 (subst (Means r.0) is r.2))
 
   pub said_generate : (command : Command) (steps number : ℕ) → command ≡ read.Generate steps number → Reads words command → words ≡ Some (Generate (record { steps = steps; number = number }))
   said_generate command steps number is r = r.1 ∙ ap Some (is_generate r.0 steps number (subst (Means r.0) is r.2))
@@ -116,6 +134,7 @@ never_alone (Some Script) clients is = cc is
 never_alone (Some Check) clients is = cc is
 never_alone (Some (Generate work)) clients is = cc is
 never_alone (Some (Clients given)) clients is = cc is
+never_alone (Some Upgrade) clients is = cc is
 never_alone (Some Help) clients is = cc is
 
 -- a command that was read and needs no threads is the one that the words say
@@ -133,7 +152,9 @@ same_said (Clients given) read.Script none means = absurd means
 same_said (Clients given) read.Check none means = absurd means
 same_said (Clients given) (read.Generate steps number) none means = absurd means
 same_said (Clients given) (read.Clients count steps number) none means = absurd none
+same_said (Clients given) read.Upgrade none means = absurd means
 same_said (Clients given) (read.Tell text) none means = absurd means
+same_said Upgrade command none means = refl
 same_said Help command none means = refl
 
 pub same_alone : (words : Option Said) (command : Command) → NeedsNone command → Reads words command → alone words ≡ words

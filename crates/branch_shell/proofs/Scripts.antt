@@ -14,9 +14,9 @@ use Rattle.branch_engine.specs.Play.{History, begins, text_from, after_from}
 use Rattle.branch_shell.specs.declared.status.Status.{Status}
 use Rattle.branch_shell.specs.declared.status.Status.TheVariants.{Done, Usage, StoreRefused, DiskFault, ReadFault, WriteFault, LineTooLong, InputTooLong, Memory}
 use Rattle.branch_shell.specs.Reading.{IsFirstPart, Exchanges}
-use Rattle.branch_shell.specs.Stores.{IsOpenedAs, SaysRefused}
+use Rattle.branch_shell.specs.Stores.{IsOpenedAs}
 use Rattle.branch_shell.specs.Once.{WroteOnce}
-use Rattle.branch_shell.specs.Documents.{DocStore, fixed_of, script_text}
+use Rattle.branch_shell.specs.Documents.{DocStore, fixed_of, script_text, SaysUnopened}
 use Rattle.branch_shell.specs.Ran.{LeavesAsBefore, HoldsStore, LeavesScript, Ran}
 use Rattle.branch_shell.specs.Statuses.{WroteOver, Wrote, Holds, Runs, TellsWholeLines, TellsPart}
 use Rattle.branch_shell.proofs.Told.{whole_part, text_from-append}
@@ -124,7 +124,7 @@ module _ (address : List ℕ → List ℕ) where
 
     -- or one that was not opened
     module _ (old new : D) (left : Option (List ℕ)) (status : Status) (text : List ℕ) (all : LeavesAsBefore disk old new)
-        (w : WroteOnce (λ whole. ⊥) (SaysRefused document address (disk.contents old)) status text) where
+        (w : WroteOnce (λ whole. ⊥) (SaysUnopened address (disk.contents old)) status text) where
       script_unopened : (store : DocStore) → HoldsStore disk address old store
           → LeavesScript disk address store old new left status [] text
       script_unopened store holds = inl (failed address disk counts_now only_now old new store status text holds all w)

@@ -16,9 +16,9 @@ use Rattle.branch_command.specs.Work.{Work}
 use Rattle.branch_shell.specs.declared.status.Status.{Status}
 use Rattle.branch_shell.specs.declared.status.Status.TheVariants.{Done, Usage, StoreRefused, DiskFault, ReadFault, WriteFault, LineTooLong, InputTooLong, Memory}
 use Rattle.branch_shell.specs.Counts.{StopsCounting}
-use Rattle.branch_shell.specs.Stores.{ReadsAsStore, IsOpenedAs, SaysRefused}
+use Rattle.branch_shell.specs.Stores.{ReadsAsStore, IsOpenedAs}
 use Rattle.branch_shell.specs.Once.{WroteOnce, Answers}
-use Rattle.branch_shell.specs.Documents.{DocStore, fixed_of, replies_over}
+use Rattle.branch_shell.specs.Documents.{DocStore, fixed_of, replies_over, SaysUnopened}
 use Rattle.branch_shell.specs.Telling.{TellsLines, LeavesSome}
 use Rattle.branch_shell.specs.Generated.{drawn_lines, work_text, SaysWork, HoldsAfterSome, SurvivesWork}
 use Rattle.branch_shell.specs.Ran.{LeavesAsBefore, HoldsStore, LeavesWork, Ran}
@@ -107,7 +107,7 @@ module _ (address : List ℕ → List ℕ) where
         wrote = (
           refl,
           wrote_map (λ whole. whole ≡ work_text address found (drawn_lines work)) (λ whole. ⊥)
-              (SaysWork address (disk.contents old) work) (SaysRefused document address (disk.contents old))
+              (SaysWork address (disk.contents old) work) (SaysUnopened address (disk.contents old))
               (λ whole so. (found, is, so)) (λ whole no. absurd no) status text w,
         );
         leaves = record {
@@ -121,7 +121,7 @@ module _ (address : List ℕ → List ℕ) where
 
     -- or it was not
     module _ (new : D) (status : Status) (text : List ℕ) (all : LeavesAsBefore disk old new)
-        (w : WroteOnce (λ whole. ⊥) (SaysRefused document address (disk.contents old)) status text) where
+        (w : WroteOnce (λ whole. ⊥) (SaysUnopened address (disk.contents old)) status text) where
       work_unopened : (store : DocStore) → HoldsStore disk address old store
           → LeavesWork disk address store (drawn_lines work) old new status [] text
       work_unopened store holds = inl (failed address disk counts_now only_now old new store status text holds all w)
@@ -130,8 +130,8 @@ module _ (address : List ℕ → List ℕ) where
       work_refused = record {
         wrote = (
           refl,
-          wrote_map (λ whole. ⊥) (SaysRefused document address (disk.contents old))
-              (SaysWork address (disk.contents old) work) (SaysRefused document address (disk.contents old))
+          wrote_map (λ whole. ⊥) (SaysUnopened address (disk.contents old))
+              (SaysWork address (disk.contents old) work) (SaysUnopened address (disk.contents old))
               (λ whole no. absurd no) (λ whole says. says) status text w,
         );
         leaves = record { over = work_unopened; none = λ files says none. all };

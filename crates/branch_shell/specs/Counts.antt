@@ -1,4 +1,4 @@
--- How often the source, the sink and the disk have failed, by how a run ends.
+-- How often the source, the sink and the disks have failed, by how a run ends.
 use Rattle.std.specs.Prelude.{◌≡◌, ◌⊎◌, ℕ}
 use Rattle.branch_io.specs.Causes.{Rose}
 use Rattle.branch_shell.specs.declared.status.Status.{Status}
@@ -37,6 +37,35 @@ HasReason before now WriteFault = SinkFailed before now
 HasReason before now LineTooLong = StayTheSame before now
 HasReason before now InputTooLong = StayTheSame before now
 HasReason before now Memory = StayTheSame before now
+
+-- how often each has failed, of a run over two disks
+pub record BothCounts : Type 0 where
+  pub source : ℕ
+  pub sink : ℕ
+  pub first : ℕ
+  pub second : ℕ
+
+-- the counts of a run over one of the two
+abbrev pub on_first : BothCounts → Counts
+on_first counts = record {
+  source = counts.source;
+  sink = counts.sink;
+  disk = counts.first;
+}
+
+abbrev pub on_second : BothCounts → Counts
+on_second counts = record {
+  source = counts.source;
+  sink = counts.sink;
+  disk = counts.second;
+}
+
+-- only the fault that the status tells raised its count, but that the sink may fail to finish
+-- behind another fault; and of the two disks one at most failed
+abbrev pub HaveReason : BothCounts → BothCounts → Status → Type 0
+HaveReason before now status =
+    (HasReason (on_first before) (on_first now) status × (now.second ≡ before.second))
+    ⊎ (HasReason (on_second before) (on_second now) status × (now.first ≡ before.first))
 
 -- why telling a script stopped before the sink was to finish: at the first fault
 abbrev pub StopsAtFault : Counts → Counts → Status → Type 0

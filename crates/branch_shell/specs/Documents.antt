@@ -1,9 +1,13 @@
 -- A store of documents, and what lines make of it.
 use Rattle.std.specs.Prelude.{ℕ, List, [], ◌∷◌}
+use Rattle.std.specs.declared.option.Option.{Option}
+use Rattle.branch_disk.specs.Disk.{Files}
+use Rattle.branch_doc.specs.Document.{document}
+use Rattle.mrdt_old_doc.specs.OldDocument.{old_document}
 use Rattle.branch_doc.specs.Forms.{DocOp, DocReply}
 use Rattle.branch_engine.specs.Play.{DocFixed, Play, begins, line_told, text_of, after_lines}
 use Rattle.branch_engine.specs.Readings.{doc_fixed}
-use Rattle.branch_shell.specs.Stores.{Stored}
+use Rattle.branch_shell.specs.Stores.{Stored, SaysRefused}
 
 -- a store of documents, and what is fixed for it
 abbrev pub DocStore : Type 0
@@ -11,6 +15,10 @@ DocStore = Stored DocOp DocReply
 
 abbrev pub fixed_of : (List ℕ → List ℕ) → DocStore → DocFixed
 fixed_of address store = doc_fixed address store.terms
+
+-- the text of why files are refused as a store of documents
+abbrev pub SaysUnopened : (List ℕ → List ℕ) → Option Files → List ℕ → Type 0
+SaysUnopened address told text = SaysRefused document old_document address told text
 
 -- the text of lines over a store
 abbrev pub script_text : (List ℕ → List ℕ) → DocStore → List (List ℕ) → List ℕ

@@ -6,6 +6,7 @@ pub mod Documents
 pub mod Telling
 pub mod Generated
 pub mod Together
+pub mod Upgrading
 pub mod Statuses
 pub mod Ran
 pub mod Alone

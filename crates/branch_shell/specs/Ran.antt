@@ -9,7 +9,7 @@ use Rattle.branch_names.specs.declared.terms.Terms.{Terms}
 use Rattle.branch_script.specs.Lines.{lines_of}
 use Rattle.store_core.specs.Inits.{IsEmpty}
 use Rattle.store_core.specs.Opens.{ReadsAsNone}
-use Rattle.branch_command.specs.Commands.{Said, Init, Script, Check, Generate, Clients, Help}
+use Rattle.branch_command.specs.Commands.{Said, Init, Script, Check, Generate, Clients, Upgrade, Help}
 use Rattle.branch_command.specs.Numbers.{Numbers, AreLimits}
 use Rattle.branch_command.specs.Work.{Clients as ClientsGiven}
 use Rattle.branch_shell.specs.declared.status.Status.{Status}
@@ -19,6 +19,7 @@ use Rattle.branch_shell.specs.Generated.{drawn_lines, HoldsAfterSome}
 use Rattle.branch_shell.specs.Statuses.{Wrote, Holds, HoldsSome, HoldsAnswered}
 use Rattle.branch_shell.specs.Stores.{ReadsAsStore, ReadsAsEmpty, ReadsAsNoneOrEmpty}
 use Rattle.branch_shell.specs.Together.{RanTogether, LeftTogether}
+use Rattle.branch_shell.specs.Upgrading.{RanUpgrade}
 
 -- at each moment of a run a crash leaves only what one might have left at its start
 abbrev pub LeavesAsBefore : {D : Type 0} → Ghosts D → D → D → Type 0
@@ -114,7 +115,7 @@ pub record AreTerms (numbers : Numbers) (terms : Terms) : Type 0 where
   pub limits : AreLimits numbers terms.limits
   pub origin : terms.origin ≡ 0
 
--- what a crash leaves of the disk of a command
+-- what a crash leaves of the disk of a command over one disk
 abbrev pub Leaves : {D : Type 0} → Ghosts D → (List ℕ → List ℕ) → Said → D → D → Option (List ℕ)
     → Status → List ℕ → List ℕ → Type 0
 Leaves disk address (Init numbers) old new left status input text =
@@ -128,9 +129,10 @@ Leaves disk address (Generate work) old new left status input text =
     (λ store. LeavesWork disk address store (drawn_lines work) old new status input text)
 Leaves disk address (Clients clients) old new left status input text =
     LeavesTogether disk address clients old new status text
+Leaves disk address Upgrade old new left status input text = ⊥
 Leaves disk address Help old new left status input text = new ≡ old
 
--- What a run of a command did, which ended with this status: what it wrote of the input that it
+-- What a run of a command over one disk did, which ended with this status: what it wrote of the input that it
 -- read, behind which this is left of its source; and what a crash leaves of its disk, of which it
 -- changed nothing where it was refused.
 pub record Ran {D : Type 0} (disk : Ghosts D) (address : List ℕ → List ℕ) (command : Said)
@@ -138,3 +140,18 @@ pub record Ran {D : Type 0} (disk : Ghosts D) (address : List ℕ → List ℕ) 
   pub wrote : Wrote address command (disk.contents old) left status input text
   pub leaves : Leaves disk address command old new left status input text
   pub refused : status ≡ StoreRefused → LeavesAsBefore disk old new
+
+-- two disks: the one whose store a command works on, and the one on which `upgrade` makes a store
+pub record Disks (D : Type 0) : Type 0 where
+  pub first : D
+  pub second : D
+
+-- What a run of a command did over two disks: `upgrade` works on both, and every other command
+-- leaves the second as it was.
+abbrev pub RanOverBoth : {D : Type 0} → Ghosts D → (List ℕ → List ℕ) → Said → Disks D → Disks D
+    → Option (List ℕ) → Status → List ℕ → List ℕ → Type 0
+RanOverBoth disk address Upgrade old new left status input text = (input ≡ [])
+    × RanUpgrade disk address old.first new.first old.second new.second status text
+RanOverBoth disk address command old new left status input text =
+    Ran disk address command old.first new.first left status input text
+    × (new.second ≡ old.second)

@@ -6,14 +6,14 @@ use Rattle.branch_disk.specs.Disk.{Files, LeavesOnly}
 use Rattle.branch_doc.specs.Document.{document}
 use Rattle.branch_script.specs.Lines.{lines_of}
 use Rattle.branch_engine.specs.Play.{begins}
-use Rattle.branch_command.specs.Commands.{Said, Init, Script, Check, Generate, Clients, Help}
+use Rattle.branch_command.specs.Commands.{Said, Init, Script, Check, Generate, Clients, Upgrade, Help}
 use Rattle.branch_shell.specs.declared.status.Status.{Status}
 use Rattle.branch_shell.specs.declared.status.Status.TheVariants.{Done, Usage, StoreRefused, DiskFault, ReadFault, WriteFault, LineTooLong, InputTooLong, Memory}
 use Rattle.branch_shell.specs.Reading.{IsCut, AreShort, WereRead, IsFirstPart}
-use Rattle.branch_shell.specs.Stores.{ReadsAsStore, IsOpenedAs, SaysRefused, SaysReport, SaysReady, SaysNotEmpty}
+use Rattle.branch_shell.specs.Stores.{ReadsAsStore, IsOpenedAs, SaysReport, SaysReady, SaysNotEmpty}
 use Rattle.branch_shell.specs.Once.{WroteOnce}
 use Rattle.branch_shell.specs.Telling.{ReadsAfterSome}
-use Rattle.branch_shell.specs.Documents.{DocStore, fixed_of, script_text, store_after}
+use Rattle.branch_shell.specs.Documents.{DocStore, fixed_of, script_text, store_after, SaysUnopened}
 use Rattle.branch_shell.specs.Generated.{SaysWork}
 use Rattle.branch_shell.specs.Together.{SaysTogether}
 
@@ -61,23 +61,24 @@ WroteOver address store left Memory input text = TellsPart address store left in
 abbrev pub ScriptWrote : (List ℕ → List ℕ) → Option Files → Option (List ℕ) → Status → List ℕ
     → List ℕ → Type 0
 ScriptWrote address told left status input text =
-    ((input ≡ []) × WroteOnce (λ whole. ⊥) (SaysRefused document address told) status text)
+    ((input ≡ []) × WroteOnce (λ whole. ⊥) (SaysUnopened address told) status text)
     ⊎ ((store : DocStore) × IsOpenedAs document address told store × (length input ≤ 2 ^ 32)
     × WroteOver address store left status input text)
 
--- What a command wrote of the input that it read, by the status that it ended with. The text of
--- help is left open.
+-- What a command over one disk wrote of the input that it read, by the status that it ended with.
+-- The text of help is left open. `upgrade` is the command that works over two disks.
 abbrev pub Wrote : (List ℕ → List ℕ) → Said → Option Files → Option (List ℕ) → Status → List ℕ
     → List ℕ → Type 0
 Wrote address (Init numbers) told left status input text = (input ≡ [])
     × WroteOnce (SaysReady told) (SaysNotEmpty told) status text
 Wrote address Script told left status input text = ScriptWrote address told left status input text
 Wrote address Check told left status input text = (input ≡ [])
-    × WroteOnce (SaysReport document address told) (SaysRefused document address told) status text
+    × WroteOnce (SaysReport document address told) (SaysUnopened address told) status text
 Wrote address (Generate work) told left status input text = (input ≡ [])
-    × WroteOnce (SaysWork address told work) (SaysRefused document address told) status text
+    × WroteOnce (SaysWork address told work) (SaysUnopened address told) status text
 Wrote address (Clients clients) told left status input text = (input ≡ [])
-    × WroteOnce (SaysTogether address told clients) (SaysRefused document address told) status text
+    × WroteOnce (SaysTogether address told clients) (SaysUnopened address told) status text
+Wrote address Upgrade told left status input text = ⊥
 Wrote address Help told left status input text = input ≡ []
 
 -- at the start the disk tells files that read as the store, and so does each image

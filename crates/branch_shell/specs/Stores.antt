@@ -9,10 +9,10 @@ use Rattle.branch_names.specs.declared.terms.Terms.{Terms}
 use Rattle.branch_history.specs.declared.moves.Move.{Move}
 use Rattle.branch_machine.specs.Fixed.{fix}
 use Rattle.branch_machine.specs.Validity.{IsFullyValid}
-use Rattle.branch_files.specs.Reading.{Answer, Opens, NotAStore, BadRecord, BadObject, BadCommit, Truncated, ReadsAs}
-use Rattle.branch_print.specs.Reports.{report_text, ready_text, not_empty_text, no_store_text, bad_record_text, bad_object_text, bad_commit_text, truncated_text}
+use Rattle.branch_files.specs.Reading.{Answer, Opens, NotAStore, BadRecord, BadObject, BadCommit, Truncated, ReadsAs, ReadsIn}
+use Rattle.branch_print.specs.Reports.{report_text, ready_text, not_empty_text, no_store_text, old_version_text, bad_record_text, bad_object_text, bad_commit_text, truncated_text}
 use Rattle.store_core.specs.Inits.{IsEmpty}
-use Rattle.store_core.specs.Opens.{ReadsOnlyAs, ReadsAsNone}
+use Rattle.store_core.specs.Opens.{old_form, ReadsOnlyAs, ReadsAsNone}
 
 -- a store: its terms and its history
 pub record Stored (O R : Type 0) : Type 0 where
@@ -39,19 +39,29 @@ pub record IsRefusedAs {S O R Q A : Type 0} (meaning : Meaning S O R Q A)
   pub reads : ForSome told (λ files. ReadsAs meaning address files answer)
   pub no_store : ForSome told (ReadsAsNone meaning address)
 
--- the text of why files are refused; what opens is not
-abbrev pub IsRefusalText : {O R : Type 0} → Answer O R → List ℕ → Type 0
-IsRefusalText (Opens terms history) text = ⊥
-IsRefusalText NotAStore text = text ≡ no_store_text
-IsRefusalText (BadRecord number) text = text ≡ bad_record_text number
-IsRefusalText (BadObject place) text = text ≡ bad_object_text place
-IsRefusalText (BadCommit number) text = text ≡ bad_commit_text number
-IsRefusalText (Truncated part place) text = text ≡ truncated_text part place
+-- the files are a store's of the old version, as far as their beginning goes
+abbrev pub IsOldVersion : {S O R Q A : Type 0} → Meaning S O R Q A → (List ℕ → List ℕ) → Files
+    → Type 0
+IsOldVersion old address files = ¬ ReadsIn old_form old address files NotAStore
 
-abbrev pub SaysRefused : {S O R Q A : Type 0} → Meaning S O R Q A → (List ℕ → List ℕ) → Option Files
-    → List ℕ → Type 0
-SaysRefused {S} {O} {R} meaning address told text = (answer : Answer O R)
-    × IsRefusedAs meaning address told answer × IsRefusalText answer text
+-- The text of why files are refused that read as this answer; what opens is not. Files that are no
+-- store may be of the old version, over its own documents.
+abbrev pub IsRefusalText : {S O R Q A P X : Type 0} → Meaning S O R Q A → (List ℕ → List ℕ)
+    → Option Files → Answer P X → List ℕ → Type 0
+IsRefusalText old address told (Opens terms history) text = ⊥
+IsRefusalText old address told NotAStore text =
+    (ForSome told (λ files. ReadsIn old_form old address files NotAStore)
+    × (text ≡ no_store_text))
+    ⊎ (ForSome told (IsOldVersion old address) × (text ≡ old_version_text))
+IsRefusalText old address told (BadRecord number) text = text ≡ bad_record_text number
+IsRefusalText old address told (BadObject place) text = text ≡ bad_object_text place
+IsRefusalText old address told (BadCommit number) text = text ≡ bad_commit_text number
+IsRefusalText old address told (Truncated part place) text = text ≡ truncated_text part place
+
+abbrev pub SaysRefused : {S O R Q A T P X B C : Type 0} → Meaning S O R Q A → Meaning T P X B C
+    → (List ℕ → List ℕ) → Option Files → List ℕ → Type 0
+SaysRefused {S} {O} {R} meaning old address told text = (answer : Answer O R)
+    × IsRefusedAs meaning address told answer × IsRefusalText old address told answer text
 
 -- the report of the store that opening found
 abbrev pub SaysReport : {S O R Q A : Type 0} → Meaning S O R Q A → (List ℕ → List ℕ) → Option Files

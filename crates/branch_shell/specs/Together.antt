@@ -28,6 +28,7 @@ use Rattle.branch_shell.specs.Documents.{DocStore, fixed_of}
 abbrev pub machine_refusal : ClientRefusal → Option machine.Refusal
 machine_refusal (refused.UnknownBranch name) = Some (machine.UnknownBranch name)
 machine_refusal (refused.Dropped branch) = Some (machine.Dropped branch)
+machine_refusal refused.KeepsMain = Some machine.KeepsMain
 machine_refusal (refused.Exhausted clock) = Some (machine.Exhausted clock)
 machine_refusal (refused.FullCommits count) = Some (machine.FullCommits count)
 machine_refusal (refused.FullBranches count) = Some (machine.FullBranches count)

@@ -3,20 +3,22 @@ ghost use Rattle.std.specs.Prelude.{◌≡◌, ◌⊎◌, Some, None, Err, IfOk,
 ghost use Rattle.std.specs.String.{string_bytes};
 ghost use Rattle.branch_command.specs.Commands.{Said, Help as SaidHelp, Means};
 ghost use Rattle.branch_shell.specs.Reading.{Exchanges};
-ghost use Rattle.branch_shell.specs.Counts.{HasReason};
+ghost use Rattle.branch_shell.specs.Counts.{HaveReason};
 ghost use Rattle.branch_shell.specs.Statuses.{Wrote};
-ghost use Rattle.branch_shell.specs.Ran.{Ran};
+ghost use Rattle.branch_shell.specs.Ran.{RanOverBoth};
 ghost use Rattle.branch_shell.specs.Alone.{command_alone};
 
 use crate::answer::{run_check, run_init, say};
 use crate::generate::run_generate;
 use crate::script::run_script;
 use crate::status::Status;
+use crate::upgrade::run_upgrade;
 use branch_address::Address;
 use branch_command::{Command, CommandRefused, read_command};
 use branch_disk::Disk;
 use branch_io::{Sink, Source};
 use mrdt_doc::Doc;
+use mrdt_old_doc::Doc1;
 use std::alloc::Global;
 
 // The command that the words say, if it needs no threads.
@@ -32,67 +34,91 @@ fn read_alone(alloc: Global, words: &[String]) -> Result<Command, CommandRefused
     }
 }
 
-/// Runs the command that the words say, over the store that the disk holds, and hands the disk back. It starts no
-/// thread and never waits: `clients` is no command here.
+/// Runs the command that the words say, over the store that the first disk holds, and hands both disks back. It starts
+/// no thread and never waits: `clients` is no command here.
 ///
 /// `init` makes a store of a disk that holds no bytes; `script` opens the store and runs the lines of the source as
 /// steps; `check` opens the store and reports; `generate` opens the store, runs the script that is drawn from a number
-/// and writes what came of it and the report. `Usage` comes only where the words say no such command, and then nothing
-/// was touched. What was written is, by the status, the text that is defined for the command, or a first part of it. A
-/// fault comes only where the count of faults of that object rose, and no other count rises, but where the sink cannot
-/// finish behind a fault.
+/// and writes what came of it and the report; `upgrade` reads a store of the old version, and makes one with the same
+/// moves of the second disk, which holds no bytes. No other command touches the second disk. A store of the old version
+/// is refused by all of them but `upgrade` and `init`. `Usage` comes only where the words say no such command, and then
+/// nothing was touched. What was written is, by the status, the text that is defined for the command, or a first part of
+/// it. A fault comes only where the count of faults of that object rose, and no other count rises, but where the sink
+/// cannot finish behind a fault; `DiskFault` is one of either disk.
 ///
 /// Until a script's store is opened a crash leaves only what one might have left before; from then on, at any moment,
 /// files that read as the store after some of the lines that were read; at the end after those that were answered, or one
 /// more; and after `Done` after all. The same holds of `generate` and its lines, in order. So a run may follow one that
-/// ended with a fault of the disk: opening makes sure of what reads give then.
+/// ended with a fault of the disk: opening makes sure of what reads give then. Of `upgrade` a crash leaves on the second
+/// disk, where it was empty, no store or one with some of the moves, in order, and after `Done` with all; the first disk
+/// it leaves as it was.
 pub fn run_alone<S: Source, K: Sink, D: Disk + Drop, A: Address>(
     alloc: Global,
     words: &[String],
     source: &mut S,
     sink: &mut K,
     disk: D,
-) -> (Status, D)
+    second: D,
+) -> (Status, D, D)
     ensures usage { result.0 ≡ Status.Usage → command_alone (map string_bytes words.now) ≡ None }
     ensures unsaid { command_alone (map string_bytes words.now) ≡ None
         → ((result.0 ≡ Status.Usage) ⊎ (result.0 ≡ Status.Memory)) × (source.new ≡ source.old)
-        × (sink.new ≡ sink.old) × (result.1 ≡ disk) }
+        × (sink.new ≡ sink.old) × (result.1 ≡ disk) × (result.2 ≡ second) }
     ensures help { command_alone (map string_bytes words.now) ≡ Some SaidHelp
         → ((result.0 ≡ Status.Done) ⊎ ((result.0 ≡ Status.WriteFault) ⊎ (result.0 ≡ Status.Memory)))
-        × (source.new ≡ source.old) × (result.1 ≡ disk) }
+        × (source.new ≡ source.old) × (result.1 ≡ disk) × (result.2 ≡ second) }
     // What was written of the input that was read, and what a crash leaves.
     ensures ran { (command : Said) → command_alone (map string_bytes words.now) ≡ Some command
         → Exchanges (S.left source.old) (S.left source.new) (K.given sink.old) (K.given sink.new)
-        (Ran D.Disk A.address command disk result.1 (S.left source.new) result.0) }
-    ensures reason { HasReason
-        (record { source = S.faults source.old; sink = K.faults sink.old; disk = D.faults disk })
+        (RanOverBoth D.Disk A.address command (record { first = disk; second = second })
+        (record { first = result.1; second = result.2 }) (S.left source.new) result.0) }
+    ensures reason { HaveReason
+        (record {
+          source = S.faults source.old;
+          sink = K.faults sink.old;
+          first = D.faults disk;
+          second = D.faults second;
+        })
         (record {
           source = S.faults source.new;
           sink = K.faults sink.new;
-          disk = D.faults result.1;
+          first = D.faults result.1;
+          second = D.faults result.2;
         }) result.0 }
     // Where the sink fails behind a fault, all that such a fault leaves was given.
     ensures behind_source { (command : Said)
-        → command_alone (map string_bytes words.now) ≡ Some command → result.0 ≡ Status.WriteFault
-        → (S.faults source.new ≡ S.faults source.old)
+        → command_alone (map string_bytes words.now) ≡ Some command
+        → result.0 ≡ Status.WriteFault → (S.faults source.new ≡ S.faults source.old)
         ⊎ Exchanges (S.left source.old) (S.left source.new) (K.given sink.old) (K.given sink.new)
         (Wrote A.address command (D.contents disk) (S.left source.new) Status.ReadFault) }
     ensures behind_disk { (command : Said)
-        → command_alone (map string_bytes words.now) ≡ Some command → result.0 ≡ Status.WriteFault
-        → (D.faults result.1 ≡ D.faults disk)
+        → command_alone (map string_bytes words.now) ≡ Some command
+        → result.0 ≡ Status.WriteFault
+        → ((D.faults result.1 ≡ D.faults disk) × (D.faults result.2 ≡ D.faults second))
         ⊎ Exchanges (S.left source.old) (S.left source.new) (K.given sink.old) (K.given sink.new)
         (Wrote A.address command (D.contents disk) (S.left source.new) Status.DiskFault) }
 {
     match read_alone(alloc, words) {
-        Ok(Command::Init(limits)) => run_init::<Doc, K, D, A>(alloc, limits, sink, disk),
-        Ok(Command::Script) => run_script::<S, K, D, A>(alloc, source, sink, disk),
-        Ok(Command::Check) => run_check::<Doc, K, D, A>(alloc, sink, disk),
-        Ok(Command::Generate { steps, number }) => run_generate::<K, D, A>(
-            alloc, steps, number, sink, disk,
-        ),
+        Ok(Command::Init(limits)) => {
+            let (status, disk) = run_init::<Doc, K, D, A>(alloc, limits, sink, disk);
+            (status, disk, second)
+        }
+        Ok(Command::Script) => {
+            let (status, disk) = run_script::<S, K, D, A>(alloc, source, sink, disk);
+            (status, disk, second)
+        }
+        Ok(Command::Check) => {
+            let (status, disk) = run_check::<Doc, Doc1, K, D, A>(alloc, sink, disk);
+            (status, disk, second)
+        }
+        Ok(Command::Generate { steps, number }) => {
+            let (status, disk) = run_generate::<K, D, A>(alloc, steps, number, sink, disk);
+            (status, disk, second)
+        }
         Ok(Command::Clients { .. }) => unreachable!(),
-        Ok(Command::Tell(text)) => (say(sink, text.as_bytes(), Status::Done), disk),
-        Err(CommandRefused::Usage) => (Status::Usage, disk),
-        Err(CommandRefused::Memory) => (Status::Memory, disk),
+        Ok(Command::Upgrade) => run_upgrade::<K, D, A>(alloc, sink, disk, second),
+        Ok(Command::Tell(text)) => (say(sink, text.as_bytes(), Status::Done), disk, second),
+        Err(CommandRefused::Usage) => (Status::Usage, disk, second),
+        Err(CommandRefused::Memory) => (Status::Memory, disk, second),
     }
 }

@@ -8,12 +8,13 @@ ghost use Rattle.branch_print.specs.Reports.{branch_line, report_text};
 ghost use Rattle.store_core.specs.Inits.{IsEmpty};
 ghost use Rattle.store_core.specs.Opens.{ReadsAsNone};
 ghost use Rattle.branch_shell.specs.Counts.{HasReason, SaysReason};
-ghost use Rattle.branch_shell.specs.Refusals.{open_refusal_text};
+ghost use Rattle.branch_shell.specs.Refusals.{open_refusal_text, unopened_text};
 ghost use Rattle.branch_shell.specs.Stores.{Stored, AreUnder, ReadsAsStore, SaysRefused, SaysReport, SaysReady, SaysNotEmpty, ReadsAsEmpty, ReadsAsNoneOrEmpty};
 ghost use Rattle.branch_shell.specs.Once.{Answers, Says};
 
 use crate::script::give_all;
 use crate::status::Status;
+use crate::unopened::{Unopened, open_store};
 use branch_address::Address;
 use branch_disk::Disk;
 use branch_files::forms::reads_as_today;
@@ -21,8 +22,8 @@ use branch_files::laws::reads_what_stands;
 use branch_io::{Sink, SinkFailed};
 use branch_names::{Limits, Terms};
 use branch_print::reports::{
-    put_bad_commit, put_bad_object, put_bad_record, put_branch, put_no_store, put_totals,
-    put_truncated,
+    put_bad_commit, put_bad_object, put_bad_record, put_branch, put_no_store, put_old_version,
+    put_totals, put_truncated,
 };
 use commit_replay::laws::reads_as_no_store;
 use mrdt_model::{Memory, Mrdt};
@@ -53,7 +54,7 @@ pub(crate) fn say<K: Sink>(sink: &mut K, text: &[u8], status: Status) -> Status
 }
 
 // Writes why the files are refused.
-fn put_refusal(out: &mut Vec<u8>, refusal: OpenRefused) -> Result<(), Status>
+pub(crate) fn put_refusal(out: &mut Vec<u8>, refusal: OpenRefused) -> Result<(), Status>
     ensures ok { OnOk result (IfSome (open_refusal_text refusal) (λ text. out.new.items
         ≡ out.old.items ++ text)) }
     ensures files { OnOk result (IsSome (open_refusal_text refusal)) }
@@ -72,16 +73,31 @@ fn put_refusal(out: &mut Vec<u8>, refusal: OpenRefused) -> Result<(), Status>
     }
 }
 
+// Writes why a store was not opened.
+fn put_unopened(out: &mut Vec<u8>, why: Unopened) -> Result<(), Status>
+    ensures ok { OnOk result (IfSome (unopened_text why) (λ text. out.new.items
+        ≡ out.old.items ++ text)) }
+    ensures files { OnOk result (IsSome (unopened_text why)) }
+    ensures err { IfErr result (λ status. (status ≡ Status.Memory)
+        ⊎ ((status ≡ Status.DiskFault) × (why ≡ Unopened.Refused OpenRefused.DiskFault))) }
+    ensures fault { why ≡ Unopened.Refused OpenRefused.DiskFault → result ≡ Err Status.DiskFault }
+{
+    match why {
+        Unopened::OldVersion => Ok(put_old_version(out)?),
+        Unopened::Refused(refusal) => put_refusal(out, refusal),
+    }
+}
+
 // Says why a store was not opened.
-pub(crate) fn refuse<K: Sink>(alloc: Global, sink: &mut K, refusal: OpenRefused) -> Status
-    ensures wrote { Answers (λ whole. ⊥) (λ whole. open_refusal_text refusal ≡ Some whole) result
+pub(crate) fn refuse<K: Sink>(alloc: Global, sink: &mut K, why: Unopened) -> Status
+    ensures wrote { Answers (λ whole. ⊥) (λ whole. unopened_text why ≡ Some whole) result
         (K.given sink.old) (K.given sink.new) }
-    ensures files { result ≡ Status.StoreRefused → IsSome (open_refusal_text refusal) }
-    ensures fault { (result ≡ Status.DiskFault) ↔ (refusal ≡ OpenRefused.DiskFault) }
+    ensures files { result ≡ Status.StoreRefused → IsSome (unopened_text why) }
+    ensures fault { (result ≡ Status.DiskFault) ↔ (why ≡ Unopened.Refused OpenRefused.DiskFault) }
     ensures reason { SaysReason (K.faults sink.old) (K.faults sink.new) result }
 {
     let mut text = Vec::new(alloc);
-    match put_refusal(&mut text, refusal) {
+    match put_unopened(&mut text, why) {
         Ok(()) => say(sink, &text, Status::StoreRefused),
         Err(status) => status,
     }
@@ -138,14 +154,14 @@ fn report<T: Mrdt, K: Sink, D: Disk + Drop, A: Address>(
 }
 
 /// Opens the store that the disk holds and reports what it holds. It writes nothing to the disk.
-pub(crate) fn run_check<T: Mrdt, K: Sink, D: Disk + Drop, A: Address>(
+pub(crate) fn run_check<T: Mrdt, U: Mrdt, K: Sink, D: Disk + Drop, A: Address>(
     alloc: Global,
     sink: &mut K,
     disk: D,
 ) -> (Status, D)
     ensures wrote { Answers (SaysReport T.meaning A.address (D.contents disk))
-        (SaysRefused T.meaning A.address (D.contents disk)) result.0 (K.given sink.old)
-        (K.given sink.new) }
+        (SaysRefused T.meaning U.meaning A.address (D.contents disk)) result.0
+        (K.given sink.old) (K.given sink.new) }
     // A crash leaves only what it might have left at the start.
     ensures any_moment { LeavesOnly D.moment D.left_since disk result.1 (D.may_leave disk) }
     ensures keeps { result.0 ≡ Status.Done → (f : Files) (store : Stored T.Op T.Reply)
@@ -160,9 +176,9 @@ pub(crate) fn run_check<T: Mrdt, K: Sink, D: Disk + Drop, A: Address>(
     ensures no_fault { result.0 ≡ Status.WriteFault → D.faults result.1 ≡ D.faults disk }
 {
     reads_what_stands::<T>();
-    match Core::<T, D, A>::open(alloc, disk) {
+    match open_store::<T, U, D, A>(alloc, disk) {
         Ok(core) => (report(alloc, sink, &core), core.close()),
-        Err((refusal, disk)) => (refuse(alloc, sink, refusal), disk),
+        Err((why, disk)) => (refuse(alloc, sink, why), disk),
     }
 }
 

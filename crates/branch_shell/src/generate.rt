@@ -16,6 +16,7 @@ ghost use Rattle.branch_shell.specs.Ran.{Ran};
 use crate::answer::{put_report, refuse, say};
 use crate::script::first_line;
 use crate::status::Status;
+use crate::unopened::open_store;
 use branch_address::Address;
 use branch_disk::Disk;
 use branch_engine::{Engine, TellRefused};
@@ -24,6 +25,7 @@ use branch_io::Sink;
 use branch_print::summaries::{Summary, put_summary};
 use mrdt_doc::Doc;
 use mrdt_model::Memory;
+use mrdt_old_doc::Doc1;
 use std::alloc::Global;
 use store_core::Core;
 
@@ -200,8 +202,8 @@ pub(crate) fn run_generate<K: Sink, D: Disk + Drop, A: Address>(
     // Where the sink failed, the disk did not.
     ensures no_fault { result.0 ≡ Status.WriteFault → D.faults result.1 ≡ D.faults disk }
 {
-    match Core::<Doc, D, A>::open(alloc, disk) {
+    match open_store::<Doc, Doc1, D, A>(alloc, disk) {
         Ok(core) => work_over(alloc, core, steps, number, sink),
-        Err((refusal, disk)) => (refuse(alloc, sink, refusal), disk),
+        Err((why, disk)) => (refuse(alloc, sink, why), disk),
     }
 }

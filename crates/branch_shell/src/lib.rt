@@ -8,6 +8,8 @@ mod script;
 pub mod status;
 mod together;
 pub mod top;
+mod unopened;
+mod upgrade;
 
 pub use alone::run_alone;
 pub use status::Status;

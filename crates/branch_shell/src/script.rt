@@ -16,11 +16,13 @@ ghost use Rattle.branch_shell.specs.Ran.{Ran};
 
 use crate::answer::refuse;
 use crate::status::Status;
+use crate::unopened::open_store;
 use branch_address::Address;
 use branch_disk::Disk;
 use branch_engine::{Engine, TellRefused};
 use branch_io::{Sink, SinkFailed, Source, SourceFailed};
 use mrdt_doc::Doc;
+use mrdt_old_doc::Doc1;
 use std::alloc::Global;
 use store_core::Core;
 
@@ -320,8 +322,8 @@ pub(crate) fn run_script<S: Source, K: Sink, D: Disk + Drop, A: Address>(
         ⊎ Exchanges (S.left source.old) (S.left source.new) (K.given sink.old) (K.given sink.new)
         (Wrote A.address SaidScript (D.contents disk) (S.left source.new) Status.DiskFault) }
 {
-    match Core::<Doc, D, A>::open(alloc, disk) {
+    match open_store::<Doc, Doc1, D, A>(alloc, disk) {
         Ok(core) => run_opened(alloc, core, source, sink),
-        Err((refusal, disk)) => (refuse(alloc, sink, refusal), disk),
+        Err((why, disk)) => (refuse(alloc, sink, why), disk),
     }
 }

@@ -6,14 +6,14 @@ ghost use Rattle.branch_doc.specs.Document.{document};
 ghost use Rattle.store_core.specs.Opens.{ReadsAsNone};
 ghost use Rattle.branch_shell.specs.Counts.{HasReason, SaysReason};
 ghost use Rattle.branch_shell.specs.Once.{Answers};
-ghost use Rattle.branch_shell.specs.Stores.{SaysRefused};
-ghost use Rattle.branch_shell.specs.Documents.{DocStore};
+ghost use Rattle.branch_shell.specs.Documents.{DocStore, SaysUnopened};
 ghost use Rattle.branch_shell.specs.Statuses.{Holds};
 ghost use Rattle.branch_shell.specs.Together.{FindsBranch, FindsAll, IsFault, TellsFault, SomeTellFault, StopsFor, TellsClients, RanOver, RanTogether, LeftTogether, client_line, client_lines, machine_refusal};
 ghost use Rattle.branch_print.specs.Texts.{refusal_text, line_end};
 
 use crate::answer::{put_report, refuse, say};
 use crate::status::Status;
+use crate::unopened::open_store;
 use branch_address::Address;
 use branch_disk::Disk;
 use branch_files::laws::reads_what_stands;
@@ -21,10 +21,11 @@ use branch_io::Sink;
 use branch_print::clients::{put_client, put_client_done};
 use branch_print::refusals::{
     put_collision, put_dropped, put_exhausted, put_full_branches, put_full_commits, put_full_moves,
-    put_too_large,
+    put_keeps_main, put_too_large,
 };
 use client_runs::{Finished, Work, run_on};
 use mrdt_doc::Doc;
+use mrdt_old_doc::Doc1;
 use parallel_clients::{ClientRefusal, Outcome};
 use std::alloc::Global;
 use std::sync::Wait;
@@ -34,12 +35,14 @@ use store_core::Core;
 // Writes why a client was refused.
 fn put_client_refusal(out: &mut Vec<u8>, refusal: &ClientRefusal) -> Result<(), Status>
     requires { FindsBranch refusal.now }
-    ensures ok { OnOk result (IfSome (machine_refusal refusal.now) (λ r. out.new.items ≡ out.old.items ++ (refusal_text [] r ++ line_end))) }
+    ensures ok { OnOk result (IfSome (machine_refusal refusal.now) (λ r.
+        out.new.items ≡ out.old.items ++ (refusal_text [] r ++ line_end))) }
     ensures told { OnOk result (IsSome (machine_refusal refusal.now)) }
     ensures err { IfErr result (StopsFor (IsFault refusal.now)) }
 {
     match refusal {
         ClientRefusal::Dropped { branch } => Ok(put_dropped(out, *branch)?),
+        ClientRefusal::KeepsMain => Ok(put_keeps_main(out)?),
         ClientRefusal::Exhausted { clock } => Ok(put_exhausted(out, *clock)?),
         ClientRefusal::FullCommits { count } => Ok(put_full_commits(out, *count)?),
         ClientRefusal::FullBranches { count } => Ok(put_full_branches(out, *count)?),
@@ -56,7 +59,8 @@ fn put_client_refusal(out: &mut Vec<u8>, refusal: &ClientRefusal) -> Result<(), 
 // Writes the line of a client.
 fn put_outcome(out: &mut Vec<u8>, client: u64, outcome: &Outcome) -> Result<(), Status>
     requires { FindsAll outcome.now }
-    ensures ok { OnOk result (IfSome (client_line client outcome.now) (λ line. out.new.items ≡ out.old.items ++ line)) }
+    ensures ok { OnOk result (IfSome (client_line client outcome.now) (λ line.
+        out.new.items ≡ out.old.items ++ line)) }
     ensures told { OnOk result (IsSome (client_line client outcome.now)) }
     ensures err { IfErr result (StopsFor (TellsFault outcome.now)) }
 {
@@ -76,7 +80,8 @@ fn put_outcome(out: &mut Vec<u8>, client: u64, outcome: &Outcome) -> Result<(), 
 // Writes the lines of all clients, in their order.
 fn put_outcomes(out: &mut Vec<u8>, outcomes: &[Outcome]) -> Result<(), Status>
     requires { AllByRecursion FindsAll outcomes.now }
-    ensures ok { OnOk result (IfSome (client_lines 0 outcomes.now) (λ lines. out.new.items ≡ out.old.items ++ lines)) }
+    ensures ok { OnOk result (IfSome (client_lines 0 outcomes.now) (λ lines.
+        out.new.items ≡ out.old.items ++ lines)) }
     ensures told { OnOk result (IsSome (client_lines 0 outcomes.now)) }
     ensures err { IfErr result (StopsFor (SomeTellFault outcomes.now)) }
 {
@@ -131,7 +136,10 @@ fn together_over<K: Sink, D: Disk + Drop + Send, A: Address + Send, R: Threads +
     sink: &mut K,
 ) -> (Status, D)
     requires { core.opened ≡ core.disk }
-    ensures wrote { Answers (RanOver D.may_leave A.address (record { terms = core.terms; history = core.history }) (record { count = work.count; work = record { steps = work.steps; number = work.number } }) result.1)
+    ensures wrote { Answers (RanOver D.may_leave A.address
+        (record { terms = core.terms; history = core.history })
+        (record { count = work.count; work = record { steps = work.steps; number = work.number } })
+        result.1)
         (λ whole. ⊥) result.0 (K.given sink.old) (K.given sink.new) }
     ensures survives { LeftTogether D.may_leave A.address
         (record { terms = core.terms; history = core.history })
@@ -139,7 +147,8 @@ fn together_over<K: Sink, D: Disk + Drop + Send, A: Address + Send, R: Threads +
           count = work.count;
           work = record { steps = work.steps; number = work.number };
         }) result.0 result.1 }
-    ensures reason { (n : ℕ) → HasReason (record { source = n; sink = K.faults sink.old; disk = D.faults core.disk })
+    ensures reason { (n : ℕ)
+        → HasReason (record { source = n; sink = K.faults sink.old; disk = D.faults core.disk })
         (record { source = n; sink = K.faults sink.new; disk = D.faults result.1 }) result.0 }
     // Where the sink failed, the disk did not.
     ensures no_fault { result.0 ≡ Status.WriteFault → D.faults result.1 ≡ D.faults core.disk }
@@ -169,8 +178,10 @@ pub(crate) fn run_together<
     A: Address + Send,
     R: Threads + Wait + Sync,
 >(rt: &R, alloc: Global, work: Work, sink: &mut K, disk: D) -> (Status, D)
-    ensures wrote { Answers (RanTogether D.may_leave A.address (D.contents disk) (record { count = work.count; work = record { steps = work.steps; number = work.number } }) result.1)
-        (SaysRefused document A.address (D.contents disk)) result.0 (K.given sink.old) (K.given sink.new) }
+    ensures wrote { Answers (RanTogether D.may_leave A.address (D.contents disk)
+        (record { count = work.count; work = record { steps = work.steps; number = work.number } })
+        result.1)
+        (SaysUnopened A.address (D.contents disk)) result.0 (K.given sink.old) (K.given sink.new) }
     // However clients end, each image of the disk reads as the store with the history that it came to by them; where the
     // disk failed, also as it with one move more.
     ensures crashes { (store : DocStore) → Holds D.contents D.may_leave A.address disk store
@@ -180,16 +191,20 @@ pub(crate) fn run_together<
           work = record { steps = work.steps; number = work.number };
         }) result.0 result.1 }
     // Where the files are refused, they read as no store, and a crash leaves only what it might have left at the start.
-    ensures refused { result.0 ≡ Status.StoreRefused → LeavesOnly D.moment D.left_since disk result.1 (D.may_leave disk) }
-    ensures refused_only { result.0 ≡ Status.StoreRefused → (f : Files) → D.contents disk ≡ Some f → ReadsAsNone document A.address f }
-    ensures keeps { (f : Files) → D.contents disk ≡ Some f → ReadsAsNone document A.address f → LeavesOnly D.moment D.left_since disk result.1 (D.may_leave disk) }
-    ensures reason { (n : ℕ) → HasReason (record { source = n; sink = K.faults sink.old; disk = D.faults disk })
+    ensures refused { result.0 ≡ Status.StoreRefused
+        → LeavesOnly D.moment D.left_since disk result.1 (D.may_leave disk) }
+    ensures refused_only { result.0 ≡ Status.StoreRefused → (f : Files) → D.contents disk ≡ Some f
+        → ReadsAsNone document A.address f }
+    ensures keeps { (f : Files) → D.contents disk ≡ Some f → ReadsAsNone document A.address f
+        → LeavesOnly D.moment D.left_since disk result.1 (D.may_leave disk) }
+    ensures reason { (n : ℕ)
+        → HasReason (record { source = n; sink = K.faults sink.old; disk = D.faults disk })
         (record { source = n; sink = K.faults sink.new; disk = D.faults result.1 }) result.0 }
     // Where the sink failed, the disk did not.
     ensures no_fault { result.0 ≡ Status.WriteFault → D.faults result.1 ≡ D.faults disk }
 {
-    match Core::<Doc, D, A>::open(alloc, disk) {
+    match open_store::<Doc, Doc1, D, A>(alloc, disk) {
         Ok(core) => together_over(rt, alloc, core, work, sink),
-        Err((refusal, disk)) => (refuse(alloc, sink, refusal), disk),
+        Err((why, disk)) => (refuse(alloc, sink, why), disk),
     }
 }

@@ -58,14 +58,25 @@ fn reported<'a>(
     Ok(report)
 }
 
+// A disk in memory without bytes.
+fn none(alloc: Global) -> MemoryDisk {
+    MemoryDisk::new(Vec::new(alloc))
+}
+
 // All moves are the clients', and the report stays.
 #[test]
 fn eight_clients(rt: HostRuntime) -> Result<(), Fail> {
     let alloc = rt.alloc();
     let disk = MemoryDisk::new(Vec::new(alloc));
-    let (made, _, disk) = ran::<Sha256Address, _, _>(&rt, alloc, "init", disk)?;
-    let (status, text, disk) = ran::<Sha256Address, _, _>(&rt, alloc, "clients 8 200 7", disk)?;
-    let (checked, report, _) = ran::<Sha256Address, _, _>(&rt, alloc, "check", disk)?;
+    let (made, _, disk) = ran::<Sha256Address, _, _>(&rt, alloc, "init", disk, none(alloc))?;
+    let (status, text, disk) = ran::<Sha256Address, _, _>(
+        &rt,
+        alloc,
+        "clients 8 200 7",
+        disk,
+        none(alloc),
+    )?;
+    let (checked, report, _) = ran::<Sha256Address, _, _>(&rt, alloc, "check", disk, none(alloc))?;
     assert_eq!(rt;
         (made, status, checked),
         (Status::Done, Status::Done, Status::Done)
@@ -77,7 +88,7 @@ fn eight_clients(rt: HostRuntime) -> Result<(), Fail> {
     Ok(())
 }
 
-// So it is over files.
+// So it is over files. No second store is made.
 #[test]
 fn clients_over_files(rt: HostRuntime) -> Result<(), Fail> {
     let alloc = rt.alloc();
@@ -85,12 +96,16 @@ fn clients_over_files(rt: HostRuntime) -> Result<(), Fail> {
     let _ = fs::remove_dir_all(&rt, folder);
     fs::create_dir(&rt, folder)?;
     let path = "program_tests_clients/store".to_string(alloc)?;
+    let other = "program_tests_clients/store.second".to_string(alloc)?;
     let disk = FileDisk::new(&rt, path.clone()?);
-    let (made, _, _) = ran::<Sha256Address, _, _>(&rt, alloc, "init", disk)?;
+    let second = FileDisk::new(&rt, other.clone()?);
+    let (made, _, _) = ran::<Sha256Address, _, _>(&rt, alloc, "init", disk, second)?;
     let disk = FileDisk::new(&rt, path.clone()?);
-    let (status, text, _) = ran::<Sha256Address, _, _>(&rt, alloc, "clients 4 20 7", disk)?;
+    let second = FileDisk::new(&rt, other.clone()?);
+    let (status, text, _) = ran::<Sha256Address, _, _>(&rt, alloc, "clients 4 20 7", disk, second)?;
     let disk = FileDisk::new(&rt, path);
-    let (checked, report, _) = ran::<Sha256Address, _, _>(&rt, alloc, "check", disk)?;
+    let second = FileDisk::new(&rt, other);
+    let (checked, report, _) = ran::<Sha256Address, _, _>(&rt, alloc, "check", disk, second)?;
     assert_eq!(rt;
         (made, status, checked),
         (Status::Done, Status::Done, Status::Done)
@@ -99,6 +114,8 @@ fn clients_over_files(rt: HostRuntime) -> Result<(), Fail> {
         reported(&rt, alloc, &text, 4)?.as_bytes(),
         report.as_slice()
     );
+    assert!(rt; fs::read(&rt, "program_tests_clients/store.second.heads").is_err());
+    assert!(rt; fs::read(&rt, "program_tests_clients/store.second.objects").is_err());
     fs::remove_dir_all(&rt, folder)?;
     Ok(())
 }

@@ -19,7 +19,7 @@ fn words_of(alloc: Global, text: &str) -> Result<Vec<String>, AllocError> {
 }
 
 // Runs a command that starts no thread, with addresses of a kind, which ends so and writes this. Gives the disk that it
-// left.
+// left. The second disk is empty, and no call is made of it.
 pub fn says<A: Address>(
     rt: &impl Abort,
     alloc: Global,
@@ -31,22 +31,41 @@ pub fn says<A: Address>(
     let words = words_of(alloc, command)?;
     let mut source = MemorySource::new(input.to_vec(alloc)?, 16, Vec::new(alloc));
     let mut sink = MemorySink::new(Vec::new(alloc));
-    let (status, disk) = run_alone::<_, _, _, A>(alloc, &words, &mut source, &mut sink, disk);
+    let second = MemoryDisk::new(Vec::new(alloc));
+    let (status, disk, second) = run_alone::<_, _, _, A>(
+        alloc,
+        &words,
+        &mut source,
+        &mut sink,
+        disk,
+        second,
+    );
     assert_eq!(rt; (status, sink.bytes()), wanted);
+    assert_eq!(rt; second.calls(), 0);
     Ok(disk)
 }
 
-// Runs a command that may start threads, over no input and any disk. Gives its status, what it wrote and the disk.
+// Runs a command that may start threads, over no input and any disks. Gives its status, what it wrote and the first
+// disk.
 pub fn ran<A: Address + Send, D: Disk + Drop + Send, R: Threads + Wait + Sync>(
     rt: &R,
     alloc: Global,
     command: &str,
     disk: D,
+    second: D,
 ) -> Result<(Status, Vec<u8>, D), Fail> {
     let words = words_of(alloc, command)?;
     let mut source = MemorySource::new(Vec::new(alloc), 16, Vec::new(alloc));
     let mut sink = MemorySink::new(Vec::new(alloc));
-    let (status, disk) = run::<_, _, _, A, R>(rt, alloc, &words, &mut source, &mut sink, disk);
+    let (status, disk, _) = run::<_, _, _, A, R>(
+        rt,
+        alloc,
+        &words,
+        &mut source,
+        &mut sink,
+        disk,
+        second,
+    );
     let text = sink.bytes().to_vec(alloc)?;
     Ok((status, text, disk))
 }

@@ -1,10 +1,10 @@
 use Rattle.std.proofs.Common.{sym, subst, ap, ◌∙◌}
 use Rattle.branch_files.specs.Reading.{Opens, Answer}
-use Rattle.branch_shell.specs.Refusals.{open_refusal_text}
+use Rattle.branch_shell.specs.Refusals.{unopened_text}
 use Rattle.branch_shell.specs.Stores.{SaysReport, SaysRefused}
 use Rattle.std.specs.Prelude.{Some, ◌≡◌}
 use Rattle.branch_print.specs.Reports.{report_text}
-use Rattle.branch_shell.proofs.Once.{answers_map, says_refused, none_refused, not_behind, reason_said}
+use Rattle.branch_shell.proofs.Once.{answers_map, says_refused, not_behind, reason_said}
 use Rattle.branch_shell.proofs.answer.run_check.Goals as goal
 
 pub returns-in-Ok-clause-wrote : goal.returns-in-Ok-clause-wrote
@@ -14,7 +14,7 @@ returns-in-Ok-clause-wrote g c =
     let opened = c.in-Ok.ensures in
     let m = g.T.Mrdt.meaning in
     let address = g.A.Address.address in
-    answers_map (λ whole. whole ≡ report_text core.terms.origin core.history) (λ whole. ⊥) (SaysReport m address told) (SaysRefused m address told)
+    answers_map (λ whole. whole ≡ report_text core.terms.origin core.history) (λ whole. ⊥) (SaysReport m address told) (SaysRefused m g.U.Mrdt.meaning address told)
     (λ whole is. (record { terms = core.terms; history = core.history }, record { valid = opened.valid; reads = opened.reads; only = opened.only }, is)) (λ whole no. absurd no)
     c.report.result (g.K.Sink.given c.args.sink.now) (g.K.Sink.given c.report.new.sink) c.report.ensures.wrote
 
@@ -32,16 +32,16 @@ returns-in-Err-clause-wrote g c =
     let told = g.D.Disk.contents c.args.disk in
     let m = g.T.Mrdt.meaning in
     let address = g.A.Address.address in
-    answers_map (λ whole. ⊥) (λ whole. open_refusal_text c.in-Err.refusal ≡ Some whole) (SaysReport m address told) (SaysRefused m address told)
-    (λ whole no. absurd no) (says_refused m address told c.in-Err.refusal c.in-Err.ensures.refused c.in-Err.ensures.refused_only)
+    answers_map (λ whole. ⊥) (λ whole. unopened_text c.in-Err.why ≡ Some whole) (SaysReport m address told) (SaysRefused m g.U.Mrdt.meaning address told)
+    (λ whole no. absurd no) (says_refused m g.U.Mrdt.meaning address told c.in-Err.why c.in-Err.ensures.refused c.in-Err.ensures.refused_only)
     c.refuse.result (g.K.Sink.given c.args.sink.now) (g.K.Sink.given c.refuse.new.sink) c.refuse.ensures.wrote
 
 pub returns-in-Err-clause-refused_only : goal.returns-in-Err-clause-refused_only
 returns-in-Err-clause-refused_only g c refused f told =
-    none_refused g.T.Mrdt.meaning g.A.Address.address (g.D.Disk.contents c.args.disk) c.in-Err.refusal c.in-Err.ensures.refused_only (c.refuse.ensures.files refused) f told
+    c.in-Err.ensures.refused_only (c.refuse.ensures.files refused) f told
 
 pub returns-in-Err-clause-no_fault : goal.returns-in-Err-clause-no_fault
-returns-in-Err-clause-no_fault g c = not_behind (g.D.Disk.faults c.args.disk) (g.D.Disk.faults c.in-Err.disk) c.in-Err.refusal c.refuse.result c.in-Err.ensures.cause c.refuse.ensures.fault
+returns-in-Err-clause-no_fault g c = not_behind (g.D.Disk.faults c.args.disk) (g.D.Disk.faults c.in-Err.disk) c.in-Err.why c.refuse.result c.in-Err.ensures.cause c.refuse.ensures.fault
 
 pub returns-in-Ok-clause-reason : goal.returns-in-Ok-clause-reason
 returns-in-Ok-clause-reason g c n =

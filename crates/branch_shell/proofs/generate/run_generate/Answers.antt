@@ -2,11 +2,12 @@ use Rattle.std.proofs.Common.{◌≡◌, ℕ, [], subst}
 use Rattle.std.specs.Prelude.{Some}
 use Rattle.std.proofs.KnownBytes.{Consumes-nil}
 use Rattle.branch_doc.specs.Document.{document}
+use Rattle.mrdt_old_doc.specs.OldDocument.{old_document}
 use Rattle.branch_command.specs.Work.{Work}
 use Rattle.branch_shell.specs.Counts.{HasReason}
-use Rattle.branch_shell.specs.Refusals.{open_refusal_text}
-use Rattle.branch_shell.specs.Stores.{IsOpenedAs, SaysRefused}
-use Rattle.branch_shell.specs.Documents.{DocStore}
+use Rattle.branch_shell.specs.Refusals.{unopened_text}
+use Rattle.branch_shell.specs.Stores.{IsOpenedAs}
+use Rattle.branch_shell.specs.Documents.{DocStore, SaysUnopened}
 use Rattle.branch_shell.proofs.Once.{answers_map, says_refused, not_behind}
 use Rattle.branch_shell.proofs.Works.{work_opened, work_refused}
 use Rattle.branch_shell.proofs.generate.run_generate.Goals as goal
@@ -37,9 +38,9 @@ returns-in-Err-clause-ran g c left =
     let told = d.contents c.args.disk in
     let address = g.A.Address.address in
     let work : Work = record { steps = c.args.steps; number = c.args.number } in
-    let w = answers_map (λ whole. ⊥) (λ whole. open_refusal_text c.in-Err.refusal ≡ Some whole) (λ whole. ⊥) (SaysRefused document address told) (λ whole no. no)
-    (says_refused document address told c.in-Err.refusal c.in-Err.ensures.refused c.in-Err.ensures.refused_only) c.refuse.result (g.K.Sink.given c.args.sink.now) (g.K.Sink.given c.refuse.new.sink) c.refuse.ensures.wrote in
+    let w = answers_map (λ whole. ⊥) (λ whole. unopened_text c.in-Err.why ≡ Some whole) (λ whole. ⊥) (SaysUnopened address told) (λ whole no. no)
+    (says_refused document old_document address told c.in-Err.why c.in-Err.ensures.refused c.in-Err.ensures.refused_only) c.refuse.result (g.K.Sink.given c.args.sink.now) (g.K.Sink.given c.refuse.new.sink) c.refuse.ensures.wrote in
     ([], w.0, Consumes-nil left, w.1, work_refused address d laws.counts_now laws.only_now work left c.args.disk c.in-Err.disk c.refuse.result w.0 c.in-Err.ensures.any_moment_err w.2)
 
 pub returns-in-Err-clause-no_fault : goal.returns-in-Err-clause-no_fault
-returns-in-Err-clause-no_fault g c = not_behind (g.D.Disk.faults c.args.disk) (g.D.Disk.faults c.in-Err.disk) c.in-Err.refusal c.refuse.result c.in-Err.ensures.cause c.refuse.ensures.fault
+returns-in-Err-clause-no_fault g c = not_behind (g.D.Disk.faults c.args.disk) (g.D.Disk.faults c.in-Err.disk) c.in-Err.why c.refuse.result c.in-Err.ensures.cause c.refuse.ensures.fault

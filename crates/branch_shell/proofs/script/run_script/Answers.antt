@@ -2,11 +2,12 @@ use Rattle.std.proofs.Common.{◌≡◌, ◌⊎◌, [], refl, inl, subst}
 use Rattle.std.specs.Prelude.{Some}
 use Rattle.std.proofs.KnownBytes.{Consumes-nil}
 use Rattle.branch_doc.specs.Document.{document}
+use Rattle.mrdt_old_doc.specs.OldDocument.{old_document}
 use Rattle.branch_shell.specs.declared.status.Status.TheVariants.{ReadFault, DiskFault}
-use Rattle.branch_shell.specs.Refusals.{open_refusal_text}
+use Rattle.branch_shell.specs.Refusals.{unopened_text}
 use Rattle.branch_shell.specs.Reading.{Exchanges}
-use Rattle.branch_shell.specs.Stores.{IsOpenedAs, SaysRefused}
-use Rattle.branch_shell.specs.Documents.{DocStore}
+use Rattle.branch_shell.specs.Stores.{IsOpenedAs}
+use Rattle.branch_shell.specs.Documents.{DocStore, SaysUnopened}
 use Rattle.branch_shell.specs.Statuses.{Runs}
 use Rattle.branch_shell.proofs.Once.{answers_map, says_refused, reason_opening, not_behind}
 use Rattle.branch_shell.proofs.Scripts.{script_opened, script_refused, wrote_opened}
@@ -56,17 +57,17 @@ returns-in-Err-clause-ran g c =
     let told = d.contents c.args.disk in
     let address = g.A.Address.address in
     let left = g.S.Source.left c.args.source.now in
-    let w = answers_map (λ whole. ⊥) (λ whole. open_refusal_text c.in-Err.refusal ≡ Some whole) (λ whole. ⊥) (SaysRefused document address told) (λ whole no. no)
-    (says_refused document address told c.in-Err.refusal c.in-Err.ensures.refused c.in-Err.ensures.refused_only) c.refuse.result (g.K.Sink.given c.args.sink.now) (g.K.Sink.given c.refuse.new.sink) c.refuse.ensures.wrote in
+    let w = answers_map (λ whole. ⊥) (λ whole. unopened_text c.in-Err.why ≡ Some whole) (λ whole. ⊥) (SaysUnopened address told) (λ whole no. no)
+    (says_refused document old_document address told c.in-Err.why c.in-Err.ensures.refused c.in-Err.ensures.refused_only) c.refuse.result (g.K.Sink.given c.args.sink.now) (g.K.Sink.given c.refuse.new.sink) c.refuse.ensures.wrote in
     ([], w.0, Consumes-nil left, w.1, script_refused address d laws.counts_now laws.only_now c.args.disk c.in-Err.disk left c.refuse.result w.0 c.in-Err.ensures.any_moment_err w.2)
 
 pub returns-in-Err-clause-reason : goal.returns-in-Err-clause-reason
 returns-in-Err-clause-reason g c =
-    reason_opening (λ whole. ⊥) (λ whole. open_refusal_text c.in-Err.refusal ≡ Some whole) (g.S.Source.faults c.args.source.now) (g.K.Sink.faults c.args.sink.now) (g.K.Sink.faults c.refuse.new.sink) (g.D.Disk.faults c.args.disk) (g.D.Disk.faults c.in-Err.disk)
-    (g.K.Sink.given c.args.sink.now) (g.K.Sink.given c.refuse.new.sink) c.in-Err.refusal c.refuse.result c.refuse.ensures.wrote c.in-Err.ensures.cause c.refuse.ensures.fault c.refuse.ensures.reason
+    reason_opening (λ whole. ⊥) (λ whole. unopened_text c.in-Err.why ≡ Some whole) (g.S.Source.faults c.args.source.now) (g.K.Sink.faults c.args.sink.now) (g.K.Sink.faults c.refuse.new.sink) (g.D.Disk.faults c.args.disk) (g.D.Disk.faults c.in-Err.disk)
+    (g.K.Sink.given c.args.sink.now) (g.K.Sink.given c.refuse.new.sink) c.in-Err.why c.refuse.result c.refuse.ensures.wrote c.in-Err.ensures.cause c.refuse.ensures.fault c.refuse.ensures.reason
 
 pub returns-in-Err-clause-behind_source : goal.returns-in-Err-clause-behind_source
 returns-in-Err-clause-behind_source g c = λ fault. inl refl
 
 pub returns-in-Err-clause-behind_disk : goal.returns-in-Err-clause-behind_disk
-returns-in-Err-clause-behind_disk g c = λ fault. inl (not_behind (g.D.Disk.faults c.args.disk) (g.D.Disk.faults c.in-Err.disk) c.in-Err.refusal c.refuse.result c.in-Err.ensures.cause c.refuse.ensures.fault fault)
+returns-in-Err-clause-behind_disk g c = λ fault. inl (not_behind (g.D.Disk.faults c.args.disk) (g.D.Disk.faults c.in-Err.disk) c.in-Err.why c.refuse.result c.in-Err.ensures.cause c.refuse.ensures.fault fault)

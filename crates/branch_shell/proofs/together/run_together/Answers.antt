@@ -4,13 +4,14 @@ use Rattle.std.specs.Prelude.{Some}
 use Rattle.branch_disk.specs.Disk.{LeavesOnly}
 use Rattle.branch_disk.specs.Moments.{now_too}
 use Rattle.branch_doc.specs.Document.{document}
+use Rattle.mrdt_old_doc.specs.OldDocument.{old_document}
 use Rattle.branch_command.specs.Work.{Clients}
 use Rattle.branch_shell.specs.Counts.{HasReason}
-use Rattle.branch_shell.specs.Refusals.{open_refusal_text}
-use Rattle.branch_shell.specs.Stores.{IsOpenedAs, SaysRefused}
-use Rattle.branch_shell.specs.Documents.{DocStore}
+use Rattle.branch_shell.specs.Refusals.{unopened_text}
+use Rattle.branch_shell.specs.Stores.{IsOpenedAs}
+use Rattle.branch_shell.specs.Documents.{DocStore, SaysUnopened}
 use Rattle.branch_shell.specs.Together.{RanOver, RanTogether, LeftTogether}
-use Rattle.branch_shell.proofs.Once.{answers_map, says_refused, none_refused, not_behind}
+use Rattle.branch_shell.proofs.Once.{answers_map, says_refused, not_behind}
 use Rattle.branch_shell.proofs.Scripts.{same_store}
 use Rattle.branch_shell.proofs.Works.{never_refused}
 use Rattle.branch_shell.proofs.together.run_together.Goals as goal
@@ -23,7 +24,7 @@ returns-in-Ok-clause-wrote g c =
     let opened = c.in-Ok.ensures in
     let found : DocStore = record { terms = core.terms; history = core.history } in
     let clients : Clients = record { count = c.args.work.count; work = record { steps = c.args.work.steps; number = c.args.work.number } } in
-    answers_map (RanOver g.D.Disk.may_leave address found clients c.together_over.result.1) (λ whole. ⊥) (RanTogether g.D.Disk.may_leave address told clients c.together_over.result.1) (SaysRefused document address told)
+    answers_map (RanOver g.D.Disk.may_leave address found clients c.together_over.result.1) (λ whole. ⊥) (RanTogether g.D.Disk.may_leave address told clients c.together_over.result.1) (SaysUnopened address told)
     (λ whole ran. (found, record { valid = opened.valid; reads = opened.reads; only = opened.only }, ran)) (λ whole no. absurd no)
     c.together_over.result.0 (g.K.Sink.given c.args.sink.now) (g.K.Sink.given c.together_over.new.sink) c.together_over.ensures.wrote
 
@@ -69,8 +70,8 @@ returns-in-Err-clause-wrote g c =
     let told = g.D.Disk.contents c.args.disk in
     let address = g.A.Address.address in
     let clients : Clients = record { count = c.args.work.count; work = record { steps = c.args.work.steps; number = c.args.work.number } } in
-    answers_map (λ whole. ⊥) (λ whole. open_refusal_text c.in-Err.refusal ≡ Some whole) (RanTogether g.D.Disk.may_leave address told clients c.in-Err.disk) (SaysRefused document address told)
-    (λ whole no. absurd no) (says_refused document address told c.in-Err.refusal c.in-Err.ensures.refused c.in-Err.ensures.refused_only)
+    answers_map (λ whole. ⊥) (λ whole. unopened_text c.in-Err.why ≡ Some whole) (RanTogether g.D.Disk.may_leave address told clients c.in-Err.disk) (SaysUnopened address told)
+    (λ whole no. absurd no) (says_refused document old_document address told c.in-Err.why c.in-Err.ensures.refused c.in-Err.ensures.refused_only)
     c.refuse.result (g.K.Sink.given c.args.sink.now) (g.K.Sink.given c.refuse.new.sink) c.refuse.ensures.wrote
 
 pub returns-in-Err-clause-crashes : goal.returns-in-Err-clause-crashes
@@ -85,7 +86,7 @@ returns-in-Err-clause-crashes g c store holds =
 
 pub returns-in-Err-clause-refused_only : goal.returns-in-Err-clause-refused_only
 returns-in-Err-clause-refused_only g c refused f told =
-    none_refused document g.A.Address.address (g.D.Disk.contents c.args.disk) c.in-Err.refusal c.in-Err.ensures.refused_only (c.refuse.ensures.files refused) f told
+    c.in-Err.ensures.refused_only (c.refuse.ensures.files refused) f told
 
 pub returns-in-Err-clause-no_fault : goal.returns-in-Err-clause-no_fault
-returns-in-Err-clause-no_fault g c = not_behind (g.D.Disk.faults c.args.disk) (g.D.Disk.faults c.in-Err.disk) c.in-Err.refusal c.refuse.result c.in-Err.ensures.cause c.refuse.ensures.fault
+returns-in-Err-clause-no_fault g c = not_behind (g.D.Disk.faults c.args.disk) (g.D.Disk.faults c.in-Err.disk) c.in-Err.why c.refuse.result c.in-Err.ensures.cause c.refuse.ensures.fault
