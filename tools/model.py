@@ -3,10 +3,22 @@
 It stands apart from the program: it has no merges and no bases. Each commit's value is spelled anew from the operations
 that are visible there, by docs/DEFINITIONS.md, and the bytes of the files are those of docs/FORMATS.md.
 """
+import contextlib
 import hashlib
 import re
 
 VERSION = 2
+
+
+@contextlib.contextmanager
+def of_version(version):
+    """Values are spelled and lines are read as this version has them."""
+    global VERSION
+    before, VERSION = VERSION, version
+    try:
+        yield
+    finally:
+        VERSION = before
 
 LIMITS = {"clock": 2**64 - 1, "commits": 16777216, "branches": 65536, "value": 16777216, "moves": 1099511627776}
 
@@ -193,8 +205,9 @@ class Store:
     """A store: its commits, its branches and the bytes of both files. Branch r has the origin that lies r above the first."""
 
     def __init__(self, origin=0, **limits):
-        self.limits, self.origin = {**LIMITS, **limits}, origin
+        self.limits, self.origin, self.version, self.log = {**LIMITS, **limits}, origin, VERSION, []
         self.commits, self.branches, self.moves = [], [[b"main", 0]], 0
+        self.dropped = set()
         self.stored = {}
         self.objects = b"MRDTOBJS" + u32(VERSION) + bytes(4)
         self.heads = b"\1MRDTHEAD" + u32(VERSION) + self.limit_bytes() + b"\0" + u32(origin) + bytes(14) + b"\0"
@@ -224,7 +237,7 @@ class Store:
 
     def find(self, name):
         for number, branch in enumerate(self.branches):
-            if branch[0] == name:
+            if branch[0] == name and number not in self.dropped:
                 return number
         raise Refused("error unknown " + name.decode())
 
@@ -241,7 +254,12 @@ class Store:
         self.commits.append(Commit(parents, origin, clock, reach, event, value, name))
         return number, name
 
+    def check_kept(self, branch):
+        if branch in self.dropped:
+            raise Refused(f"error dropped {branch}")
+
     def check_land(self, branch, seen, makes_commit):
+        self.check_kept(branch)
         newest = self.branches[branch][1]
         if newest != seen:
             raise Refused(f"stale {self.branches[branch][0].decode()} at #{newest}")
@@ -277,6 +295,7 @@ class Store:
         number, name = self.add_commit([seen], time[1], time[0], event, action, value)
         self.branches[branch][1] = number
         self.put_record(2, branch, 0, name)
+        self.log.append(lambda store: store.land(branch, seen, kind, key, verb, word))
         return number, time, reply
 
     def merge(self, branch, seen, other):
@@ -287,6 +306,7 @@ class Store:
             self.check_land(branch, seen, False)
             self.branches[branch][1] = other
             self.put_record(4, branch, other, b"")
+            self.log.append(lambda store: store.merge(branch, seen, other))
             return "forward", other
         reach = self.commits[seen].reach | self.commits[other].reach
         value = document([c.event for at, c in enumerate(self.commits) if c.event and reach >> at & 1])
@@ -296,6 +316,7 @@ class Store:
         number, name = self.add_commit([seen, other], self.origin + branch, clock, None, b"\2", value)
         self.branches[branch][1] = number
         self.put_record(3, branch, other, name)
+        self.log.append(lambda store: store.merge(branch, seen, other))
         return "merged", number
 
     def brought(self, seen, others):
@@ -326,17 +347,43 @@ class Store:
     def fork(self, new, of):
         number = self.find(of)
         for taken, branch in enumerate(self.branches):
-            if branch[0] == new:
+            if branch[0] == new and taken not in self.dropped:
                 raise Refused(f"error taken {taken}")
         if len(self.branches) == self.limits["branches"]:
             raise Refused(f"error full branches {len(self.branches)}")
         self.check_moves()
         self.branches.append([new, self.branches[number][1]])
         self.put_record(1, len(self.branches) - 1, number, new)
+        self.log.append(lambda store: store.fork(new, of))
         return len(self.branches) - 1, self.branches[-1][1]
 
+    def drop(self, branch, seen):
+        """Drops a branch from the head that is seen. Gives its name."""
+        self.check_kept(branch)
+        if branch == 0:
+            raise Refused("error keeps main")
+        name, newest = self.branches[branch]
+        if newest != seen:
+            raise Refused(f"stale {name.decode()} at #{newest}")
+        self.check_moves()
+        self.dropped.add(branch)
+        self.put_record(8, branch, 0, b"")
+        return name
+
+    def upgraded(self):
+        """The store of the next version with the same moves, as far as that makes them, and what upgrading it says."""
+        with of_version(self.version + 1):
+            store = Store(**self.limits)
+            for move in self.log:
+                try:
+                    move(store)
+                except Refused:
+                    return store, f"refused upgrade {len(store.commits)}"
+        return store, f"upgraded {store.moves}"
+
     def report(self):
-        lines = [f"branch {name.decode()} #{head}" for name, head in self.branches]
+        kept = [branch for number, branch in enumerate(self.branches) if number not in self.dropped]
+        lines = [f"branch {name.decode()} #{head}" for name, head in kept]
         return lines + [f"moves {self.moves} commits {len(self.commits)} branches {len(self.branches)}"]
 
 
@@ -370,6 +417,8 @@ def fits(words):
         return len(words) == 3
     if words[0] == b"join":
         return 4 <= len(words) <= 10
+    if words[0] == b"drop":
+        return len(words) == 2
     if words[0] == b"ask" and len(words) == 4:
         return kind in KINDS and words[3] == b"keys"
     table = {b"do": DO, b"ask": ASK}.get(words[0])
@@ -465,6 +514,10 @@ class Engine:
         self.sessions[session] = (number, head)
         return kind if kind == "same" else f"{kind} #{head}"
 
+    def drop(self, session):
+        number, seen = self.seen(session)
+        return f"dropped {self.store.drop(number, seen).decode()} at #{seen}"
+
     def do(self, session, kind, key, verb, word=b""):
         number, seen = self.seen(session)
         kind, verb = kind.decode(), verb.decode()
@@ -491,8 +544,9 @@ def lines_of(text):
 
 def script(store, text):
     """The replies to the lines of a text."""
-    engine = Engine(store)
-    replies = [engine.reply(line) for line in lines_of(text)]
+    with of_version(store.version):
+        engine = Engine(store)
+        replies = [engine.reply(line) for line in lines_of(text)]
     return [it for it in replies if it is not None]
 
 

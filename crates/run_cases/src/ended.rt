@@ -1,4 +1,4 @@
-// One run of the program, over a disk and streams in memory.
+// One run of the program, over two disks and streams in memory.
 use crate::disks::calls_of;
 use crate::failure::Failure;
 use crate::step::Run;
@@ -13,13 +13,28 @@ use std::thread::Threads;
 // How many bytes a source gives at a time, at most.
 const PIECE: usize = 16;
 
-/// How a run ended: its status, what it wrote, how many calls it made of the disk, and the disk.
+/// A disk, and how many calls a run made of it.
+#[derive(Drop)]
+pub struct Used {
+    pub disk: MemoryDisk,
+    pub calls: u64,
+}
+
+impl Used {
+    // A disk that a run hands back.
+    fn of(disk: MemoryDisk) -> Used {
+        let calls = calls_of(&disk);
+        Used { disk, calls }
+    }
+}
+
+/// How a run ended: its status, what it wrote, and its disks.
 #[derive(Drop)]
 pub struct Ended {
     pub status: u8,
     pub text: Vec<u8>,
-    pub calls: u64,
-    pub disk: MemoryDisk,
+    pub first: Used,
+    pub second: Used,
 }
 
 /// Runs the program.
@@ -29,22 +44,24 @@ pub(crate) fn run_over<R: Threads + Wait + Sync>(
     of: &Run,
     input: Vec<u8>,
     disk: MemoryDisk,
+    second: MemoryDisk,
 ) -> Result<Ended, Failure> {
     let failing = of.failing.source.as_slice().to_vec(alloc)?;
     let mut source = MemorySource::new(input, PIECE, failing);
     let mut sink = MemorySink::new(of.failing.sink.as_slice().to_vec(alloc)?);
-    let (status, disk) = run::<_, _, _, Sha256Address, R>(
+    let (status, disk, second) = run::<_, _, _, Sha256Address, R>(
         rt,
         alloc,
         &of.words,
         &mut source,
         &mut sink,
         disk,
+        second,
     );
     Ok(Ended {
         status: status.number(),
         text: sink.bytes().to_vec(alloc)?,
-        calls: calls_of(&disk),
-        disk,
+        first: Used::of(disk),
+        second: Used::of(second),
     })
 }

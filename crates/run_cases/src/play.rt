@@ -1,7 +1,7 @@
 // Playing a case: its steps in order, over files in memory.
 use crate::compare::{compare_bytes, compare_number, compare_sum, difference};
 use crate::disks::{Pair, disk_of, pair_of, stopped};
-use crate::ended::{Ended, run_over};
+use crate::ended::{Ended, Used, run_over};
 use crate::failure::Failure;
 use crate::folder::Folder;
 use crate::step::{Input, Output, Run, Step, Sum, What};
@@ -29,13 +29,6 @@ impl Names {
     }
 }
 
-// The disk of a run, and how many calls the run made of it.
-#[derive(Drop)]
-struct Used {
-    disk: MemoryDisk,
-    calls: u64,
-}
-
 // A case that is played: its files, the streams that are kept, the disk of each store's last run, and the files that
 // were looked at.
 #[derive(Drop)]
@@ -45,6 +38,11 @@ struct Player {
     kept: BTreeMap<String, Vec<u8>>,
     disks: BTreeMap<String, Used>,
     looked_at: Vec<String>,
+}
+
+// The store of the second disk of a run over a store.
+fn second_of(alloc: Global, store: &str) -> Result<String, AllocError> {
+    format!(in alloc; "{store}.second")
 }
 
 /// Plays the steps of a case, up to the first that is not as it wants.
@@ -172,17 +170,29 @@ impl Player {
         line: usize,
         of: &Run,
     ) -> Result<(), Failure> {
-        let names = Names::of(self.alloc, of.store.as_str())?;
-        let disk = disk_of(
+        let second = second_of(self.alloc, of.store.as_str())?;
+        let input = self.input(line, &of.input)?;
+        let ended = run_over(
+            rt,
+            self.alloc,
+            of,
+            input,
+            self.disk_of(of.store.as_str(), &of.failing.disk)?,
+            self.disk_of(second.as_str(), &of.failing.second)?,
+        )?;
+        self.compare(line, of, &ended)?;
+        self.keep(of, ended)
+    }
+
+    // A disk with the files of a store, of which these calls fail.
+    fn disk_of(&self, store: &str, failing: &[u64]) -> Result<MemoryDisk, Failure> {
+        let names = Names::of(self.alloc, store)?;
+        disk_of(
             self.alloc,
             self.folder.bytes(names.objects.as_str()),
             self.folder.bytes(names.heads.as_str()),
-            &of.failing.disk,
-        )?;
-        let input = self.input(line, &of.input)?;
-        let ended = run_over(rt, self.alloc, of, input, disk)?;
-        self.compare(line, of, &ended)?;
-        self.keep(of, ended)
+            failing,
+        )
     }
 
     // What a run did is what is wanted.
@@ -201,36 +211,55 @@ impl Player {
         if let Some(status) = of.status {
             compare_number(alloc, line, "the status", ended.status as u64, status)?;
         }
-        if let Some(calls) = of.calls {
+        self.compare_calls(line, &ended.first, of.calls, &of.failing.disk)?;
+        self.compare_calls(line, &ended.second, of.second_calls, &of.failing.second)
+    }
+
+    // A run made as many calls of a disk as are wanted, and those that were to fail.
+    fn compare_calls(
+        &self,
+        line: usize,
+        used: &Used,
+        wanted: Option<u64>,
+        failing: &[u64],
+    ) -> Result<(), Failure> {
+        if let Some(calls) = wanted {
             compare_number(
-                alloc,
+                self.alloc,
                 line,
                 "the number of calls of the disk",
-                ended.calls,
+                used.calls,
                 calls,
             )?;
         }
-        match of.failing.disk.iter().max() {
-            Some(last) if ended.calls < *last => Err(malformed(line, "the run makes fewer calls")),
+        match failing.iter().max() {
+            Some(last) if used.calls < *last => Err(malformed(line, "the run makes fewer calls")),
             _ => Ok(()),
         }
     }
 
-    // The files, the disk and the stream that a run left are kept.
+    // The files, the disks and the stream that a run left are kept.
     fn keep(&mut self, of: &Run, ended: Ended) -> Result<(), Failure> {
         let Ended {
             status: _,
             text,
-            calls,
-            disk,
+            first,
+            second,
         } = ended;
-        let mut disk = disk;
         if let Output::Kept { name, sum: _ } = &of.output {
             self.kept.insert(name.clone()?, text)?;
         }
-        let pair = pair_of(self.alloc, &mut disk)?;
-        self.put_pair(of.store.as_str(), pair)?;
-        self.disks.insert(of.store.clone()?, Used { disk, calls })?;
+        self.keep_disk(of.store.clone()?, first)?;
+        let store = second_of(self.alloc, of.store.as_str())?;
+        self.keep_disk(store, second)
+    }
+
+    // The files of a store become what a disk holds, which is kept.
+    fn keep_disk(&mut self, store: String, used: Used) -> Result<(), Failure> {
+        let mut used = used;
+        let pair = pair_of(self.alloc, &mut used.disk)?;
+        self.put_pair(store.as_str(), pair)?;
+        self.disks.insert(store, used)?;
         Ok(())
     }
 }

@@ -191,6 +191,11 @@ fn read_words_of_run(
             run.calls = Some(number(line, word.as_str())?);
             Ok(())
         }
+        ("*", [word, second]) => {
+            run.calls = Some(number(line, word.as_str())?);
+            run.second_calls = Some(number(line, second.as_str())?);
+            Ok(())
+        }
         ("!", [of, calls @ ..]) => {
             let calls = numbers(alloc, line, calls)?;
             read_failing(run, line, of.as_str(), calls)
@@ -231,13 +236,14 @@ fn read_status(run: &mut Run, line: usize, word: &str) -> Result<(), Failure> {
     Ok(())
 }
 
-// The calls that fail, of the disk, the source or the sink.
+// The calls that fail, of a disk, the source or the sink.
 fn read_failing(run: &mut Run, line: usize, of: &str, calls: Vec<u64>) -> Result<(), Failure> {
     match of {
         "disk" => run.failing.disk = calls,
+        "second" => run.failing.second = calls,
         "source" => run.failing.source = calls,
         "sink" => run.failing.sink = calls,
-        _ => return Err(malformed(line, "`disk`, `source` or `sink` is wanted")),
+        _ => return Err(malformed(line, "`disk`, `second`, `source` or `sink` is wanted")),
     }
     Ok(())
 }

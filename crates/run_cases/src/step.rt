@@ -71,6 +71,7 @@ pub struct Run {
     pub status: Option<u64>,
     pub output: Output,
     pub calls: Option<u64>,
+    pub second_calls: Option<u64>,
 }
 
 impl Run {
@@ -84,6 +85,7 @@ impl Run {
             status: None,
             output: Output::Bytes(Vec::new(alloc)),
             calls: None,
+            second_calls: None,
         }
     }
 }
@@ -92,6 +94,7 @@ impl Run {
 #[derive(Drop)]
 pub struct Failing {
     pub disk: Vec<u64>,
+    pub second: Vec<u64>,
     pub source: Vec<u64>,
     pub sink: Vec<u64>,
 }
@@ -101,6 +104,7 @@ impl Failing {
     pub(crate) fn new(alloc: Global) -> Failing {
         Failing {
             disk: Vec::new(alloc),
+            second: Vec::new(alloc),
             source: Vec::new(alloc),
             sink: Vec::new(alloc),
         }
