@@ -1,0 +1,34 @@
+-- The moves that stay where the live commits are marked are the compact history.
+use Rattle.std.proofs.Common.{◌≡◌, ℕ, ◌+◌, ◌<◌, ◌^◌, Bool, List, length, refl, ap, ◌∙◌, subst, arith}
+use Rattle.std.proofs.Math.Path.{fun_ext}
+use Rattle.branch_names.specs.declared.branch.Branch.{Branch}
+use Rattle.branch_names.specs.declared.terms.Terms.{Terms}
+use Rattle.branch_history.specs.declared.moves.Move.{Move}
+use Rattle.branch_history.specs.Commits.{graph_of}
+use Rattle.branch_history.specs.History.{Store, store_of}
+use Rattle.branch_history.proofs.Grown.{length-graph}
+use Rattle.branch_compact.specs.Compact.{is_live, kept_moves, compact}
+use Rattle.branch_compact.specs.Marks.{IsReadOf, is_marked, is_reached, all_made}
+use Rattle.branch_compact.proofs.Moves.{length-commits}
+
+module _ {O R : Type 0} where
+  reached-live : (s : Store O R) (n : ℕ) → is_reached (graph_of s.commits) s.branches n ≡ is_live s n
+  unfolding is_live
+  reached-live s n = refl
+
+  module _ (terms : Terms) (moves given : List (Move O R)) (same : given ≡ moves) (graph : List (List ℕ)) (branches : List Branch) (was : IsReadOf (store_of terms.origin given) graph branches) where
+    read : IsReadOf (store_of terms.origin moves) graph branches
+    read = subst (λ (l : List (Move O R)). IsReadOf (store_of terms.origin l) graph branches) same was
+
+    -- where the live commits are marked, the moves that stay are the compact history
+    pub marked-compact : (slice : List Branch) (marks : List Bool) → slice ≡ branches → ((n : ℕ) → is_marked marks n ≡ is_reached graph slice n) → kept_moves (is_marked marks) moves ≡ compact terms moves
+    unfolding compact
+    marked-compact slice marks view marked =
+        let s : Store O R = store_of terms.origin moves in
+        let live : is_marked marks ≡ is_live s =
+        fun_ext (λ n. marked n ∙ ap (λ b. is_reached graph b n) view ∙ ap (λ g. is_reached g branches n) read.parents ∙ ap (λ b. is_reached (graph_of s.commits) b n) read.heads ∙ reached-live s n) in
+        ap (λ (keep : ℕ → Bool). kept_moves keep moves) live
+
+    -- no more commits are made than there are
+    pub made-few : length graph < 2 ^ 32 → 1 + all_made moves < 2 ^ 32
+    made-few few = omega (arith, few, length-commits terms.origin moves, ap length read.parents, length-graph (store_of terms.origin moves).commits)

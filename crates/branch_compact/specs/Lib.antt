@@ -1,0 +1,4 @@
+pub mod Compact
+pub mod Laws
+pub mod Marks
+pub mod Switch
