@@ -1,0 +1,4 @@
+pub mod Framed
+pub mod Taken
+pub mod Whole
+pub mod Written
