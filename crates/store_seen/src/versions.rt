@@ -15,6 +15,7 @@ ghost use Rattle.store_seen.specs.Answers.{place_answer, drop_answer};
 ghost use Rattle.store_seen.specs.Groups.{grouped_at, AreHeads, IsGrouped, GroupRefusedAs, IsStepOfAll, MergeAllRefusedAs};
 ghost use Rattle.store_seen.specs.Nodes.{AddsCommit, commit_at};
 ghost use Rattle.store_seen.specs.Pairs.{IsPaired, PairRefusedAs, paired_at, IsBaseAt, IsStepOf, MergeRefusedAs};
+ghost use Rattle.store_seen.specs.Times.{IsOwn};
 ghost use Rattle.store_seen.specs.Turns.{at_head, outcome_of, Steps, addresses_after, Moves, LookRefusedAs, MayLand, LandsAs, LandRefusedAs, RefusedBy, DropRefusedBy, BranchAdded, PlaceAdded, Forks, ForkRefusedAs, StoodBefore, Undone, GoesBack};
 
 use crate::answers::{
@@ -22,6 +23,7 @@ use crate::answers::{
     PairRefused, PlaceRefused,
 };
 use crate::group::Group;
+use crate::move_list::MoveList;
 use crate::pair::{Pair, PairStep};
 use crate::prepared::{Prepared, Ready, same_reply};
 use crate::seen::Seen;
@@ -39,12 +41,12 @@ use std::sync::Arc;
 /// the terms, and the address of each commit's object.
 #[derive(Drop)]
 pub struct Versions<T: Mrdt> {
-    alloc: Global,
-    terms: Terms,
-    moves: Vec<Move<T::Op, T::Reply>>,
+    pub(crate) alloc: Global,
+    pub(crate) terms: Terms,
+    pub(crate) moves: MoveList<T::Op, T::Reply>,
     heads: Heads,
-    clocks: Vec<u64>,
-    nodes: SharedNodes<T>,
+    pub(crate) clocks: Vec<u64>,
+    pub(crate) nodes: SharedNodes<T>,
 }
 
 impl<T: Mrdt> Model for Versions<T> {
@@ -81,7 +83,7 @@ impl<T: Mrdt> Versions<T> {
         Ok(Versions {
             alloc,
             terms,
-            moves: Vec::new(alloc),
+            moves: MoveList::new(alloc),
             heads,
             clocks,
             nodes,
@@ -93,14 +95,14 @@ impl<T: Mrdt> Versions<T> {
         ensures moves { result ≡ length self.now.core.history }
         ensures valid { IsValid T.meaning self.now.core.terms self.now.core.history }
     {
-        self.moves.len() as u64
+        self.moves.len()
     }
 
     /// The moves of the history, in order. It takes no memory.
     pub fn into_moves(self) -> Listing<Move<T::Op, T::Reply>>
         ensures { result ≡ self.core.history }
     {
-        Listing::from_vec(self.moves)
+        self.moves.into_listing()
     }
 
     /// How many commits the store holds, commit 0 counted. Each has an address.
@@ -197,7 +199,7 @@ impl<T: Mrdt> Versions<T> {
             alloc: self.alloc,
             history: Snapshot::of(&self.moves),
             terms: self.terms,
-            moves: self.moves.len() as u64,
+            moves: self.moves.len(),
             branch,
             head,
             clock: self.clocks[head as usize],
@@ -399,7 +401,7 @@ impl<T: Mrdt> Versions<T> {
             alloc: self.alloc,
             history: Snapshot::of(&self.moves),
             terms: self.terms,
-            moves: self.moves.len() as u64,
+            moves: self.moves.len(),
             branch: seen.branch,
             head: seen.head,
             clock: seen.clock,
@@ -427,7 +429,7 @@ impl<T: Mrdt> Versions<T> {
         if count >= self.terms.limits.branches {
             return Err(ForkRefused::FullBranches { count });
         }
-        let moves = self.moves.len() as u64;
+        let moves = self.moves.len();
         if moves >= self.terms.limits.moves {
             return Err(ForkRefused::FullMoves { count: moves });
         }
@@ -448,7 +450,7 @@ impl<T: Mrdt> Versions<T> {
     {
         let _count = self.commits();
         let head = self.heads.head(source);
-        self.moves.reserve(1)?;
+        self.moves.reserve()?;
         let number = match self.heads.fork(new, head) {
             Ok(number) => number,
             Err(branch_names::ForkRefused::Memory) => return Err(Memory),
@@ -461,7 +463,7 @@ impl<T: Mrdt> Versions<T> {
             from: source,
         });
         Ok(Forked {
-            moves: self.moves.len() as u64,
+            moves: self.moves.len(),
             number,
             head,
         })
@@ -482,7 +484,7 @@ impl<T: Mrdt> Versions<T> {
         if count >= self.terms.limits.branches {
             return Err(PlaceRefused::FullBranches { count });
         }
-        let moves = self.moves.len() as u64;
+        let moves = self.moves.len();
         if moves >= self.terms.limits.moves {
             return Err(PlaceRefused::FullMoves { count: moves });
         }
@@ -501,7 +503,7 @@ impl<T: Mrdt> Versions<T> {
         ensures kept { OnErr result (self.new ≡ self.old) }
     {
         let _count = self.commits();
-        self.moves.reserve(1)?;
+        self.moves.reserve()?;
         let number = match self.heads.fork(name, commit) {
             Ok(number) => number,
             Err(branch_names::ForkRefused::Memory) => return Err(Memory),
@@ -514,7 +516,7 @@ impl<T: Mrdt> Versions<T> {
             commit,
         });
         Ok(Forked {
-            moves: self.moves.len() as u64,
+            moves: self.moves.len(),
             number,
             head: commit,
         })
@@ -548,10 +550,10 @@ impl<T: Mrdt> Versions<T> {
         ensures kept { OnErr result (self.new ≡ self.old) }
     {
         let _count = self.commits();
-        self.moves.reserve(1)?;
+        self.moves.reserve()?;
         put_drop(&mut self.heads, branch);
         self.moves.push_reserved(Move::Drop { branch });
-        Ok(self.moves.len() as u64)
+        Ok(self.moves.len())
     }
 
     // Whether a branch may be dropped from the head that was seen.
@@ -573,7 +575,7 @@ impl<T: Mrdt> Versions<T> {
         if head != newest {
             return Err(DropRefused::Stale { newest });
         }
-        let count = self.moves.len() as u64;
+        let count = self.moves.len();
         if count >= self.terms.limits.moves {
             return Err(DropRefused::FullMoves { count });
         }
@@ -685,7 +687,7 @@ impl<T: Mrdt> Versions<T> {
         };
         let commit = self.add_commit(made, &[place.head], &place, time.clock, value)?;
         Ok(Landed {
-            moves: self.moves.len() as u64,
+            moves: self.moves.len(),
             kind: Kind::Operation {
                 commit,
                 time,
@@ -718,7 +720,7 @@ impl<T: Mrdt> Versions<T> {
         };
         let commit = self.add_commit(made, &[place.head, other], &place, clock, value)?;
         Ok(Landed {
-            moves: self.moves.len() as u64,
+            moves: self.moves.len(),
             kind: Kind::Merged { commit },
         })
     }
@@ -748,7 +750,7 @@ impl<T: Mrdt> Versions<T> {
         };
         let commit = self.add_commit(made, &parents, &place, clock, value)?;
         Ok(Landed {
-            moves: self.moves.len() as u64,
+            moves: self.moves.len(),
             kind: Kind::Joined { commit },
         })
     }
@@ -770,11 +772,11 @@ impl<T: Mrdt> Versions<T> {
         ensures kept { OnErr result (self.new ≡ self.old) }
     {
         self.may_move(branch, head)?;
-        self.moves.reserve(1)?;
+        self.moves.reserve()?;
         self.moves.push_reserved(Move::Forward { branch, commit });
         put_head(&mut self.heads, branch, commit);
         Ok(Landed {
-            moves: self.moves.len() as u64,
+            moves: self.moves.len(),
             kind: Kind::Forward { commit },
         })
     }
@@ -843,7 +845,7 @@ impl<T: Mrdt> Versions<T> {
         ensures full { OnErr result (self.now.core.terms.limits.moves ≤ length self.now.core.history) }
         ensures refused { IfErr result (λ refused. refused ≡ LandRefused.FullMoves (length self.now.core.history)) }
     {
-        let count = self.moves.len() as u64;
+        let count = self.moves.len();
         if count >= self.terms.limits.moves {
             return Err(LandRefused::FullMoves { count });
         }
@@ -859,13 +861,14 @@ impl<T: Mrdt> Versions<T> {
         clock: u64,
         value: T,
     ) -> Result<u32, Memory>
-        requires { AddsCommit T.meaning self.old.core.terms self.old.core.history made place.now.branch parents.now clock value }
+        requires own { IsOwn made }
+        requires adds { AddsCommit T.meaning self.old.core.terms self.old.core.history made place.now.branch parents.now clock value }
         ensures number { IfOk result (λ number. number ≡ length (store_of self.old.core.terms.origin self.old.core.history).commits) }
         ensures added { OnOk result (self.new.core ≡ record self.old.core { history = self.old.core.history ++ made ∷ [] }) }
         ensures addressed { OnOk result (self.new.addresses ≡ self.old.addresses ++ place.now.address ∷ []) }
         ensures kept { OnErr result (self.new ≡ self.old) }
     {
-        self.moves.reserve(1)?;
+        self.moves.reserve()?;
         self.clocks.reserve(1)?;
         let commit = self.nodes.push(value, parents, place.address)?;
         self.moves.push_reserved(made);
