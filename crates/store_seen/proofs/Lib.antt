@@ -1,6 +1,5 @@
 pub mod Crosses
 pub mod Named
-pub mod Times
 pub mod Looks
 pub mod Readies
 pub mod Landings
@@ -13,9 +12,6 @@ pub mod Folds
 pub mod Undone
 pub mod Backs
 pub mod Answered
-pub mod Arrived
-pub mod Gains
-pub mod Apart
 pub mod Placed
 pub mod Brought
 pub mod Joins

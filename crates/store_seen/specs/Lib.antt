@@ -1,5 +1,4 @@
 pub mod Views
-pub mod Times
 pub mod Keeps
 pub mod Turns
 pub mod Nodes
@@ -7,4 +6,3 @@ pub mod Pairs
 pub mod Written
 pub mod Groups
 pub mod Answers
-pub mod Arrivals

@@ -205,7 +205,7 @@ impl<T: Mrdt> Group<T> {
 }
 
 // What a merge into a commit brings of several others, in the order in which they are given.
-pub(crate) fn brought_of<T: Mrdt>(nodes: &Nodes<T>, head: u32, others: &[u32]) -> Result<Vec<u32>, Memory>
+fn brought_of<T: Mrdt>(nodes: &Nodes<T>, head: u32, others: &[u32]) -> Result<Vec<u32>, Memory>
     requires head { head < length nodes.now.graph.commits }
     requires others { All (λ n. n < length nodes.now.graph.commits) others.now }
     ensures { IfOk result (λ found. found.items ≡ brought nodes.now.graph.commits head others.now) }

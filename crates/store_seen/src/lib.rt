@@ -6,12 +6,9 @@
 #![tactic(auto)]
 
 pub mod answers;
-pub mod arrival;
 pub mod group;
-mod move_list;
 pub mod pair;
 pub mod prepared;
-pub mod receiving;
 pub mod seen;
 mod shared;
 mod spelled;
@@ -19,9 +16,8 @@ pub mod versions;
 
 pub use answers::{
     DropRefused, ForkRefused, Forked, Kind, LandRefused, Landed, LookRefused, PairPrepareRefused,
-    PairRefused, PlaceRefused, PrepareRefused, ReceiveRefused, Received, RemakeRefused,
+    PairRefused, PlaceRefused, PrepareRefused,
 };
-pub use arrival::{Arrival, WrittenArrival};
 pub use group::Group;
 pub use pair::{Pair, PairStep};
 pub use prepared::{Prepared, Written};

@@ -9,9 +9,9 @@ ghost use Rattle.store_seen.specs.Turns.{FromOn, PrepareRefusedAs};
 ghost use Rattle.store_seen.specs.Views.{Operation};
 
 use crate::answers::PrepareRefused;
-use crate::move_list::MoveList;
 use crate::prepared::{Prepared, Ready};
 use crate::spelled::Spelled;
+use branch_history::Move;
 use branch_names::Terms;
 use mrdt_model::{Memory, Mrdt, Time};
 use std::alloc::Global;
@@ -24,7 +24,7 @@ use std::sync::Arc;
 #[derive(Drop)]
 pub struct Seen<T: Mrdt> {
     pub(crate) alloc: Global,
-    pub(crate) history: Snapshot<MoveList<T::Op, T::Reply>>,
+    pub(crate) history: Snapshot<Vec<Move<T::Op, T::Reply>>>,
     pub(crate) terms: Terms,
     pub(crate) moves: u64,
     pub(crate) branch: u32,

@@ -15,7 +15,6 @@ ghost use Rattle.store_seen.specs.Answers.{place_answer, drop_answer};
 ghost use Rattle.store_seen.specs.Groups.{grouped_at, AreHeads, IsGrouped, GroupRefusedAs, IsStepOfAll, MergeAllRefusedAs};
 ghost use Rattle.store_seen.specs.Nodes.{AddsCommit, commit_at};
 ghost use Rattle.store_seen.specs.Pairs.{IsPaired, PairRefusedAs, paired_at, IsBaseAt, IsStepOf, MergeRefusedAs};
-ghost use Rattle.store_seen.specs.Times.{IsOwn};
 ghost use Rattle.store_seen.specs.Turns.{at_head, outcome_of, Steps, addresses_after, Moves, LookRefusedAs, MayLand, LandsAs, LandRefusedAs, RefusedBy, DropRefusedBy, BranchAdded, PlaceAdded, Forks, ForkRefusedAs, StoodBefore, Undone, GoesBack};
 
 use crate::answers::{
@@ -23,7 +22,6 @@ use crate::answers::{
     PairRefused, PlaceRefused,
 };
 use crate::group::Group;
-use crate::move_list::MoveList;
 use crate::pair::{Pair, PairStep};
 use crate::prepared::{Prepared, Ready, same_reply};
 use crate::seen::Seen;
@@ -41,12 +39,12 @@ use std::sync::Arc;
 /// the terms, and the address of each commit's object.
 #[derive(Drop)]
 pub struct Versions<T: Mrdt> {
-    pub(crate) alloc: Global,
-    pub(crate) terms: Terms,
-    pub(crate) moves: MoveList<T::Op, T::Reply>,
+    alloc: Global,
+    terms: Terms,
+    moves: Vec<Move<T::Op, T::Reply>>,
     heads: Heads,
-    pub(crate) clocks: Vec<u64>,
-    pub(crate) nodes: SharedNodes<T>,
+    clocks: Vec<u64>,
+    nodes: SharedNodes<T>,
 }
 
 impl<T: Mrdt> Model for Versions<T> {
@@ -83,7 +81,7 @@ impl<T: Mrdt> Versions<T> {
         Ok(Versions {
             alloc,
             terms,
-            moves: MoveList::new(alloc),
+            moves: Vec::new(alloc),
             heads,
             clocks,
             nodes,
@@ -95,14 +93,14 @@ impl<T: Mrdt> Versions<T> {
         ensures moves { result ≡ length self.now.core.history }
         ensures valid { IsValid T.meaning self.now.core.terms self.now.core.history }
     {
-        self.moves.len()
+        self.moves.len() as u64
     }
 
     /// The moves of the history, in order. It takes no memory.
     pub fn into_moves(self) -> Listing<Move<T::Op, T::Reply>>
         ensures { result ≡ self.core.history }
     {
-        self.moves.into_listing()
+        Listing::from_vec(self.moves)
     }
 
     /// How many commits the store holds, commit 0 counted. Each has an address.
@@ -199,7 +197,7 @@ impl<T: Mrdt> Versions<T> {
             alloc: self.alloc,
             history: Snapshot::of(&self.moves),
             terms: self.terms,
-            moves: self.moves.len(),
+            moves: self.moves.len() as u64,
             branch,
             head,
             clock: self.clocks[head as usize],
@@ -401,7 +399,7 @@ impl<T: Mrdt> Versions<T> {
             alloc: self.alloc,
             history: Snapshot::of(&self.moves),
             terms: self.terms,
-            moves: self.moves.len(),
+            moves: self.moves.len() as u64,
             branch: seen.branch,
             head: seen.head,
             clock: seen.clock,
@@ -429,7 +427,7 @@ impl<T: Mrdt> Versions<T> {
         if count >= self.terms.limits.branches {
             return Err(ForkRefused::FullBranches { count });
         }
-        let moves = self.moves.len();
+        let moves = self.moves.len() as u64;
         if moves >= self.terms.limits.moves {
             return Err(ForkRefused::FullMoves { count: moves });
         }
@@ -450,7 +448,7 @@ impl<T: Mrdt> Versions<T> {
     {
         let _count = self.commits();
         let head = self.heads.head(source);
-        self.moves.reserve()?;
+        self.moves.reserve(1)?;
         let number = match self.heads.fork(new, head) {
             Ok(number) => number,
             Err(branch_names::ForkRefused::Memory) => return Err(Memory),
@@ -463,7 +461,7 @@ impl<T: Mrdt> Versions<T> {
             from: source,
         });
         Ok(Forked {
-            moves: self.moves.len(),
+            moves: self.moves.len() as u64,
             number,
             head,
         })
@@ -484,7 +482,7 @@ impl<T: Mrdt> Versions<T> {
         if count >= self.terms.limits.branches {
             return Err(PlaceRefused::FullBranches { count });
         }
-        let moves = self.moves.len();
+        let moves = self.moves.len() as u64;
         if moves >= self.terms.limits.moves {
             return Err(PlaceRefused::FullMoves { count: moves });
         }
@@ -503,7 +501,7 @@ impl<T: Mrdt> Versions<T> {
         ensures kept { OnErr result (self.new ≡ self.old) }
     {
         let _count = self.commits();
-        self.moves.reserve()?;
+        self.moves.reserve(1)?;
         let number = match self.heads.fork(name, commit) {
             Ok(number) => number,
             Err(branch_names::ForkRefused::Memory) => return Err(Memory),
@@ -516,7 +514,7 @@ impl<T: Mrdt> Versions<T> {
             commit,
         });
         Ok(Forked {
-            moves: self.moves.len(),
+            moves: self.moves.len() as u64,
             number,
             head: commit,
         })
@@ -550,10 +548,10 @@ impl<T: Mrdt> Versions<T> {
         ensures kept { OnErr result (self.new ≡ self.old) }
     {
         let _count = self.commits();
-        self.moves.reserve()?;
+        self.moves.reserve(1)?;
         put_drop(&mut self.heads, branch);
         self.moves.push_reserved(Move::Drop { branch });
-        Ok(self.moves.len())
+        Ok(self.moves.len() as u64)
     }
 
     // Whether a branch may be dropped from the head that was seen.
@@ -575,7 +573,7 @@ impl<T: Mrdt> Versions<T> {
         if head != newest {
             return Err(DropRefused::Stale { newest });
         }
-        let count = self.moves.len();
+        let count = self.moves.len() as u64;
         if count >= self.terms.limits.moves {
             return Err(DropRefused::FullMoves { count });
         }
@@ -687,7 +685,7 @@ impl<T: Mrdt> Versions<T> {
         };
         let commit = self.add_commit(made, &[place.head], &place, time.clock, value)?;
         Ok(Landed {
-            moves: self.moves.len(),
+            moves: self.moves.len() as u64,
             kind: Kind::Operation {
                 commit,
                 time,
@@ -720,7 +718,7 @@ impl<T: Mrdt> Versions<T> {
         };
         let commit = self.add_commit(made, &[place.head, other], &place, clock, value)?;
         Ok(Landed {
-            moves: self.moves.len(),
+            moves: self.moves.len() as u64,
             kind: Kind::Merged { commit },
         })
     }
@@ -750,7 +748,7 @@ impl<T: Mrdt> Versions<T> {
         };
         let commit = self.add_commit(made, &parents, &place, clock, value)?;
         Ok(Landed {
-            moves: self.moves.len(),
+            moves: self.moves.len() as u64,
             kind: Kind::Joined { commit },
         })
     }
@@ -772,11 +770,11 @@ impl<T: Mrdt> Versions<T> {
         ensures kept { OnErr result (self.new ≡ self.old) }
     {
         self.may_move(branch, head)?;
-        self.moves.reserve()?;
+        self.moves.reserve(1)?;
         self.moves.push_reserved(Move::Forward { branch, commit });
         put_head(&mut self.heads, branch, commit);
         Ok(Landed {
-            moves: self.moves.len(),
+            moves: self.moves.len() as u64,
             kind: Kind::Forward { commit },
         })
     }
@@ -845,7 +843,7 @@ impl<T: Mrdt> Versions<T> {
         ensures full { OnErr result (self.now.core.terms.limits.moves ≤ length self.now.core.history) }
         ensures refused { IfErr result (λ refused. refused ≡ LandRefused.FullMoves (length self.now.core.history)) }
     {
-        let count = self.moves.len();
+        let count = self.moves.len() as u64;
         if count >= self.terms.limits.moves {
             return Err(LandRefused::FullMoves { count });
         }
@@ -861,14 +859,13 @@ impl<T: Mrdt> Versions<T> {
         clock: u64,
         value: T,
     ) -> Result<u32, Memory>
-        requires own { IsOwn made }
-        requires adds { AddsCommit T.meaning self.old.core.terms self.old.core.history made place.now.branch parents.now clock value }
+        requires { AddsCommit T.meaning self.old.core.terms self.old.core.history made place.now.branch parents.now clock value }
         ensures number { IfOk result (λ number. number ≡ length (store_of self.old.core.terms.origin self.old.core.history).commits) }
         ensures added { OnOk result (self.new.core ≡ record self.old.core { history = self.old.core.history ++ made ∷ [] }) }
         ensures addressed { OnOk result (self.new.addresses ≡ self.old.addresses ++ place.now.address ∷ []) }
         ensures kept { OnErr result (self.new ≡ self.old) }
     {
-        self.moves.reserve()?;
+        self.moves.reserve(1)?;
         self.clocks.reserve(1)?;
         let commit = self.nodes.push(value, parents, place.address)?;
         self.moves.push_reserved(made);
