@@ -1,5 +1,5 @@
 // Callers of one store of sums, on a disk in memory.
-ghost use Rattle.std.specs.Prelude.{◌≡◌, true};
+ghost use Rattle.std.specs.Prelude.{◌≡◌};
 ghost use Rattle.branch_shared.specs.Names.{IsNamed};
 
 use crate::calls::{
@@ -126,34 +126,6 @@ fn two_branches(rt: HostRuntime) -> Result<(), Fail> {
     assert_eq!(rt; core.look(&left)?.value().value(), 2 * MANY as i128);
     assert_eq!(rt; core.look(&right)?.value().value(), 2 * MANY as i128);
     Ok(())
-}
-
-// A branch is dropped by a caller that sees its head, and its name is free then.
-fn drops_one<N: Named<SumOp, ()>, R: Wait + Abort>(rt: &R, blank: Unnamed, name: Name)
-    requires name { IsNamed blank N.table N.begun N.terms N.parts N.opened }
-    requires drops { N.drops ≡ true }
-    requires parts { blank.parts ≡ 2 }
-{
-    let main = Name::main();
-    let (shared, mut u): (Store<N>, Pass<Sum, N>) = Shared::new(blank);
-    let first = shared.fork(rt, &mut u, name, &main).expect(rt, "a fork");
-    let seen = shared.look(rt, &mut u, &name).expect(rt, "a branch");
-    let dropped = shared.drop_branch(rt, &mut u, &seen);
-    assert!(rt; matches!(dropped, Ok(2)));
-    let second = shared.fork(rt, &mut u, name, &main).expect(rt, "a fork");
-    assert_eq!(rt; (first.number, second.number, second.moves), (1, 2, 3));
-    let closed = shared.close_with(u);
-    assert_eq!(rt;
-        (closed.core.moves(), closed.landed, closed.receipts),
-        (3, 3, 3)
-    );
-}
-
-#[test]
-fn a_drop(rt: HostRuntime) {
-    let blank = unnamed(&rt, rt.alloc(), Vec::new(rt.alloc()));
-    let name = Name::read(b"q").expect(&rt, "a name");
-    drops_one::<Brand, _>(&rt, blank, name);
 }
 
 // The disk fails under one caller, and another goes on looking.
