@@ -1,5 +1,5 @@
 -- Worked rows of what is sent, over commits 1 and 2 on 0, 3 on both, and 4 on 3.
-use Rattle.std.proofs.Common.{◌≡◌, ℕ, List, [], ◌∷◌, ◌++◌, Some, None, refl, sum, map, codes, arith, rules}
+use Rattle.std.proofs.Common.{◌≡◌, ◌<◌, ◌^◌, ℕ, List, [], ◌∷◌, ◌++◌, Some, None, refl, sum, map, codes, arith, rules}
 use Rattle.mrdt_model.specs.Executions.{Event}
 use Rattle.mrdt_model.specs.Laws.{Meaning}
 use Rattle.branch_names.specs.Ranges.{AreInRange, AreOrigins}
@@ -77,9 +77,12 @@ from_zero = omega arith
 from_later : AreOrigins 100000 1000
 from_later = omega arith
 
+small_kind : 0 < 2 ^ 8
+small_kind = omega arith
+
 -- a store whose first origin is this, where each object is its own address
 abbrev store : (origin : ℕ) → AreOrigins origin 1000 → Fixed ℕ ℕ NoReply NoReply ℕ
-store origin in_range = fix counter (record { limits = record { clock = 1000; commits = 1000; branches = 1000; value = 1000; moves = 1000; in_range = ample_range }; origin = origin; in_range = in_range }) (λ bytes. bytes)
+store origin in_range = fix counter (record { limits = record { clock = 1000; commits = 1000; branches = 1000; value = 1000; moves = 1000; in_range = ample_range }; origin = origin; kind = 0; small = small_kind; in_range = in_range }) (λ bytes. bytes)
 
 -- the one that sends, and the one that receives
 abbrev here : Fixed ℕ ℕ NoReply NoReply ℕ

@@ -20,14 +20,22 @@ module _ {O R : Type 0} where
     read : IsReadOf (store_of terms.origin moves) graph branches
     read = subst (λ (l : List (Move O R)). IsReadOf (store_of terms.origin l) graph branches) same was
 
+    -- the marks are on the live commits
+    pub marked-live : (slice : List Branch) (marks : List Bool) → slice ≡ branches → ((n : ℕ) → is_marked marks n ≡ is_reached graph slice n) → (n : ℕ) → is_marked marks n ≡ is_live (store_of terms.origin moves) n
+    marked-live slice marks view marked n =
+        let s : Store O R = store_of terms.origin moves in
+        marked n ∙ ap (λ b. is_reached graph b n) view ∙ ap (λ g. is_reached g branches n) read.parents ∙ ap (λ b. is_reached (graph_of s.commits) b n) read.heads ∙ reached-live s n
+
     -- where the live commits are marked, the moves that stay are the compact history
     pub marked-compact : (slice : List Branch) (marks : List Bool) → slice ≡ branches → ((n : ℕ) → is_marked marks n ≡ is_reached graph slice n) → kept_moves (is_marked marks) moves ≡ compact terms moves
     unfolding compact
     marked-compact slice marks view marked =
-        let s : Store O R = store_of terms.origin moves in
-        let live : is_marked marks ≡ is_live s =
-        fun_ext (λ n. marked n ∙ ap (λ b. is_reached graph b n) view ∙ ap (λ g. is_reached g branches n) read.parents ∙ ap (λ b. is_reached (graph_of s.commits) b n) read.heads ∙ reached-live s n) in
+        let live : is_marked marks ≡ is_live (store_of terms.origin moves) = fun_ext (marked-live slice marks view marked) in
         ap (λ (keep : ℕ → Bool). kept_moves keep moves) live
+
+    -- each commit of the store has its parents in the graph
+    pub graph-count : length graph ≡ length (store_of terms.origin moves).commits
+    graph-count = ap length read.parents ∙ length-graph (store_of terms.origin moves).commits
 
     -- no more commits are made than there are
     pub made-few : length graph < 2 ^ 32 → 1 + all_made moves < 2 ^ 32

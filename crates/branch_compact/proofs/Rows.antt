@@ -1,5 +1,5 @@
 -- Worked rows of compact histories, for a counter of natural numbers.
-use Rattle.std.proofs.Common.{◌≡◌, ℕ, List, [], ◌∷◌, ◌++◌, length, refl, sum, map, codes, rules, Some}
+use Rattle.std.proofs.Common.{arith, ◌≡◌, ◌<◌, ◌^◌, ℕ, List, [], ◌∷◌, ◌++◌, length, refl, sum, map, codes, rules, Some}
 use Rattle.mrdt_model.specs.declared.time.Time.{Time}
 use Rattle.mrdt_model.specs.Times.{same_time}
 use Rattle.mrdt_model.specs.Executions.{Event}
@@ -45,8 +45,11 @@ ample_range = search rules
 origins_range : AreOrigins 5000 1000
 origins_range = search rules
 
+small_kind : 0 < 2 ^ 8
+small_kind = omega arith
+
 abbrev terms : Terms
-terms = record { limits = record { clock = 1000; commits = 1000; branches = 1000; value = 1000; moves = 1000; in_range = ample_range }; origin = 5000; in_range = origins_range }
+terms = record { limits = record { clock = 1000; commits = 1000; branches = 1000; value = 1000; moves = 1000; in_range = ample_range }; origin = 5000; kind = 0; small = small_kind; in_range = origins_range }
 
 -- the outcomes of steps, one after the other, and the history after them
 abbrev outcomes : List (Move ℕ NoReply) → List (Step ℕ NoReply) → List (Outcome ℕ NoReply)

@@ -151,8 +151,8 @@ impl Kept {
     }
 }
 
-// How many commits a move makes.
-fn commits_made<O, R>(made: &Move<O, R>) -> u32
+/// How many commits a move makes: one or none.
+pub fn commits_made<O, R>(made: &Move<O, R>) -> u32
     ensures { result ≡ commits_made_by made.now }
 {
     match made {

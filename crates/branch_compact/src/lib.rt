@@ -9,4 +9,6 @@ mod making;
 mod marks;
 mod reading;
 
-pub use making::compact;
+pub use kept::commits_made;
+pub use making::{compact, graph_of_moves, live_commits};
+pub use marks::mark_reached;

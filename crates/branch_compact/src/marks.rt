@@ -61,8 +61,9 @@ fn mark_below(graph: &Graph, marks: &mut [bool])
     }
 }
 
-// The same, of marks in a list.
-fn mark_reached(graph: &Graph, marks: &mut Vec<bool>)
+/// Marks all commits too that those with marks reach. There is a mark for each commit. It goes once over the parents of
+/// each commit that is marked then.
+pub fn mark_reached(graph: &Graph, marks: &mut Vec<bool>)
     requires { length marks.old.items ≡ length graph.now.commits }
     ensures count { length marks.new.items ≡ length marks.old.items }
     ensures below { AreMarkedBelow graph.now.commits marks.old.items marks.new.items }

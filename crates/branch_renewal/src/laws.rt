@@ -17,7 +17,8 @@ pub fn keeps_commits<T: Mrdt, U: Mrdt>()
 
 /// At each commit of a valid history a renewed history gives the same answers.
 pub fn keeps_answers<T: Mrdt, U: Mrdt<Reply = T::Reply, Query = T::Query, Answer = T::Answer>>()
-    ensures { (f : T.Op → U.Op) → Renews T.meaning U.meaning f → KeepsAnswers T.meaning U.meaning f }
+    ensures { (f : T.Op → U.Op) → Renews T.meaning U.meaning f
+        → KeepsAnswers T.meaning U.meaning f }
 {}
 
 /// The moves of a valid history of the first version's kinds, renewed, are made again one after the other, until one

@@ -1,5 +1,6 @@
 -- The worked rows, over addresses that only the length of bytes decides.
-use Rattle.std.specs.Prelude.{◌≡◌, ℕ, Some, List, [], ◌∷◌, ◌++◌, codes, pos}
+use Rattle.std.specs.Prelude.{◌≡◌, ℕ, Some, List, [], ◌∷◌, ◌++◌, codes, pos, refl}
+use native.Mathlib.Nat.{le_intro}
 use Rattle.mrdt_counter.specs.Counter.{counter_meaning}
 use Rattle.mrdt_counter.specs.declared.counter.CounterOp.{CounterOp}
 use Rattle.mrdt_counter.specs.declared.counter.CounterOp.TheVariants.{Add}
@@ -27,7 +28,7 @@ store terms = fix document terms weak_address
 
 -- limits, with a first origin
 abbrev pub from : (origin : ℕ) (limits : Limits) → AreOrigins origin limits.branches → Terms
-from origin limits in_range = record { limits = limits; origin = origin; in_range = in_range }
+from origin limits in_range = record { limits = limits; origin = origin; kind = 0; small = le_intro 1 255 refl; in_range = in_range }
 
 -- limits of a thousand each
 abbrev pub thousands : AreInRange 1000 1000 1000 1000 1000 → Limits
