@@ -36,15 +36,18 @@ pub trait Disk {
 
     /// The number of bytes of a part.
     fn length(&mut self, part: Part) -> Result<u64, DiskFailed>
-        ensures told { IfOk result (λ n. ForSome (contents self.old) (λ f. n ≡ length (bytes_of part f))) }
+        ensures told { IfOk result (λ n.
+            ForSome (contents self.old) (λ f. n ≡ length (bytes_of part f))) }
         ensures same { contents self.new ≡ contents self.old }
         ensures moments { LeavesOnly moment left_since self.old self.new (may_leave self.old) }
         ensures cause { HasCause (faults self.old) (faults self.new) result };
 
     /// Fills the buffer with the bytes of a part from a place on.
     fn read(&mut self, part: Part, at: u64, buf: &mut [u8]) -> Result<(), DiskFailed>
-        requires { ForSome (contents self.old) (λ f. at + length buf.old ≤ length (bytes_of part f)) }
-        ensures told { OnOk result (ForSome (contents self.old) (λ f. buf.new ≡ take (length buf.old) (drop at (bytes_of part f)))) }
+        requires { ForSome (contents self.old) (λ f.
+            at + length buf.old ≤ length (bytes_of part f)) }
+        ensures told { OnOk result (ForSome (contents self.old) (λ f.
+            buf.new ≡ take (length buf.old) (drop at (bytes_of part f)))) }
         ensures same { contents self.new ≡ contents self.old }
         ensures moments { LeavesOnly moment left_since self.old self.new (may_leave self.old) }
         ensures cause { HasCause (faults self.old) (faults self.new) result };
@@ -54,9 +57,12 @@ pub trait Disk {
     fn write_at(&mut self, part: Part, at: u64, bytes: &[u8]) -> Result<(), DiskFailed>
         requires within { ForSome (contents self.old) (λ f. at ≤ length (bytes_of part f)) }
         requires end { at + length bytes.now ≤ 2 ^ 63 - 1 }
-        ensures written { OnOk result (Tells (OnPart part (Holds at bytes.now)) (contents self.old) (contents self.new)) }
-        ensures torn { Tells (OnPart part (Torn at (length bytes.now))) (contents self.old) (contents self.new) }
-        ensures moments { LeavesOnly moment left_since self.old self.new (After (OnPart part (Torn at (length bytes.now))) (may_leave self.old)) }
+        ensures written { OnOk result (Tells (OnPart part (Holds at bytes.now)) (contents self.old)
+            (contents self.new)) }
+        ensures torn { Tells (OnPart part (Torn at (length bytes.now))) (contents self.old)
+            (contents self.new) }
+        ensures moments { LeavesOnly moment left_since self.old self.new
+            (After (OnPart part (Torn at (length bytes.now))) (may_leave self.old)) }
         ensures cause { HasCause (faults self.old) (faults self.new) result };
 
     /// After it, a crash leaves of that part what a read gives.
@@ -67,16 +73,19 @@ pub trait Disk {
         ensures cause { HasCause (faults self.old) (faults self.new) result };
 
     // This moment is one of those since an earlier one.
-    ghost counts_now: { (disk : Self) (t : ℕ) (c : Files) → t ≤ moment disk → may_leave disk c → left_since disk t c };
+    ghost counts_now: { (disk : Self) (t : ℕ) (c : Files) → t ≤ moment disk → may_leave disk c
+        → left_since disk t c };
 
     // Since this moment there is no other.
-    ghost only_now: { (disk : Self) (c : Files) → left_since disk (moment disk) c → may_leave disk c };
+    ghost only_now: { (disk : Self) (c : Files) → left_since disk (moment disk) c
+        → may_leave disk c };
 
     // The disk as it reads is one of its images.
     ghost reads_image: { (disk : Self) (f : Files) → contents disk ≡ Some f → may_leave disk f };
 
     // Of a disk that does not tell no image is told.
-    ghost told: { (disk : Self) (c : Files) → may_leave disk c → (f : Files) × (contents disk ≡ Some f) };
+    ghost told: { (disk : Self) (c : Files) → may_leave disk c → (f : Files)
+        × (contents disk ≡ Some f) };
 
     // Where one disk of the type tells what it holds, each does.
     ghost all_tell: { (one other : Self) → StillTells (contents one) (contents other) };

@@ -51,14 +51,16 @@ struct Opened<F> {
 
 // How long a file is.
 fn length_of<F: Seek>(file: &mut F) -> io::Result<u64>
-    ensures { IfSome (F.stream_position file.old) (λ _. IfSome (F.stream_bytes file.old) (λ xs. IfOk result (λ n. n ≡ length xs))) }
+    ensures { IfSome (F.stream_position file.old) (λ _.
+        IfSome (F.stream_bytes file.old) (λ xs. IfOk result (λ n. n ≡ length xs))) }
 {
     file.seek(SeekFrom::End(0))
 }
 
 // Fills the buffer from a place on.
 fn read_at<F: Seek + Read>(file: &mut F, at: u64, buf: &mut [u8]) -> io::Result<()>
-    ensures { OnOk result (FromPlace F.stream_position at (λ old new. Consumes (F.remaining old) (F.remaining new) buf.new) file.old file.new) }
+    ensures { OnOk result (FromPlace F.stream_position at (λ old new.
+        Consumes (F.remaining old) (F.remaining new) buf.new) file.old file.new) }
 {
     file.seek(SeekFrom::Start(at))?;
     file.read_exact(buf)
@@ -66,7 +68,8 @@ fn read_at<F: Seek + Read>(file: &mut F, at: u64, buf: &mut [u8]) -> io::Result<
 
 // Writes all these bytes from a place on.
 fn put_at<F: Seek + Write>(file: &mut F, at: u64, bytes: &[u8]) -> io::Result<()>
-    ensures { OnOk result (FromPlace F.stream_position at (λ old new. Appends (F.contents old) (F.contents new) bytes.now) file.old file.new) }
+    ensures { OnOk result (FromPlace F.stream_position at (λ old new.
+        Appends (F.contents old) (F.contents new) bytes.now) file.old file.new) }
 {
     file.seek(SeekFrom::Start(at))?;
     file.write_all(bytes)
@@ -74,7 +77,10 @@ fn put_at<F: Seek + Write>(file: &mut F, at: u64, bytes: &[u8]) -> io::Result<()
 
 impl<F: Read + Write + Seek + OpenFile> Opened<F> {
     fn length(&mut self, part: Part) -> io::Result<u64>
-        ensures { OnFile part (λ old new. IfSome (F.stream_position old) (λ _. IfSome (F.stream_bytes old) (λ xs. IfOk result (λ n. n ≡ length xs)))) self.old self.new }
+        ensures { OnFile part (λ old new.
+            IfSome (F.stream_position old) (λ _.
+            IfSome (F.stream_bytes old) (λ xs. IfOk result (λ n. n ≡ length xs)))) self.old
+            self.new }
     {
         match part {
             Part::Objects => length_of(&mut self.objects),
@@ -83,7 +89,9 @@ impl<F: Read + Write + Seek + OpenFile> Opened<F> {
     }
 
     fn read(&mut self, part: Part, at: u64, buf: &mut [u8]) -> io::Result<()>
-        ensures { OnFile part (λ old new. OnOk result (FromPlace F.stream_position at (λ mid end. Consumes (F.remaining mid) (F.remaining end) buf.new) old new)) self.old self.new }
+        ensures { OnFile part (λ old new.
+            OnOk result (FromPlace F.stream_position at (λ mid end.
+            Consumes (F.remaining mid) (F.remaining end) buf.new) old new)) self.old self.new }
     {
         match part {
             Part::Objects => read_at(&mut self.objects, at, buf),
@@ -92,7 +100,9 @@ impl<F: Read + Write + Seek + OpenFile> Opened<F> {
     }
 
     fn write(&mut self, part: Part, at: u64, bytes: &[u8]) -> io::Result<()>
-        ensures { OnFile part (λ old new. OnOk result (FromPlace F.stream_position at (λ mid end. Appends (F.contents mid) (F.contents end) bytes.now) old new)) self.old self.new }
+        ensures { OnFile part (λ old new.
+            OnOk result (FromPlace F.stream_position at (λ mid end.
+            Appends (F.contents mid) (F.contents end) bytes.now) old new)) self.old self.new }
     {
         match part {
             Part::Objects => put_at(&mut self.objects, at, bytes),

@@ -51,7 +51,8 @@ fn last_sync(calls: &[Call], part: Part) -> usize
 
 // What reads give of a part after one call more.
 fn write_one(bytes: &mut Vec<u8>, call: &Call, part: Part) -> Result<(), Memory>
-    ensures { OnOk result (bytes.new.items ≡ reads_after part call.now.what call.now.failed bytes.old.items) }
+    ensures { OnOk result (bytes.new.items
+        ≡ reads_after part call.now.what call.now.failed bytes.old.items) }
 {
     match &call.what {
         What::Write(p, at, new) => {
@@ -66,7 +67,8 @@ fn write_one(bytes: &mut Vec<u8>, call: &Call, part: Part) -> Result<(), Memory>
 
 // What reads give of a part after some calls more.
 fn write_all(bytes: &mut Vec<u8>, calls: &[Call], part: Part) -> Result<(), Memory>
-    ensures { OnOk result ((held : Held) → bytes.old.items ≡ (kept_of part held).reads → bytes.new.items ≡ (kept_of part (replay held calls.now)).reads) }
+    ensures { OnOk result ((held : Held) → bytes.old.items ≡ (kept_of part held).reads
+        → bytes.new.items ≡ (kept_of part (replay held calls.now)).reads) }
 {
     for call in calls {
         write_one(bytes, call, part)?;
@@ -76,7 +78,8 @@ fn write_all(bytes: &mut Vec<u8>, calls: &[Call], part: Part) -> Result<(), Memo
 
 // An image of a part while one call more is under way.
 fn fill_one_call(bytes: &mut Vec<u8>, what: &What, part: Part, fill: Fill) -> Result<(), Memory>
-    ensures { OnOk result ((reads : List ℕ) → bytes.new.items ≡ filled_after fill part what.now true reads bytes.old.items) }
+    ensures { OnOk result ((reads : List ℕ)
+        → bytes.new.items ≡ filled_after fill part what.now true reads bytes.old.items) }
 {
     let What::Write(p, at, new) = what else {
         return Ok(());
@@ -97,7 +100,8 @@ fn fill_one_call(bytes: &mut Vec<u8>, what: &What, part: Part, fill: Fill) -> Re
 // An image of a part after some calls more, of which none makes it sure.
 fn fill_all(bytes: &mut Vec<u8>, calls: &[Call], part: Part, fill: Fill) -> Result<(), Memory>
     requires { HasNoSync part calls.now }
-    ensures { OnOk result ((held : Held) → bytes.old.items ≡ filled_of fill (kept_of part held) → bytes.new.items ≡ filled_of fill (kept_of part (replay held calls.now))) }
+    ensures { OnOk result ((held : Held) → bytes.old.items ≡ filled_of fill (kept_of part held)
+        → bytes.new.items ≡ filled_of fill (kept_of part (replay held calls.now))) }
 {
     for call in calls {
         fill_one_call(bytes, &call.what, part, fill)?;
@@ -115,8 +119,10 @@ pub(crate) fn image_of_part(
     fill: Fill,
 ) -> Result<Vec<u8>, Memory>
     requires { k ≤ length calls.now }
-    ensures { IfOk result (λ v. (objects heads : List ℕ) → bytes.items ≡ (kept_of part (both_at_rest objects heads)).reads
-        → v.items ≡ filled_of fill (kept_of part (during (both_at_rest objects heads) calls.now k))) }
+    ensures { IfOk result (λ v. (objects heads : List ℕ)
+        → bytes.items ≡ (kept_of part (both_at_rest objects heads)).reads
+        → v.items ≡ filled_of fill
+        (kept_of part (during (both_at_rest objects heads) calls.now k))) }
 {
     let done = &calls[..k];
     let last = last_sync(done, part);

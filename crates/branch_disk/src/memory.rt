@@ -25,7 +25,8 @@ pub struct MemoryDisk {
     objects: Vec<u8>,
     heads: Vec<u8>,
     faults: Faults,
-    ghost is: { IsKeptAs (replay (both_at_rest first_objects.items first_heads.items) calls.items) (record { objects = objects.items; heads = heads.items }) },
+    ghost is: { IsKeptAs (replay (both_at_rest first_objects.items first_heads.items) calls.items)
+        (record { objects = objects.items; heads = heads.items }) },
 }
 
 // Notes a call, which fails if it is listed or if there is no room for it.
@@ -63,10 +64,12 @@ fn prepared(
     at: u64,
     bytes: &[u8],
 ) -> Result<Vec<u8>, Memory>
-    requires { at ≤ length (bytes_of part (record { objects = objects.old.items; heads = heads.old.items })) }
+    requires { at
+        ≤ length (bytes_of part (record { objects = objects.old.items; heads = heads.old.items })) }
     ensures objects { objects.new.items ≡ objects.old.items }
     ensures heads { heads.new.items ≡ heads.old.items }
-    ensures room { IfOk result (λ copy. at + length bytes.now ≤ vec_capacity (chosen part objects.new heads.new)) }
+    ensures room { IfOk result (λ copy.
+        at + length bytes.now ≤ vec_capacity (chosen part objects.new heads.new)) }
     ensures copy { IfOk result (λ copy. copy.items ≡ bytes.now) }
 {
     make_room_in(objects, heads, part, at, bytes.len())?;
@@ -75,7 +78,10 @@ fn prepared(
 
 // The bytes of a part.
 fn part_of<'a>(objects: &'a Vec<u8>, heads: &'a Vec<u8>, part: Part) -> &'a [u8]
-    ensures { result.now ≡ bytes_of part (record { objects = objects.now.items; heads = heads.now.items }) }
+    ensures { result.now ≡ bytes_of part (record {
+      objects = objects.now.items;
+      heads = heads.now.items;
+    }) }
 {
     match part {
         Part::Objects => objects.as_slice(),
@@ -105,10 +111,16 @@ impl MemoryDisk {
     /// The disk that a crash leaves when so many device calls are done and the next has begun. None of its calls is
     /// listed, and none was made.
     pub fn image(&self, calls: u64, fill: Fill) -> Result<MemoryDisk, Memory>
-        ensures files { IfOk result (λ d. ⟦<MemoryDisk as Disk>⟧.contents d ≡ Some (image_of fill (during (first self.now) self.now.calls.items (min calls (length self.now.calls.items))))) }
-        ensures durable { IfOk result (λ d. (c : Files) → ⟦<MemoryDisk as Disk>⟧.may_leave d c → ⟦<MemoryDisk as Disk>⟧.contents d ≡ Some c) }
-        ensures crash { IfOk result (λ d. (f : Files) → ⟦<MemoryDisk as Disk>⟧.contents d ≡ Some f → ⟦<MemoryDisk as Disk>⟧.left_since self.now (min calls (length self.now.calls.items)) f) }
-        ensures none { IfOk result (λ d. IsNew [] (faults_of d) × (⟦<MemoryDisk as Disk>⟧.moment d ≡ 0)) }
+        ensures files { IfOk result (λ d. ⟦<MemoryDisk as Disk>⟧.contents d
+            ≡ Some (image_of fill (during (first self.now) self.now.calls.items
+            (min calls (length self.now.calls.items))))) }
+        ensures durable { IfOk result (λ d. (c : Files) → ⟦<MemoryDisk as Disk>⟧.may_leave d c
+            → ⟦<MemoryDisk as Disk>⟧.contents d ≡ Some c) }
+        ensures crash { IfOk result (λ d. (f : Files) → ⟦<MemoryDisk as Disk>⟧.contents d ≡ Some f
+            → ⟦<MemoryDisk as Disk>⟧.left_since self.now (min calls (length self.now.calls.items))
+            f) }
+        ensures none { IfOk result (λ d. IsNew [] (faults_of d)
+            × (⟦<MemoryDisk as Disk>⟧.moment d ≡ 0)) }
         ensures faults { IfOk result (λ d. ⟦<MemoryDisk as Disk>⟧.faults d ≡ 0) }
     {
         let k = calls.min(self.calls.len() as u64) as usize;
@@ -129,9 +141,12 @@ impl MemoryDisk {
 
     /// An empty disk, whose calls of these numbers fail, from 1 on.
     pub fn new(failing: Vec<u64>) -> MemoryDisk
-        ensures empty { ⟦<MemoryDisk as Disk>⟧.contents result ≡ Some (record { objects = []; heads = [] }) }
-        ensures durable { (c : Files) → ⟦<MemoryDisk as Disk>⟧.may_leave result c → c ≡ record { objects = []; heads = [] } }
-        ensures none { IsNew failing.items (faults_of result) × (⟦<MemoryDisk as Disk>⟧.moment result ≡ 0) }
+        ensures empty { ⟦<MemoryDisk as Disk>⟧.contents result
+            ≡ Some (record { objects = []; heads = [] }) }
+        ensures durable { (c : Files) → ⟦<MemoryDisk as Disk>⟧.may_leave result c
+            → c ≡ record { objects = []; heads = [] } }
+        ensures none { IsNew failing.items (faults_of result)
+            × (⟦<MemoryDisk as Disk>⟧.moment result ≡ 0) }
         ensures faults { ⟦<MemoryDisk as Disk>⟧.faults result ≡ failed_calls failing.items 0 }
     {
         let alloc = *failing.allocator();
@@ -173,16 +188,21 @@ impl Disk for MemoryDisk {
 
     ghost only_now = { λ m. last_now (first m) m.calls.items };
 
-    ghost reads_image = { λ m. reads_so (held m) (record { objects = m.objects.items; heads = m.heads.items }) m.is };
+    ghost reads_image = { λ m.
+        reads_so (held m) (record { objects = m.objects.items; heads = m.heads.items }) m.is };
 
-    ghost told = { λ m c image. (record { objects = m.objects.items; heads = m.heads.items }, refl) };
+    ghost told = { λ m c image.
+        (record { objects = m.objects.items; heads = m.heads.items }, refl) };
 
-    ghost all_tell = { λ m n f is. (record { objects = n.objects.items; heads = n.heads.items }, refl) };
+    ghost all_tell = { λ m n f is.
+        (record { objects = n.objects.items; heads = n.heads.items }, refl) };
 
     fn length(&mut self, part: Part) -> Result<u64, DiskFailed>
-        ensures told { IfOk result (λ n. ForSome (contents self.old) (λ f. n ≡ length (bytes_of part f))) }
+        ensures told { IfOk result (λ n.
+            ForSome (contents self.old) (λ f. n ≡ length (bytes_of part f))) }
         ensures same { contents self.new ≡ contents self.old }
-        ensures moments { LeavesOnly moment left_since self.old self.new (IsImageOf (held self.old)) }
+        ensures moments { LeavesOnly moment left_since self.old self.new
+            (IsImageOf (held self.old)) }
         ensures cause { HasCause (faults self.old) (faults self.new) result }
         ensures calls { FailsWithoutRoom (faults_of self.old) (faults_of self.new) result }
         ensures held { Changes (λ h. h) (λ h. h) result self.old self.new }
@@ -192,10 +212,13 @@ impl Disk for MemoryDisk {
     }
 
     fn read(&mut self, part: Part, at: u64, buf: &mut [u8]) -> Result<(), DiskFailed>
-        requires { ForSome (contents self.old) (λ f. at + length buf.old ≤ length (bytes_of part f)) }
-        ensures told { OnOk result (ForSome (contents self.old) (λ f. buf.new ≡ take (length buf.old) (drop at (bytes_of part f)))) }
+        requires { ForSome (contents self.old) (λ f.
+            at + length buf.old ≤ length (bytes_of part f)) }
+        ensures told { OnOk result (ForSome (contents self.old) (λ f.
+            buf.new ≡ take (length buf.old) (drop at (bytes_of part f)))) }
         ensures same { contents self.new ≡ contents self.old }
-        ensures moments { LeavesOnly moment left_since self.old self.new (IsImageOf (held self.old)) }
+        ensures moments { LeavesOnly moment left_since self.old self.new
+            (IsImageOf (held self.old)) }
         ensures cause { HasCause (faults self.old) (faults self.new) result }
         ensures calls { FailsWithoutRoom (faults_of self.old) (faults_of self.new) result }
         ensures held { Changes (λ h. h) (λ h. h) result self.old self.new }
@@ -208,12 +231,16 @@ impl Disk for MemoryDisk {
     fn write_at(&mut self, part: Part, at: u64, bytes: &[u8]) -> Result<(), DiskFailed>
         requires within { ForSome (contents self.old) (λ f. at ≤ length (bytes_of part f)) }
         requires end { at + length bytes.now ≤ 2 ^ 63 - 1 }
-        ensures written { OnOk result (Tells (OnPart part (Holds at bytes.now)) (contents self.old) (contents self.new)) }
-        ensures torn { Tells (OnPart part (Torn at (length bytes.now))) (contents self.old) (contents self.new) }
-        ensures moments { LeavesOnly moment left_since self.old self.new (After (OnPart part (Torn at (length bytes.now))) (IsImageOf (held self.old))) }
+        ensures written { OnOk result (Tells (OnPart part (Holds at bytes.now)) (contents self.old)
+            (contents self.new)) }
+        ensures torn { Tells (OnPart part (Torn at (length bytes.now))) (contents self.old)
+            (contents self.new) }
+        ensures moments { LeavesOnly moment left_since self.old self.new
+            (After (OnPart part (Torn at (length bytes.now))) (IsImageOf (held self.old))) }
         ensures cause { HasCause (faults self.old) (faults self.new) result }
         ensures calls { FailsWithoutRoom (faults_of self.old) (faults_of self.new) result }
-        ensures held { Changes (on_part part (written at bytes.now)) (on_part part (half_written at bytes.now)) result self.old self.new }
+        ensures held { Changes (on_part part (written at bytes.now))
+            (on_part part (half_written at bytes.now)) result self.old self.new }
     {
         let Ok(copy) = prepared(
             self.alloc,
@@ -235,9 +262,11 @@ impl Disk for MemoryDisk {
     }
 
     fn sync(&mut self, part: Part) -> Result<(), DiskFailed>
-        ensures durable { OnOk result (IsSure part (contents self.old) (IsImageOf (held self.new))) }
+        ensures durable { OnOk result
+            (IsSure part (contents self.old) (IsImageOf (held self.new))) }
         ensures same { contents self.new ≡ contents self.old }
-        ensures moments { LeavesOnly moment left_since self.old self.new (IsImageOf (held self.old)) }
+        ensures moments { LeavesOnly moment left_since self.old self.new
+            (IsImageOf (held self.old)) }
         ensures cause { HasCause (faults self.old) (faults self.new) result }
         ensures calls { FailsWithoutRoom (faults_of self.old) (faults_of self.new) result }
         ensures held { Changes (on_part part synced) (λ h. h) result self.old self.new }

@@ -38,7 +38,8 @@ pub(crate) fn make_room_in(
     at: u64,
     more: usize,
 ) -> Result<(), Memory>
-    requires { at ≤ length (bytes_of part (record { objects = objects.old.items; heads = heads.old.items })) }
+    requires { at
+        ≤ length (bytes_of part (record { objects = objects.old.items; heads = heads.old.items })) }
     ensures objects { objects.new.items ≡ objects.old.items }
     ensures heads { heads.new.items ≡ heads.old.items }
     ensures room { OnOk result (at + more ≤ vec_capacity (chosen part objects.new heads.new)) }
@@ -52,7 +53,13 @@ pub(crate) fn make_room_in(
 // Puts bytes into a part that has room for them.
 pub(crate) fn put_in(objects: &mut Vec<u8>, heads: &mut Vec<u8>, part: Part, at: u64, new: &[u8])
     requires { at + length new.now ≤ vec_capacity (chosen part objects.old heads.old) }
-    ensures { OnPart part (Holds at new.now) (record { objects = objects.old.items; heads = heads.old.items }) (record { objects = objects.new.items; heads = heads.new.items }) }
+    ensures { OnPart part (Holds at new.now) (record {
+      objects = objects.old.items;
+      heads = heads.old.items;
+    }) (record {
+      objects = objects.new.items;
+      heads = heads.new.items;
+    }) }
 {
     let done = match part {
         Part::Objects => put_over(objects, at, new),

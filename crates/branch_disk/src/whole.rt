@@ -21,7 +21,8 @@ pub enum ReadRefused {
 
 /// Syncs both parts. After it, a crash leaves what reads give.
 pub fn settle<D: Disk>(disk: &mut D) -> Result<(), DiskFailed>
-    ensures durable { OnOk result ((c : Files) → D.may_leave disk.new c → D.contents disk.new ≡ Some c) }
+    ensures durable { OnOk result ((c : Files) → D.may_leave disk.new c
+        → D.contents disk.new ≡ Some c) }
     ensures same { D.contents disk.new ≡ D.contents disk.old }
     ensures any_moment { LeavesOnly D.moment D.left_since disk.old disk.new (D.may_leave disk.old) }
     ensures cause { HasCause (D.faults disk.old) (D.faults disk.new) result }
@@ -33,10 +34,12 @@ pub fn settle<D: Disk>(disk: &mut D) -> Result<(), DiskFailed>
 /// The bytes of a part. Where the disk fails, its count of faults rises and the answer is `DiskFault`; after any other
 /// answer the count is where it was.
 pub fn read_whole<D: Disk>(alloc: Global, disk: &mut D, part: Part) -> Result<Vec<u8>, ReadRefused>
-    ensures bytes { IfOk result (λ v. ForSome (D.contents disk.old) (λ f. v.items ≡ bytes_of part f)) }
+    ensures bytes { IfOk result (λ v.
+        ForSome (D.contents disk.old) (λ f. v.items ≡ bytes_of part f)) }
     ensures same { D.contents disk.new ≡ D.contents disk.old }
     ensures any_moment { LeavesOnly D.moment D.left_since disk.old disk.new (D.may_leave disk.old) }
-    ensures cause { HasCauseOf ReadRefused.DiskFault (D.faults disk.old) (D.faults disk.new) result }
+    ensures cause { HasCauseOf ReadRefused.DiskFault (D.faults disk.old)
+        (D.faults disk.new) result }
 {
     let Ok(length) = disk.length(part) else {
         return Err(ReadRefused::DiskFault);

@@ -20,7 +20,7 @@ header-at h records heads begins =
 
 -- each header of the form that is written today is one
 pub is_header : (terms : Terms) → IsHeader (header_for terms)
-is_header terms = record { version = omega arith; kind = omega arith; old = λ one. absurd (omega (arith, one)) }
+is_header terms = record { version = omega arith; old = λ one. absurd (omega (arith, one)) }
 
 -- a file begins with one header of a form
 pub terms-same_in : (form : Form) (a b : Terms) (records others : List Record) (heads : List ℕ) → IsHeader (header_in form a) → IsHeader (header_in form b) → Begins (heads_text (header_in form a) records) heads → Begins (heads_text (header_in form b) others) heads → a ≡ b

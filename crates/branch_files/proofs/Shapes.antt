@@ -18,9 +18,10 @@ use Rattle.branch_history.proofs.Valid.{store_of-more, IsReceived}
 use Rattle.branch_history.proofs.Grown.{clock_of-new, origin_of-new}
 use Rattle.branch_history.proofs.Histories.{visible-lawful, received-stand}
 use Rattle.branch_machine.specs.Fixed.{Form, FixedIn}
-use Rattle.branch_machine.specs.Objects.{Pair, store_after, address_at, silent_action, action_of, fields_of, pairs_of, region}
+use Rattle.branch_machine.specs.Machine.{pair_next}
+use Rattle.branch_machine.specs.Objects.{Pair, both, store_after, address_at, silent_action, action_of, fields_of, pairs_of, new_objects, region}
 use Rattle.branch_machine.specs.Laws.{HasSize}
-use Rattle.branch_machine.proofs.Distinct.{IsOwn, IsForeign, MakesOne, operation-makes, merge-makes, join-makes, received-foreign, received-nine, all-sized, few-sized, addresses-same, valid-sound}
+use Rattle.branch_machine.proofs.Distinct.{IsOwn, IsForeign, MakesOne, operation-makes, merge-makes, join-makes, made-objects, received-foreign, received-nine, all-sized, few-sized, addresses-same, valid-sound}
 use Rattle.branch_machine.proofs.Valid.{valid-first}
 use Rattle.branch_machine.proofs.Regions.{made, region-one}
 use Rattle.heads_journal.specs.declared.record.Record.{Record}
@@ -233,6 +234,13 @@ module _ {S O R Q A : Type 0} {form : Form} (fixed : FixedIn form S O R Q A) (la
       let known : 5 ≤ last_in 1 = subst (λ (version : ℕ). 5 ≤ last_in version) is within in
       omega (arith, known)
 
+  -- nor one of a commit that was received
+  received-later : (parents : List ℕ) (origin clock : ℕ) (act : Option (O × R)) (spans : Spans fixed (moves ++ move.Received parents origin clock act ∷ []) files) → form.version ≡ 1 → ⊥
+  received-later parents origin clock act spans is =
+      let within = (known-last fixed moves (move.Received parents origin clock act) spans.known).within in
+      let known : 6 ≤ last_in 1 = subst (λ (version : ℕ). 6 ≤ last_in version) is within in
+      omega (arith, known)
+
   -- the region of a move that makes a commit has the shape that its record asks for
   shape-region : (m : Move O R) → Spans fixed (moves ++ m ∷ []) files → MakesCommit (record_of fixed moves m) → HasShape fixed (record_of fixed moves m) (region fixed moves m)
   shape-region (move.Fork name count from) spans makes = absurd makes
@@ -249,7 +257,7 @@ module _ {S O R Q A : Type 0} {form : Form} (fixed : FixedIn form S O R Q A) (la
   shape-region (move.Received parents origin clock act) spans makes =
       let m : Move O R = move.Received parents origin clock act in
       has-shape m spans (received-one parents origin clock act spans) (record_of fixed moves m) (received-count parents origin clock act spans) (received-does parents origin clock act spans)
-      (λ is. absurd ((known-last fixed moves m spans.known).made_here refl))
+      (λ is. absurd (received-later parents origin clock act spans is))
   shape-region (move.Place name count k) spans makes = absurd makes
   shape-region (move.Drop r) spans makes = absurd makes
 
@@ -312,6 +320,19 @@ module _ {S O R Q A : Type 0} {form : Form} (fixed : FixedIn form S O R Q A) (la
   received-tells parents origin clock act spans first d part commit is =
       let same = sym (received-object parents origin clock act spans first d part commit is) in
       (ap (λ (f : CommitFields). f.parents) same, ap (λ (f : CommitFields). f.branch) same, ap (λ (f : CommitFields). f.clock) same, ap (λ (f : CommitFields). f.action) same)
+
+  -- its two objects: the address of its value's, its own, what both add to those of the history, and the region
+  pub received-objects : (parents : List ℕ) (origin clock : ℕ) (act : Option (O × R)) → Spans fixed (moves ++ move.Received parents origin clock act ∷ []) files → (first : List ℕ) (d : CommitFields) → IsValuePart fixed first → IsCommit d
+      → bytes_behind fixed moves files.objects (record_of fixed moves (move.Received parents origin clock act)) ≡ first ++ commit_object d
+      → let m : Move O R = move.Received parents origin clock act in
+      let p = pair_next fixed moves (received_commit s.commits parents origin clock act) in
+      (d.value ≡ fixed.address p.value) × (commit_object d ≡ p.commit) × (new_objects fixed moves m ≡ both p)
+      × ((region fixed moves m ≡ p.commit) ⊎ (region fixed moves m ≡ p.value ++ p.commit))
+  received-objects parents origin clock act spans first d part commit is =
+      let m : Move O R = move.Received parents origin clock act in
+      let one = received-one parents origin clock act spans in
+      let same = sym (received-object parents origin clock act spans first d part commit is) in
+      (ap (λ (f : CommitFields). f.value) same, ap commit_object same, made-objects fixed moves m one, region-one fixed laws size moves m spans.valid one)
 
   region-same : (m n : Move O R) → Spans fixed (moves ++ m ∷ []) files → Spans fixed (moves ++ n ∷ []) files → record_of fixed moves m ≡ record_of fixed moves n → region fixed moves m ≡ region fixed moves n
   region-same m n p q same = sym (bytes-are fixed laws size files short moves m p) ∙ ap (bytes_behind fixed moves files.objects) same ∙ bytes-are fixed laws size files short moves n q

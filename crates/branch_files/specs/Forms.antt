@@ -1,5 +1,5 @@
 -- What reading the files of a store answers, whatever form they have.
-use Rattle.std.specs.Prelude.{◌≡◌, ◌↔◌, ℕ, ◌+◌, ◌*◌, List, [], ◌∷◌, ◌++◌, length, map}
+use Rattle.std.specs.Prelude.{◌≡◌, ◌≢◌, ◌↔◌, ℕ, ◌+◌, ◌*◌, List, [], ◌∷◌, ◌++◌, length, map}
 use Rattle.std.specs.declared.option.Option.{Option}
 use Rattle.mrdt_model.specs.Laws.{Meaning}
 use Rattle.branch_wire.specs.Reading.{HasLength64}
@@ -20,7 +20,7 @@ use Rattle.heads_journal.specs.Format.{IsHeader}
 use Rattle.branch_files.specs.Records.{header_in, record_of, records_of, gate_of}
 use Rattle.branch_files.specs.Stands.{Stands, Spans}
 use Rattle.branch_files.specs.Next.{MakesCommit, IsNext, IsValuePart, IsMade, bytes_behind}
-use Rattle.branch_files.specs.Reading.{Answer, Opens, ReadsIn, ReadsAs}
+use Rattle.branch_files.specs.Reading.{Answer, Opens, NotAStore, ReadsIn, ReadsInOf, ReadsAs}
 
 -- files of a form have one answer at most
 abbrev pub ReadsInOneWay : {S O R Q A : Type 0} → Form → Meaning S O R Q A → Type 0
@@ -31,7 +31,7 @@ ReadsInOneWay {S} {O} {R} form m =
 abbrev pub ReadsAll : {S O R Q A : Type 0} → Form → Meaning S O R Q A → Type 0
 ReadsAll {S} {O} {R} form m = (address : List ℕ → List ℕ) (files : Files) → ¬ ((a : Answer O R) → ReadsIn form m address files a → ⊥)
 
--- what the files stand for, if it is valid and a header of the form has its limits and first origin, is what they read as
+-- what the files stand for, if it is valid and a header of the form may have its terms, is what they read as
 abbrev pub ReadsWhatStands : {S O R Q A : Type 0} → Form → Meaning S O R Q A → Type 0
 ReadsWhatStands {S} {O} {R} form m =
     (terms : Terms) (address : List ℕ → List ℕ) (moves : List (Move O R)) (files : Files)
@@ -46,6 +46,45 @@ StandsForWhatIsRead {S} {O} {R} form m =
 -- to read files of the form that is written today is to read files
 abbrev pub ReadsAsToday : {S O R Q A : Type 0} → Meaning S O R Q A → Type 0
 ReadsAsToday {S} {O} {R} m = (address : List ℕ → List ℕ) (files : Files) (a : Answer O R) → ReadsIn present m address files a ↔ ReadsAs m address files a
+
+-- files of a form have one answer at most for one that asks for a kind of values
+abbrev pub ReadsOfAKindInOneWay : {S O R Q A : Type 0} → Form → Meaning S O R Q A → Type 0
+ReadsOfAKindInOneWay {S} {O} {R} form m =
+    (kind : ℕ) (address : List ℕ → List ℕ) → HasSize address → (files : Files) → HasLength64 files.objects
+    → (a b : Answer O R) → ReadsInOf form kind m address files a → ReadsInOf form kind m address files b → a ≡ b
+
+-- no files are without one
+abbrev pub ReadsAllOfAKind : {S O R Q A : Type 0} → Form → Meaning S O R Q A → Type 0
+ReadsAllOfAKind {S} {O} {R} form m = (kind : ℕ) (address : List ℕ → List ℕ) (files : Files) → ¬ ((a : Answer O R) → ReadsInOf form kind m address files a → ⊥)
+
+-- files read as a history for one that asks for the kind of its terms, and as no history for one that asks for another
+abbrev pub ReadsForItsKind : {S O R Q A : Type 0} → Form → Meaning S O R Q A → Type 0
+ReadsForItsKind {S} {O} {R} form m =
+    (kind : ℕ) (address : List ℕ → List ℕ) (files : Files) (terms : Terms) (moves : List (Move O R))
+    → ReadsInOf form kind m address files (Opens terms moves) ↔ ((terms.kind ≡ kind) × ReadsIn form m address files (Opens terms moves))
+
+-- what such files read as, they read as for one that asks for this kind
+abbrev pub ReadsAllForItsKind : {S O R Q A : Type 0} → Form → Meaning S O R Q A → Type 0
+ReadsAllForItsKind {S} {O} {R} form m =
+    (kind : ℕ) (address : List ℕ → List ℕ) (files : Files) (terms : Terms) (moves : List (Move O R))
+    → ReadsInOf form kind m address files (Opens terms moves) → (a : Answer O R) → ReadsIn form m address files a → ReadsInOf form kind m address files a
+
+-- files that read as a history are no store for one that asks for another kind
+abbrev pub IsNoneOfOthers : {S O R Q A : Type 0} → Form → Meaning S O R Q A → Type 0
+IsNoneOfOthers {S} {O} {R} form m =
+    (kind : ℕ) (address : List ℕ → List ℕ) (files : Files) (terms : Terms) (moves : List (Move O R))
+    → ReadsIn form m address files (Opens terms moves) → terms.kind ≢ kind → ReadsInOf form kind m address files NotAStore
+
+-- files that read as no store are none for one that asks for any kind
+abbrev pub IsNoneOfAny : {S O R Q A : Type 0} → Form → Meaning S O R Q A → Type 0
+IsNoneOfAny {S} {O} {R} form m =
+    (kind : ℕ) (address : List ℕ → List ℕ) (files : Files)
+    → ReadsIn form m address files NotAStore → ReadsInOf form kind m address files NotAStore
+
+-- files of version 1 read as they do for one that asks for the kind 0
+abbrev pub ReadsOldAsFirstKind : {S O R Q A : Type 0} → Form → Meaning S O R Q A → Type 0
+ReadsOldAsFirstKind {S} {O} {R} form m =
+    form.version ≡ 1 → (address : List ℕ → List ℕ) (files : Files) (a : Answer O R) → ReadsIn form m address files a ↔ ReadsInOf form 0 m address files a
 
 -- the next gate stands 64 bytes behind that before the last record
 abbrev pub HasGates : {S O R Q A : Type 0} → Form → Meaning S O R Q A → Type 0

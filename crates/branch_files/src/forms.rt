@@ -1,7 +1,7 @@
 // The laws of reading files of any form. Each stands on a function with an empty body, whose contract is the
 // law.
 ghost use Rattle.branch_machine.specs.Fixed.{Form};
-ghost use Rattle.branch_files.specs.Forms.{ReadsInOneWay, ReadsAll, ReadsWhatStands, StandsForWhatIsRead, ReadsAsToday, HasGates, AppendsRecords, GoesOn, TellsOperations, TellsReceived};
+ghost use Rattle.branch_files.specs.Forms.{ReadsInOneWay, ReadsAll, ReadsWhatStands, StandsForWhatIsRead, ReadsAsToday, ReadsOfAKindInOneWay, ReadsAllOfAKind, ReadsForItsKind, ReadsAllForItsKind, IsNoneOfOthers, IsNoneOfAny, ReadsOldAsFirstKind, HasGates, AppendsRecords, GoesOn, TellsOperations, TellsReceived};
 
 use mrdt_model::Mrdt;
 
@@ -16,14 +16,12 @@ pub fn reads_all<T: Mrdt>()
     ensures { (form : Form) → ReadsAll form T.meaning }
 {}
 
-/// Files of a form read as the valid history that they stand for, where its limits and its first origin are those of
-/// a header.
+/// Files of a form read as the valid history that they stand for, where its terms are those of a header.
 pub fn reads_what_stands<T: Mrdt>()
     ensures { (form : Form) → ReadsWhatStands form T.meaning }
 {}
 
-/// A history that files of a form read as is valid, they stand for it, and its limits and its first origin are those
-/// of a header.
+/// A history that files of a form read as is valid, they stand for it, and its terms are those of a header.
 pub fn stands_for_what_is_read<T: Mrdt>()
     ensures { (form : Form) → StandsForWhatIsRead form T.meaning }
 {}
@@ -31,6 +29,31 @@ pub fn stands_for_what_is_read<T: Mrdt>()
 /// To read files of the form that is written today is to read files.
 pub fn reads_as_today<T: Mrdt>()
     ensures { ReadsAsToday T.meaning }
+{}
+
+/// Files of a form read as one answer at most for one that asks for a kind of values, where addresses have 32 bytes and
+/// the objects are shorter than 2^64 bytes.
+pub fn reads_of_a_kind_in_one_way<T: Mrdt>()
+    ensures { (form : Form) → ReadsOfAKindInOneWay form T.meaning }
+{}
+
+/// No files are without an answer for one that asks for a kind of values.
+pub fn reads_all_of_a_kind<T: Mrdt>()
+    ensures { (form : Form) → ReadsAllOfAKind form T.meaning }
+{}
+
+/// Files read as a history for one that asks for the kind of its terms, and as all that they read as; for one that asks
+/// for another they read as no store, and as no history. Files that read as no store are none for one that asks for any kind.
+pub fn reads_for_its_kind<T: Mrdt>()
+    ensures own { (form : Form) → ReadsForItsKind form T.meaning }
+    ensures all { (form : Form) → ReadsAllForItsKind form T.meaning }
+    ensures others { (form : Form) → IsNoneOfOthers form T.meaning }
+    ensures none { (form : Form) → IsNoneOfAny form T.meaning }
+{}
+
+/// Files of version 1 have values of the kind 0: they read as they do for one that asks for this kind.
+pub fn reads_old_as_first_kind<T: Mrdt>()
+    ensures { (form : Form) → ReadsOldAsFirstKind form T.meaning }
 {}
 
 /// The gates of a valid history stand 64 bytes apart, where addresses have 32 bytes.

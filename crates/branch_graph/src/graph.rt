@@ -102,9 +102,11 @@ impl Graph {
     pub fn push(&mut self, parents: &[u32]) -> Result<u32, PushRefused>
         requires { All (λ parent. parent < length self.old.commits) parents.now }
         ensures number { IfOk result (λ number. number ≡ length self.old.commits) }
-        ensures pushed { OnOk result (self.new ≡ record self.old { commits = self.old.commits ++ parents.now ∷ [] }) }
+        ensures pushed { OnOk result
+            (self.new ≡ record self.old { commits = self.old.commits ++ parents.now ∷ [] }) }
         ensures room { OnOk result (length self.old.commits < self.old.limit) }
-        ensures full { (count : ℕ) → IsErrOf result (PushRefused.Full count) ↔ ((self.old.limit ≤ count) × (length self.old.commits ≡ count)) }
+        ensures full { (count : ℕ) → IsErrOf result (PushRefused.Full count)
+            ↔ ((self.old.limit ≤ count) × (length self.old.commits ≡ count)) }
         ensures kept { OnErr result (self.new ≡ self.old) }
     {
         let count = self.count();
@@ -120,7 +122,8 @@ impl Graph {
     /// memory first, and undoes the push where the write fails.
     pub fn pop(&mut self)
         requires { 0 < length self.old.commits }
-        ensures { self.new ≡ record self.old { commits = take (length self.old.commits - 1) self.old.commits } }
+        ensures { self.new
+            ≡ record self.old { commits = take (length self.old.commits - 1) self.old.commits } }
     {
         self.commits.pop();
     }
@@ -133,9 +136,11 @@ impl Graph {
         steps: &mut Steps<L>,
     ) -> Result<Graph, PushRefused>
         requires { All (λ parent. parent < length self.now.commits) parents.now }
-        ensures longer { IfOk result (λ graph. graph ≡ record self.now { commits = self.now.commits ++ parents.now ∷ [] }) }
+        ensures longer { IfOk result (λ graph.
+            graph ≡ record self.now { commits = self.now.commits ++ parents.now ∷ [] }) }
         ensures room { OnOk result (length self.now.commits < self.now.limit) }
-        ensures full { (count : ℕ) → IsErrOf result (PushRefused.Full count) ↔ ((self.now.limit ≤ count) × (length self.now.commits ≡ count)) }
+        ensures full { (count : ℕ) → IsErrOf result (PushRefused.Full count)
+            ↔ ((self.now.limit ≤ count) × (length self.now.commits ≡ count)) }
         ensures steps { steps.new ≤ steps.old + (length self.now.commits / 1024 + 1024) }
     {
         let count = self.count();
@@ -185,7 +190,8 @@ impl Graph {
     pub fn maximal_common(&self, left: &[u32], right: &[u32]) -> Result<Listing<u32>, Memory>
         requires left { All (λ n. n < length self.now.commits) left.now }
         requires right { All (λ n. n < length self.now.commits) right.now }
-        ensures { IfOk result (λ listing. listing ≡ maximal_common self.now.commits left.now right.now) }
+        ensures { IfOk result (λ listing.
+            listing ≡ maximal_common self.now.commits left.now right.now) }
     {
         maximal_common_uncounted::<Brand>(self, left, right, Blank::new(1))
     }
@@ -200,8 +206,10 @@ impl Graph {
     ) -> Result<Listing<u32>, Memory>
         requires left { All (λ n. n < length self.now.commits) left.now }
         requires right { All (λ n. n < length self.now.commits) right.now }
-        ensures value { IfOk result (λ listing. listing ≡ maximal_common self.now.commits left.now right.now) }
-        ensures steps { (greatest : ℕ) → All (λ n. n ≤ greatest) left.now → All (λ n. n ≤ greatest) right.now → steps.new ≤ steps.old + (greatest + 1) }
+        ensures value { IfOk result (λ listing.
+            listing ≡ maximal_common self.now.commits left.now right.now) }
+        ensures steps { (greatest : ℕ) → All (λ n. n ≤ greatest) left.now
+            → All (λ n. n ≤ greatest) right.now → steps.new ≤ steps.old + (greatest + 1) }
     {
         let mut found = walk::maximal_common(self.commits.alloc(), self, left, right, steps)?;
         found.reverse();
@@ -258,7 +266,8 @@ fn maximal_common_uncounted<L: Ledger>(
     requires some { 0 < blank.parts }
     requires left { All (λ n. n < length graph.now.commits) left.now }
     requires right { All (λ n. n < length graph.now.commits) right.now }
-    ensures { IfOk result (λ listing. listing ≡ maximal_common graph.now.commits left.now right.now) }
+    ensures { IfOk result (λ listing.
+        listing ≡ maximal_common graph.now.commits left.now right.now) }
 {
     graph.maximal_common_counted(left, right, &mut Steps::<L>::none(blank))
 }

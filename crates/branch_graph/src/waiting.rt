@@ -62,7 +62,11 @@ impl Paint {
 
     // This paint over another.
     fn over(self, other: Paint) -> Paint
-        ensures { result ≡ record { left = other.left || self.left; right = other.right || self.right; below = other.below || self.below } }
+        ensures { result ≡ record {
+          left = other.left || self.left;
+          right = other.right || self.right;
+          below = other.below || self.below;
+        } }
     {
         Paint {
             left: other.left || self.left,
@@ -113,8 +117,11 @@ impl Waiting {
 
     // Paints a commit, which waits from then on.
     pub(crate) fn paint(&mut self, number: u32, paint: Paint) -> Result<(), Memory>
-        ensures painted { OnOk result ((colour : Colour) (n : ℕ) → is_painted self.new colour n ≡ (is_painted self.old colour n || (has colour paint && (number == n)))) }
-        ensures below { (end : ℕ) → number < end → WaitsBelow self.old end → WaitsBelow self.new end }
+        ensures painted { OnOk result ((colour : Colour) (n : ℕ)
+            → is_painted self.new colour n
+            ≡ (is_painted self.old colour n || (has colour paint && (number == n)))) }
+        ensures below { (end : ℕ) → number < end → WaitsBelow self.old end
+            → WaitsBelow self.new end }
     {
         // the entries fit, and so does their number
         let _count = self.paints.len();
@@ -127,8 +134,12 @@ impl Waiting {
 
     // Paints a commit that is not below a number, and no other.
     fn paint_at_least(&mut self, number: u32, least: u32, paint: Paint) -> Result<(), Memory>
-        ensures painted { OnOk result ((colour : Colour) (n : ℕ) → is_painted self.new colour n ≡ (is_painted self.old colour n || (has colour paint && ((number == n) && not (nat_lt n least))))) }
-        ensures below { OnOk result ((end : ℕ) → number < end → WaitsBelow self.old end → WaitsBelow self.new end) }
+        ensures painted { OnOk result ((colour : Colour) (n : ℕ)
+            → is_painted self.new colour n
+            ≡ (is_painted self.old colour n ||
+            (has colour paint && ((number == n) && not (nat_lt n least))))) }
+        ensures below { OnOk result ((end : ℕ) → number < end → WaitsBelow self.old end
+            → WaitsBelow self.new end) }
     {
         if number < least {
             return Ok(());
@@ -144,8 +155,12 @@ impl Waiting {
         least: u32,
         paint: Paint,
     ) -> Result<(), Memory>
-        ensures painted { OnOk result ((colour : Colour) (n : ℕ) → is_painted self.new colour n ≡ (is_painted self.old colour n || (has colour paint && (is_among numbers.now n && not (nat_lt n least))))) }
-        ensures below { OnOk result ((end : ℕ) → All (λ n. n < end) numbers.now → WaitsBelow self.old end → WaitsBelow self.new end) }
+        ensures painted { OnOk result ((colour : Colour) (n : ℕ)
+            → is_painted self.new colour n
+            ≡ (is_painted self.old colour n ||
+            (has colour paint && (is_among numbers.now n && not (nat_lt n least))))) }
+        ensures below { OnOk result ((end : ℕ) → All (λ n. n < end) numbers.now
+            → WaitsBelow self.old end → WaitsBelow self.new end) }
     {
         for number in numbers {
             self.paint_at_least(*number, least, paint)?;
@@ -155,8 +170,11 @@ impl Waiting {
 
     // Paints some commits.
     pub(crate) fn paint_all(&mut self, numbers: &[u32], paint: Paint) -> Result<(), Memory>
-        ensures painted { OnOk result ((colour : Colour) (n : ℕ) → is_painted self.new colour n ≡ (is_painted self.old colour n || (has colour paint && is_among numbers.now n))) }
-        ensures below { OnOk result ((end : ℕ) → All (λ n. n < end) numbers.now → WaitsBelow self.old end → WaitsBelow self.new end) }
+        ensures painted { OnOk result ((colour : Colour) (n : ℕ)
+            → is_painted self.new colour n
+            ≡ (is_painted self.old colour n || (has colour paint && is_among numbers.now n))) }
+        ensures below { OnOk result ((end : ℕ) → All (λ n. n < end) numbers.now
+            → WaitsBelow self.old end → WaitsBelow self.new end) }
     {
         self.paint_from(numbers, 0, paint)?;
         Ok(())
@@ -167,7 +185,8 @@ impl Waiting {
         ensures taken { IfSome result (λ taken. Takes self.old taken.0 taken.1 self.new) }
         ensures step { OnSome result (steps.new ≡ steps.old + 1) }
         ensures no_step { IfNone result (steps.new ≡ steps.old) }
-        ensures none { IfNone result ((n : ℕ) → IfSome (paint_of self.old n) (λ paint. IsTrue paint.below)) }
+        ensures none { IfNone result ((n : ℕ)
+            → IfSome (paint_of self.old n) (λ paint. IsTrue paint.below)) }
     {
         if self.uncovered == 0 {
             return None;
@@ -181,7 +200,8 @@ impl Waiting {
 
 // A paint over one that may be there.
 fn over(old: Option<Paint>, paint: Paint) -> Paint
-    ensures { (colour : Colour) → has colour result ≡ (option_map_or (has colour) old false || has colour paint) }
+    ensures { (colour : Colour)
+        → has colour result ≡ (option_map_or (has colour) old false || has colour paint) }
 {
     match old {
         Some(old) => paint.over(old),

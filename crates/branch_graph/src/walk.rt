@@ -47,8 +47,11 @@ pub(crate) fn maximal_common<L: Ledger>(
 ) -> Result<Vec<u32>, Memory>
     requires left { All (λ n. n < length graph.now.commits) left.now }
     requires right { All (λ n. n < length graph.now.commits) right.now }
-    ensures found { IfOk result (λ found. found.items ≡ filter (is_maximal_common graph.now.commits left.now right.now) (falling (length graph.now.commits))) }
-    ensures steps { (greatest : ℕ) → All (λ n. n ≤ greatest) left.now → All (λ n. n ≤ greatest) right.now → steps.new ≤ steps.old + (greatest + 1) }
+    ensures found { IfOk result (λ found.
+        found.items ≡ filter (is_maximal_common graph.now.commits left.now right.now)
+        (falling (length graph.now.commits))) }
+    ensures steps { (greatest : ℕ) → All (λ n. n ≤ greatest) left.now
+        → All (λ n. n ≤ greatest) right.now → steps.new ≤ steps.old + (greatest + 1) }
 {
     let mut waiting = painted(alloc, left, right)?;
     let mut found = Vec::new(alloc);
@@ -63,8 +66,13 @@ pub(crate) fn maximal_common<L: Ledger>(
 
 // The commits of two lists, painted.
 fn painted(alloc: Global, left: &[u32], right: &[u32]) -> Result<Waiting, Memory>
-    ensures painted { IfOk result (λ waiting. (colour : Colour) (n : ℕ) → is_painted waiting colour n ≡ ((has colour (record { left = true; right = false; below = false }) && is_among left.now n) || (has colour (record { left = false; right = true; below = false }) && is_among right.now n))) }
-    ensures below { IfOk result (λ waiting. (end : ℕ) → All (λ n. n < end) left.now → All (λ n. n < end) right.now → WaitsBelow waiting end) }
+    ensures painted { IfOk result (λ waiting. (colour : Colour) (n : ℕ)
+        → is_painted waiting colour n
+        ≡ ((has colour (record { left = true; right = false; below = false }) && is_among left.now
+        n) || (has colour (record { left = false; right = true; below = false }) && is_among
+        right.now n))) }
+    ensures below { IfOk result (λ waiting. (end : ℕ) → All (λ n. n < end) left.now
+        → All (λ n. n < end) right.now → WaitsBelow waiting end) }
 {
     let mut waiting = Waiting::new(alloc);
     waiting.paint_all(left, Paint::left())?;
@@ -81,9 +89,14 @@ fn visit(
     found: &mut Vec<u32>,
 ) -> Result<(), Memory>
     requires { number < length graph.now.commits }
-    ensures found { OnOk result (found.new.items ≡ found.old.items ++ cond (is_member paint) (number ∷ []) []) }
-    ensures painted { OnOk result ((colour : Colour) (n : ℕ) → is_painted waiting.new colour n ≡ (is_painted waiting.old colour n || (has colour (for_parents paint) && is_among (parents_of graph.now.commits number) n))) }
-    ensures below { OnOk result ((end : ℕ) → number ≤ end → WaitsBelow waiting.old end → WaitsBelow waiting.new end) }
+    ensures found { OnOk result (found.new.items ≡ found.old.items ++ cond (is_member paint)
+        (number ∷ []) []) }
+    ensures painted { OnOk result ((colour : Colour) (n : ℕ)
+        → is_painted waiting.new colour n
+        ≡ (is_painted waiting.old colour n || (has colour (for_parents paint) && is_among
+        (parents_of graph.now.commits number) n))) }
+    ensures below { OnOk result ((end : ℕ) → number ≤ end → WaitsBelow waiting.old end
+        → WaitsBelow waiting.new end) }
 {
     if paint.is_member() {
         found.push(number)?;

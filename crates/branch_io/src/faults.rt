@@ -29,7 +29,8 @@ impl Faults {
         ensures one_more { OneMore self.old self.new }
         ensures exactly { IsTrue result ↔ IsNextListed self.old }
         ensures refused { self.new.refused ≡ self.old.refused }
-        ensures counted { MatchBool result (fault_count self.old + 1 ≤ fault_count self.new) (fault_count self.new ≡ fault_count self.old) }
+        ensures counted { MatchBool result (fault_count self.old + 1 ≤ fault_count self.new)
+            (fault_count self.new ≡ fault_count self.old) }
     {
         if self.made == u64::MAX {
             return false;

@@ -52,10 +52,13 @@ impl Source for MemorySource {
     fn take(&mut self, buf: &mut [u8]) -> Result<usize, SourceFailed>
         requires { 0 < length buf.old }
         ensures bound { ReadsAtMost result buf.new }
-        ensures bytes { ReadConsumes (Some (rest_of self.old)) (Some (rest_of self.new)) result buf.new }
-        ensures cause { HasCause (fault_count (source_faults self.old)) (fault_count (source_faults self.new)) result }
+        ensures bytes { ReadConsumes (Some (rest_of self.old)) (Some (rest_of self.new)) result
+            buf.new }
+        ensures cause { HasCause (fault_count (source_faults self.old))
+            (fault_count (source_faults self.new)) result }
         ensures calls { FailsAsListed (source_faults self.old) (source_faults self.new) result }
-        ensures count { IfOk result (λ n. n ≡ min (min (length (rest_of self.old)) (piece_of self.old)) (length buf.old)) }
+        ensures count { IfOk result (λ n.
+            n ≡ min (min (length (rest_of self.old)) (piece_of self.old)) (length buf.old)) }
         ensures behind { IfOk result (λ n. drop n buf.new ≡ drop n buf.old) }
         ensures untouched { OnErr result (buf.new ≡ buf.old) }
         ensures piece { piece_of self.new ≡ piece_of self.old }
@@ -117,8 +120,10 @@ impl Sink for MemorySink {
     fn give(&mut self, bytes: &[u8]) -> Result<usize, SinkFailed>
         ensures bound { WritesAtMost result bytes.now }
         ensures some { IfOk result (λ count. 0 < length bytes.now → 0 < count) }
-        ensures bytes { WriteAppends (Some (bytes_of self.old)) (Some (bytes_of self.new)) result bytes.now }
-        ensures cause { HasCause (fault_count (sink_faults self.old)) (fault_count (sink_faults self.new)) result }
+        ensures bytes { WriteAppends (Some (bytes_of self.old)) (Some (bytes_of self.new)) result
+            bytes.now }
+        ensures cause { HasCause (fault_count (sink_faults self.old))
+            (fault_count (sink_faults self.new)) result }
         ensures calls { FailsWithoutRoom (sink_faults self.old) (sink_faults self.new) result }
         ensures count { IfOk result (λ n. n ≡ length bytes.now) }
     {
@@ -136,7 +141,8 @@ impl Sink for MemorySink {
 
     fn finish(&mut self) -> Result<(), SinkFailed>
         ensures bytes { Keeps (Some (bytes_of self.old)) (Some (bytes_of self.new)) }
-        ensures cause { HasCause (fault_count (sink_faults self.old)) (fault_count (sink_faults self.new)) result }
+        ensures cause { HasCause (fault_count (sink_faults self.old))
+            (fault_count (sink_faults self.new)) result }
         ensures calls { FailsAsListed (sink_faults self.old) (sink_faults self.new) result }
     {
         if self.faults.fails() {

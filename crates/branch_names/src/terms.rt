@@ -1,16 +1,20 @@
 // What is fixed for a store as long as it lives.
+ghost use Rattle.std.specs.Prelude.{◌<◌, ◌^◌};
 ghost use Rattle.branch_names.specs.Ranges.{AreOrigins};
 
 use crate::Limits;
 
-/// What is fixed for a store as long as it lives: its limits, and its first origin. Branch r has the origin that lies
-/// r above the first; the origins of all branches that there may be are numbers of 32 bits.
+/// What is fixed for a store as long as it lives: its limits, its first origin, and the kind of its values. Branch r has
+/// the origin that lies r above the first; the origins of all branches that there may be are numbers of 32 bits.
 #[derive(Clone, Copy, Debug, PartialEq, Eq)]
 pub struct Terms {
     /// The limits.
     pub limits: Limits,
     /// The origin of branch 0.
     pub origin: u32,
+    /// The kind of the values: 0 for documents, 1 for documents with sequences.
+    pub kind: u8,
+    pub ghost small: { kind < 2 ^ 8 },
     pub ghost in_range: { AreOrigins origin limits.branches },
 }
 
@@ -21,24 +25,35 @@ impl Terms {
     ghost use Rattle.std.specs.Prelude.{◌≡◌, ◌↔◌, IsSome, IfSome};
     ghost use Rattle.branch_names.specs.Ranges.{AreOrigins};
 
-    /// The terms with these limits and this first origin; `None` exactly where an origin would be out of range.
-    pub fn new(limits: Limits, origin: u32) -> Option<Terms>
+    /// The terms with these limits, this first origin and this kind of values; `None` exactly where an origin would be
+    /// out of range.
+    pub fn new(limits: Limits, origin: u32, kind: u8) -> Option<Terms>
         ensures in_range { IsSome result ↔ AreOrigins origin limits.branches }
         ensures limits { IfSome result (λ terms. terms.limits ≡ limits) }
         ensures origin { IfSome result (λ terms. terms.origin ≡ origin) }
+        ensures kind { IfSome result (λ terms. terms.kind ≡ kind) }
     {
         if origin as u64 + limits.branches as u64 <= ORIGINS {
-            Some(Terms { limits, origin })
+            Some(Terms {
+                limits,
+                origin,
+                kind,
+            })
         } else {
             None
         }
     }
 
-    /// The terms under these limits whose first origin is 0. There are as many numbers of 32 bits as branches at least.
+    /// The terms under these limits whose first origin is 0, for values of the kind 0. There are as many numbers of 32 bits as branches at least.
     pub fn under(limits: Limits) -> Terms
         ensures limits { result.limits ≡ limits }
         ensures origin { result.origin ≡ 0 }
+        ensures kind { result.kind ≡ 0 }
     {
-        Terms { limits, origin: 0 }
+        Terms {
+            limits,
+            origin: 0,
+            kind: 0,
+        }
     }
 }

@@ -38,7 +38,9 @@ impl<V: Payload> Kept<V> {
     /// memory.
     pub fn same(&self, other: &Kept<V>) -> bool
         ensures same { IsTrue result ↔ (self.now ≡ other.now) }
-        ensures spelled { (a b : List ℕ) → kept_spelling V.spelling self.now ++ a ≡ kept_spelling V.spelling other.now ++ b → self.now ≡ other.now }
+        ensures spelled { (a b : List ℕ)
+            → kept_spelling V.spelling self.now ++ a ≡ kept_spelling V.spelling other.now ++ b
+            → self.now ≡ other.now }
     {
         is_same_time(self.time, other.time) && self.payload.same(&other.payload)
     }

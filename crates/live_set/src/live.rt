@@ -45,7 +45,8 @@ fn copies<V: Payload>(alloc: Global, entries: &[Kept<V>]) -> Result<Vec<Kept<V>>
 fn are_same<V: Payload>(entries: &[Kept<V>], others: &[Kept<V>]) -> bool
     requires { length entries.now ≡ length others.now }
     ensures same { IsTrue result ↔ (entries.now ≡ others.now) }
-    ensures spelled { flat_map (kept_spelling V.spelling) entries.now ≡ flat_map (kept_spelling V.spelling) others.now → entries.now ≡ others.now }
+    ensures spelled { flat_map (kept_spelling V.spelling) entries.now
+        ≡ flat_map (kept_spelling V.spelling) others.now → entries.now ≡ others.now }
 {
     for index in 0..entries.len() {
         if !entries[index].same(&others[index]) {
@@ -96,7 +97,10 @@ impl<V: Drop> Live<V> {
     /// changed.
     pub fn add(&mut self, time: Time, payload: V) -> Result<(), Memory>
         requires { AllBefore (kept_times self.old) time }
-        ensures ok { OnOk result (self.new ≡ self.old ++ record { time = time; payload = payload } ∷ []) }
+        ensures ok { OnOk result (self.new ≡ self.old ++ record {
+          time = time;
+          payload = payload;
+        } ∷ []) }
         ensures err { OnErr result (self.new ≡ self.old) }
     {
         Ok(self.entries.push(Kept { time, payload })?)
@@ -130,7 +134,8 @@ impl<V: Payload> Live<V> {
     /// memory.
     pub fn same(&self, other: &Live<V>) -> bool
         ensures same { IsTrue result ↔ (self.now ≡ other.now) }
-        ensures spelled { live_spelling V.spelling self.now ≡ live_spelling V.spelling other.now → self.now ≡ other.now }
+        ensures spelled { live_spelling V.spelling self.now ≡ live_spelling V.spelling other.now
+            → self.now ≡ other.now }
     {
         let (mine, theirs) = (self.items(), other.items());
         mine.len() == theirs.len() && are_same(mine, theirs)
@@ -139,7 +144,8 @@ impl<V: Payload> Live<V> {
     // Puts a copy of a payload, if there is one, behind all others.
     fn add_copy(&mut self, time: Time, payload: Option<&V>) -> Result<(), Memory>
         requires { AllBefore (kept_times self.old) time }
-        ensures { OnOk result (self.new ≡ with_payload self.old time (option_copied payload.entry)) }
+        ensures { OnOk result
+            (self.new ≡ with_payload self.old time (option_copied payload.entry)) }
     {
         match payload {
             Some(payload) => self.add(time, payload.copy()?),

@@ -24,7 +24,8 @@ pub trait Payload: Sized + Drop {
     /// memory.
     fn same(&self, other: &Self) -> bool
         ensures same { IsTrue result ↔ (self.now ≡ other.now) }
-        ensures spelled { (a b : List ℕ) → spelling self.now ++ a ≡ spelling other.now ++ b → self.now ≡ other.now };
+        ensures spelled { (a b : List ℕ) → spelling self.now ++ a ≡ spelling other.now ++ b
+            → self.now ≡ other.now };
 
     /// Writes the spelling at the end of `out`; after `Memory`, a first part of it.
     fn put(&self, out: &mut Vec<u8>) -> Result<(), Memory>
@@ -37,7 +38,8 @@ pub trait Payload: Sized + Drop {
         ensures fits { IfOk result fits }
         ensures ok { IfOk result (λ payload. cursor.old ≡ spelling payload ++ cursor.new) }
         ensures err { OnErr result (cursor.new ≡ cursor.old) }
-        ensures outside { IsErrOf result Unread.NotCanonical → (payload : Self) (rest : List ℕ) → fits payload → cursor.old ≡ spelling payload ++ rest → ⊥ };
+        ensures outside { IsErrOf result Unread.NotCanonical → (payload : Self) (rest : List ℕ)
+            → fits payload → cursor.old ≡ spelling payload ++ rest → ⊥ };
 
     // What stands at the front is read in one way.
     ghost one_way: { ReadsOneWay fits spelling };
@@ -113,7 +115,8 @@ pub fn shared_text(alloc: Global, bytes: &[u8]) -> Result<Shared<Bytes>, Memory>
 fn text_at_front(alloc: Global, cursor: &mut Cursor<'_>) -> Result<Shared<Bytes>, Unread>
     ensures fits { IfOk result IsShortText }
     ensures ok { IfOk result (λ text. cursor.old ≡ field text ++ cursor.new) }
-    ensures outside { IsErrOf result Unread.NotCanonical → (text : List ℕ) (rest : List ℕ) → IsShortText text → cursor.old ≡ field text ++ rest → ⊥ }
+    ensures outside { IsErrOf result Unread.NotCanonical → (text : List ℕ) (rest : List ℕ)
+        → IsShortText text → cursor.old ≡ field text ++ rest → ⊥ }
 {
     let bytes = cursor.take_bytes()?;
     Ok(shared_text(alloc, bytes)?)

@@ -16,7 +16,8 @@ use std::alloc::Global;
 // Writes a time, and its payload.
 fn put_kept<V: Payload>(kept: &Kept<V>, out: &mut Vec<u8>) -> Result<(), Memory>
     ensures ok { OnOk result (out.new.items ≡ out.old.items ++ kept_spelling V.spelling kept.now) }
-    ensures err { OnErr result (AppendsPart out.old.items out.new.items (kept_spelling V.spelling kept.now)) }
+    ensures err { OnErr result
+        (AppendsPart out.old.items out.new.items (kept_spelling V.spelling kept.now)) }
 {
     put_time(kept.time, out)?;
     kept.payload.put(out)
@@ -29,7 +30,9 @@ fn take_kept<V: Payload>(
     live: &mut Live<V>,
 ) -> Result<(), Unread>
     ensures ok { OnOk result (TakesKept V.fits V.spelling cursor.old live.old cursor.new live.new) }
-    ensures outside { IsErrOf result Unread.NotCanonical → (kept : SpecKept V) (rest : List ℕ) → KeptFits V.fits kept → AllBefore (kept_times live.old) kept.time → cursor.old ≡ kept_spelling V.spelling kept ++ rest → ⊥ }
+    ensures outside { IsErrOf result Unread.NotCanonical → (kept : SpecKept V) (rest : List ℕ)
+        → KeptFits V.fits kept → AllBefore (kept_times live.old) kept.time
+        → cursor.old ≡ kept_spelling V.spelling kept ++ rest → ⊥ }
 {
     let time = cursor.take_time()?;
     let payload = V::take(alloc, cursor)?;
@@ -44,7 +47,9 @@ fn take_kept<V: Payload>(
 fn live_at_front<V: Payload>(alloc: Global, cursor: &mut Cursor<'_>) -> Result<Live<V>, Unread>
     ensures known { IfOk result (AreLive V.fits) }
     ensures ok { IfOk result (λ live. cursor.old ≡ live_spelling V.spelling live ++ cursor.new) }
-    ensures outside { IsErrOf result Unread.NotCanonical → (entries : List (SpecKept V)) (rest : List ℕ) → AreLive V.fits entries → cursor.old ≡ live_spelling V.spelling entries ++ rest → ⊥ }
+    ensures outside { IsErrOf result Unread.NotCanonical
+        → (entries : List (SpecKept V)) (rest : List ℕ) → AreLive V.fits entries
+        → cursor.old ≡ live_spelling V.spelling entries ++ rest → ⊥ }
 {
     let count = cursor.take_u64()?;
     let mut live = Live::new(alloc);
@@ -58,8 +63,10 @@ impl<V: Payload> Live<V> {
     /// Writes the count of the payloads, and the time and the spelling of each, by rising time, at the end of
     /// `out`; after `Memory`, a first part of that.
     pub fn put(&self, out: &mut Vec<u8>) -> Result<(), Memory>
-        ensures ok { OnOk result (out.new.items ≡ out.old.items ++ live_spelling V.spelling self.now) }
-        ensures err { OnErr result (AppendsPart out.old.items out.new.items (live_spelling V.spelling self.now)) }
+        ensures ok { OnOk result (out.new.items
+            ≡ out.old.items ++ live_spelling V.spelling self.now) }
+        ensures err { OnErr result (AppendsPart out.old.items out.new.items
+            (live_spelling V.spelling self.now)) }
     {
         let entries = self.items();
         put_u64(entries.len() as u64, out)?;
@@ -73,9 +80,12 @@ impl<V: Payload> Live<V> {
     /// exactly where none is spelled there: times rise, and as many follow as the count says.
     pub fn take(alloc: Global, cursor: &mut Cursor<'_>) -> Result<Live<V>, Unread>
         ensures known { IfOk result (AreLive V.fits) }
-        ensures ok { IfOk result (λ live. cursor.old ≡ live_spelling V.spelling live ++ cursor.new) }
+        ensures ok { IfOk result (λ live.
+            cursor.old ≡ live_spelling V.spelling live ++ cursor.new) }
         ensures err { OnErr result (cursor.new ≡ cursor.old) }
-        ensures outside { IsErrOf result Unread.NotCanonical → (entries : List (SpecKept V)) (rest : List ℕ) → AreLive V.fits entries → cursor.old ≡ live_spelling V.spelling entries ++ rest → ⊥ }
+        ensures outside { IsErrOf result Unread.NotCanonical
+            → (entries : List (SpecKept V)) (rest : List ℕ) → AreLive V.fits entries
+            → cursor.old ≡ live_spelling V.spelling entries ++ rest → ⊥ }
     {
         let whole = cursor.take_rest();
         let mut front = Cursor::new(whole);
@@ -92,9 +102,11 @@ impl<V: Payload> Live<V> {
     pub fn get(alloc: Global, bytes: &[u8]) -> Result<Live<V>, Unread>
         ensures spelled { IfOk result (λ live. live_spelling V.spelling live ≡ bytes.now) }
         ensures known { IfOk result (AreLive V.fits) }
-        ensures equal { IfOk result (λ live. (entries : List (SpecKept V)) → AreLive V.fits entries → live_spelling V.spelling entries ≡ bytes.now → live ≡ entries) }
+        ensures equal { IfOk result (λ live. (entries : List (SpecKept V)) → AreLive V.fits entries
+            → live_spelling V.spelling entries ≡ bytes.now → live ≡ entries) }
         ensures inside { OnOk result (IsLiveSpelling V.fits V.spelling bytes.now) }
-        ensures outside { IsErrOf result Unread.NotCanonical → ¬ IsLiveSpelling V.fits V.spelling bytes.now }
+        ensures outside { IsErrOf result Unread.NotCanonical
+            → ¬ IsLiveSpelling V.fits V.spelling bytes.now }
     {
         let mut cursor = Cursor::new(bytes);
         let live = Live::take(alloc, &mut cursor)?;

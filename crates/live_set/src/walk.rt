@@ -86,7 +86,8 @@ pub(crate) fn stays<'a, V>(
     left: Option<&'a V>,
     right: Option<&'a V>,
 ) -> Option<&'a V>
-    ensures { option_copied result ≡ staying (option_copied base.entry) (option_copied left.entry) (option_copied right.entry) }
+    ensures { option_copied result ≡ staying (option_copied base.entry) (option_copied left.entry)
+        (option_copied right.entry) }
 {
     match (base, left, right) {
         (None, None, _) => right,

@@ -65,7 +65,8 @@ pub(crate) trait InParts: Mrdt {
     // The same value, shared where it can be.
     fn copied(alloc: Global, part: &Part<Self>) -> Result<Part<Self>, Memory>
         ensures stands { IfOk result (StandsAsWell Self.meaning part.now) }
-        ensures spelling { IfOk result (λ copy. Self.meaning.state_spelling copy ≡ Self.meaning.state_spelling part.now) }
+        ensures spelling { IfOk result (λ copy. Self.meaning.state_spelling copy
+            ≡ Self.meaning.state_spelling part.now) }
     {
         match &part.kept {
             Kept::Own(value) => Part::held(alloc, value.copy()?),

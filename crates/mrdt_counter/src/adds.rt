@@ -59,8 +59,10 @@ fn sum_of(entries: &SharedList<Kept<i64>>) -> i128
 
 // Writes a time, and its amount.
 fn put_kept(kept: &Kept<i64>, out: &mut Vec<u8>) -> Result<(), Memory>
-    ensures ok { OnOk result (out.new.items ≡ out.old.items ++ kept_spelling signed_number kept.now) }
-    ensures err { OnErr result (AppendsPart out.old.items out.new.items (kept_spelling signed_number kept.now)) }
+    ensures ok { OnOk result (out.new.items
+        ≡ out.old.items ++ kept_spelling signed_number kept.now) }
+    ensures err { OnErr result
+        (AppendsPart out.old.items out.new.items (kept_spelling signed_number kept.now)) }
 {
     put_time(kept.time, out)?;
     put_i64(amount_of(kept), out)
@@ -81,7 +83,8 @@ fn listed(alloc: Global, entries: &[Kept<i64>]) -> Result<SharedList<Kept<i64>>,
 fn are_same(entries: &SharedList<Kept<i64>>, others: &SharedList<Kept<i64>>) -> bool
     requires { length entries.now ≡ length others.now }
     ensures same { IsTrue result ↔ (entries.now ≡ others.now) }
-    ensures spelled { flat_map (kept_spelling signed_number) entries.now ≡ flat_map (kept_spelling signed_number) others.now → entries.now ≡ others.now }
+    ensures spelled { flat_map (kept_spelling signed_number) entries.now
+        ≡ flat_map (kept_spelling signed_number) others.now → entries.now ≡ others.now }
 {
     for index in 0..entries.len() {
         if !entries.get(index).get().same(others.get(index).get()) {
@@ -149,7 +152,10 @@ impl Adds {
     // Puts an amount behind all others, at a time that is greater than theirs.
     pub(crate) fn add(&mut self, time: Time, amount: i64) -> Result<(), Memory>
         requires { AllBefore (kept_times self.old) time }
-        ensures ok { OnOk result (self.new ≡ self.old ++ record { time = time; payload = amount } ∷ []) }
+        ensures ok { OnOk result (self.new ≡ self.old ++ record {
+          time = time;
+          payload = amount;
+        } ∷ []) }
         ensures err { OnErr result (self.new ≡ self.old) }
     {
         let entry = Shared::new(
@@ -165,7 +171,10 @@ impl Adds {
 
     // The amounts with one more. References are copied, and no entry.
     pub(crate) fn with(&self, time: Time, amount: i64) -> Result<Adds, Memory>
-        ensures merges { IfOk result (MergesEntries [] self.now (record { time = time; payload = amount } ∷ [])) }
+        ensures merges { IfOk result (MergesEntries [] self.now (record {
+          time = time;
+          payload = amount;
+        } ∷ [])) }
         ensures rising { IfOk result (λ adds. IsRising (kept_times adds)) }
     {
         if self.ends_before(time) {
@@ -219,7 +228,8 @@ impl Adds {
     // Whether the same amounts are at the same times. Those that are spelled alike are. It takes no memory.
     pub(crate) fn same(&self, other: &Adds) -> bool
         ensures same { IsTrue result ↔ (self.now ≡ other.now) }
-        ensures spelled { live_spelling signed_number self.now ≡ live_spelling signed_number other.now → self.now ≡ other.now }
+        ensures spelled { live_spelling signed_number self.now
+            ≡ live_spelling signed_number other.now → self.now ≡ other.now }
     {
         let (mine, theirs) = (self.items(), other.items());
         mine.len() == theirs.len() && are_same(mine, theirs)
@@ -228,8 +238,10 @@ impl Adds {
     // Writes the count of the amounts, and the time and the spelling of each, by rising time, at the end of `out`;
     // after `Memory`, a first part of that.
     pub(crate) fn put(&self, out: &mut Vec<u8>) -> Result<(), Memory>
-        ensures ok { OnOk result (out.new.items ≡ out.old.items ++ live_spelling signed_number self.now) }
-        ensures err { OnErr result (AppendsPart out.old.items out.new.items (live_spelling signed_number self.now)) }
+        ensures ok { OnOk result (out.new.items
+            ≡ out.old.items ++ live_spelling signed_number self.now) }
+        ensures err { OnErr result (AppendsPart out.old.items out.new.items
+            (live_spelling signed_number self.now)) }
     {
         let entries = self.items();
         put_u64(entries.len() as u64, out)?;
@@ -242,9 +254,12 @@ impl Adds {
     // Reads amounts whose spelling is the whole of the bytes. `NotCanonical` comes exactly where they are none.
     pub(crate) fn get(alloc: Global, bytes: &[u8]) -> Result<Adds, Unread>
         ensures spelled { IfOk result (λ adds. live_spelling signed_number adds ≡ bytes.now) }
-        ensures equal { IfOk result (λ adds. (entries : List (SpecKept ℤ)) → AreLive IsAmount entries → live_spelling signed_number entries ≡ bytes.now → adds ≡ entries) }
+        ensures equal { IfOk result (λ adds. (entries : List (SpecKept ℤ))
+            → AreLive IsAmount entries → live_spelling signed_number entries ≡ bytes.now
+            → adds ≡ entries) }
         ensures inside { OnOk result (IsLiveSpelling IsAmount signed_number bytes.now) }
-        ensures outside { IsErrOf result Unread.NotCanonical → ¬ IsLiveSpelling IsAmount signed_number bytes.now }
+        ensures outside { IsErrOf result Unread.NotCanonical
+            → ¬ IsLiveSpelling IsAmount signed_number bytes.now }
     {
         let live = Live::get(alloc, bytes)?;
         Ok(Adds::of(alloc, &live)?)

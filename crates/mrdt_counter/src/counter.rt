@@ -53,7 +53,10 @@ impl Counter {
 
     // The counter with one amount more. It shares all entries that it had.
     fn with_add(&self, amount: i64, time: Time) -> Result<Counter, Memory>
-        ensures merges { IfOk result (MergesEntries [] self.now (record { time = time; payload = amount } ∷ [])) }
+        ensures merges { IfOk result (MergesEntries [] self.now (record {
+          time = time;
+          payload = amount;
+        } ∷ [])) }
         ensures rising { IfOk result (λ counter. IsRising (kept_times counter)) }
     {
         Ok(Counter {

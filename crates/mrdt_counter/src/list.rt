@@ -217,8 +217,10 @@ fn add_part<X: Drop>(
     full: &mut Full<X>,
     part: Shared<References<X>>,
 ) -> Result<(), Memory>
-    ensures added { OnOk result (parts_of (option_map arc_value full.new) ≡ parts_of (option_map arc_value full.old) ++ part ∷ []) }
-    ensures kept { OnErr result (parts_of (option_map arc_value full.new) ≡ parts_of (option_map arc_value full.old)) }
+    ensures added { OnOk result (parts_of (option_map arc_value full.new)
+        ≡ parts_of (option_map arc_value full.old) ++ part ∷ []) }
+    ensures kept { OnErr result (parts_of (option_map arc_value full.new)
+        ≡ parts_of (option_map arc_value full.old)) }
 {
     match full {
         Some(parts) => {

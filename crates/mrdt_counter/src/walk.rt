@@ -101,7 +101,8 @@ pub(crate) fn stays<'a>(
     left: Option<&'a Shared<Kept<i64>>>,
     right: Option<&'a Shared<Kept<i64>>>,
 ) -> Option<&'a Shared<Kept<i64>>>
-    ensures { option_copied result ≡ staying (option_copied base.entry) (option_copied left.entry) (option_copied right.entry) }
+    ensures { option_copied result ≡ staying (option_copied base.entry) (option_copied left.entry)
+        (option_copied right.entry) }
 {
     match (base, left, right) {
         (None, None, _) => right,

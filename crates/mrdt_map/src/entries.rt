@@ -44,7 +44,9 @@ pub(crate) fn set_value<T: Drop>(
     key: Shared<Bytes>,
     value: Shared<T>,
 ) -> Result<(), Memory>
-    ensures values { OnOk result ((k : List ℕ) → value_at table.new.entries k ≡ (if same_key key k then Some value else value_at table.old.entries k)) }
+    ensures values { OnOk result ((k : List ℕ)
+        → value_at table.new.entries k
+        ≡ (if same_key key k then Some value else value_at table.old.entries k)) }
     ensures ordered { OnOk result (IsOrdered (slice_cmp nat_cmp) table.new) }
 {
     table.insert(key, value)?;
@@ -61,16 +63,23 @@ pub(crate) trait AtKeys: Mrdt {
         value: &Shared<Self>,
         other: (&Shared<Bytes>, &Shared<Self>),
     ) -> bool
-        ensures same { IsTrue result ↔ ((key.now ≡ other.entry.0.now) × Self.meaning.is_same value.now other.entry.1.now) }
-        ensures spelled { key.now ≡ other.entry.0.now → length (Self.meaning.state_spelling value.now) < 2 ^ 64 → Self.meaning.state_spelling value.now ≡ Self.meaning.state_spelling other.entry.1.now → IsTrue result }
+        ensures same { IsTrue result
+            ↔ ((key.now ≡ other.entry.0.now) × Self.meaning.is_same value.now other.entry.1.now) }
+        ensures spelled { key.now ≡ other.entry.0.now
+            → length (Self.meaning.state_spelling value.now) < 2 ^ 64
+            → Self.meaning.state_spelling value.now ≡ Self.meaning.state_spelling other.entry.1.now
+            → IsTrue result }
     {
         key == other.0 && value.get().same(other.1.get())
     }
 
     // Whether two tables have the same keys with the same values.
     fn are_same(left: &Table<Self>, right: &Table<Self>) -> bool
-        ensures same { IsTrue result ↔ AreSameEntries Self.meaning.is_same left.now.entries right.now.entries }
-        ensures spelled { length (entries_spelling Self.meaning.state_spelling left.now.entries) < 2 ^ 64 → entries_spelling Self.meaning.state_spelling left.now.entries ≡ entries_spelling Self.meaning.state_spelling right.now.entries → IsTrue result }
+        ensures same { IsTrue result
+            ↔ AreSameEntries Self.meaning.is_same left.now.entries right.now.entries }
+        ensures spelled { length (entries_spelling Self.meaning.state_spelling left.now.entries)
+            < 2 ^ 64 → entries_spelling Self.meaning.state_spelling left.now.entries
+            ≡ entries_spelling Self.meaning.state_spelling right.now.entries → IsTrue result }
     {
         let mut others = right.iter();
         for (key, value) in left.iter() {
@@ -94,7 +103,8 @@ pub(crate) trait AtKeys: Mrdt {
         left: &Shared<Self>,
         right: &Shared<Self>,
     ) -> Result<Option<Shared<Self>>, Memory>
-        ensures { IfOk result (λ m. Merges Self.meaning base.now left.now right.now (unwrap_or m right.now)) }
+        ensures { IfOk result (λ m.
+            Merges Self.meaning base.now left.now right.now (unwrap_or m right.now)) }
     {
         if base.same(left.get()) {
             return Ok(None);
@@ -113,7 +123,8 @@ pub(crate) trait AtKeys: Mrdt {
         left: &Shared<Self>,
         right: Option<&Shared<Self>>,
     ) -> Result<Option<Shared<Self>>, Memory>
-        ensures { IfOk result (λ m. MergesAt Self.meaning (option_copied base.entry) (Some left.now) (option_copied right.entry) (option_or m (option_copied right.entry))) }
+        ensures { IfOk result (λ m. MergesAt Self.meaning (option_copied base.entry) (Some left.now)
+            (option_copied right.entry) (option_or m (option_copied right.entry))) }
     {
         match right {
             None => Ok(Some(left.copy()?)),
@@ -131,8 +142,10 @@ pub(crate) trait AtKeys: Mrdt {
         operation: &Self::Op,
         time: Time,
     ) -> Result<(Self, Self::Reply), Memory>
-        ensures known { IfOk result (λ r. Self.meaning.is_op operation.now × Self.meaning.is_reply r.1) }
-        ensures applies { IfOk result (λ r. AppliesAt Self.meaning (option_copied old.entry) operation.now time r.0 r.1) }
+        ensures known { IfOk result (λ r. Self.meaning.is_op operation.now
+            × Self.meaning.is_reply r.1) }
+        ensures applies { IfOk result (λ r.
+            AppliesAt Self.meaning (option_copied old.entry) operation.now time r.0 r.1) }
     {
         match old {
             None => Self::initial(alloc).apply(operation, time),
@@ -146,7 +159,9 @@ pub(crate) trait AtKeys: Mrdt {
         value: Option<&Shared<Self>>,
         query: &Self::Query,
     ) -> Result<Self::Answer, Memory>
-        ensures { IfOk result (λ a. (y : List (Event Self.Op Self.Reply)) → Lawful Self.meaning y → StandsAt Self.meaning.stands (option_copied value.entry) y → a ≡ Self.meaning.answer_of y query.now) }
+        ensures { IfOk result (λ a. (y : List (Event Self.Op Self.Reply)) → Lawful Self.meaning y
+            → StandsAt Self.meaning.stands (option_copied value.entry) y
+            → a ≡ Self.meaning.answer_of y query.now) }
     {
         match value {
             None => Self::initial(alloc).answer(query),
@@ -161,7 +176,9 @@ pub(crate) trait AtKeys: Mrdt {
         left: &Table<Self>,
         right: &Table<Self>,
     ) -> Result<Table<Self>, Memory>
-        ensures values { IfOk result (λ t. (k : List ℕ) → MergesAt Self.meaning (value_at base.now.entries k) (value_at left.now.entries k) (value_at right.now.entries k) (value_at t.entries k)) }
+        ensures values { IfOk result (λ t. (k : List ℕ)
+            → MergesAt Self.meaning (value_at base.now.entries k) (value_at left.now.entries k)
+            (value_at right.now.entries k) (value_at t.entries k)) }
         ensures ordered { IfOk result (IsOrdered (slice_cmp nat_cmp)) }
     {
         let mut both = shared(right)?;

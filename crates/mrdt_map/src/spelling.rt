@@ -49,8 +49,10 @@ pub(crate) trait Entries: Mrdt {
         value: &Shared<Self>,
         out: &mut Vec<u8>,
     ) -> Result<(), Memory>
-        ensures ok { OnOk result (out.new.items ≡ out.old.items ++ entry_spelling Self.meaning.state_spelling (key.now, value.now)) }
-        ensures err { OnErr result (AppendsPart out.old.items out.new.items (entry_spelling Self.meaning.state_spelling (key.now, value.now))) }
+        ensures ok { OnOk result (out.new.items
+            ≡ out.old.items ++ entry_spelling Self.meaning.state_spelling (key.now, value.now)) }
+        ensures err { OnErr result (AppendsPart out.old.items out.new.items
+            (entry_spelling Self.meaning.state_spelling (key.now, value.now))) }
     {
         let own = value.get();
         let name = key.get();
@@ -62,8 +64,10 @@ pub(crate) trait Entries: Mrdt {
 
     // Writes the count of the entries, and the entries in the order of their keys.
     fn put_entries(alloc: Global, table: &Table<Self>, out: &mut Vec<u8>) -> Result<(), Memory>
-        ensures ok { OnOk result (out.new.items ≡ out.old.items ++ entries_spelling Self.meaning.state_spelling table.now.entries) }
-        ensures err { OnErr result (AppendsPart out.old.items out.new.items (entries_spelling Self.meaning.state_spelling table.now.entries)) }
+        ensures ok { OnOk result (out.new.items
+            ≡ out.old.items ++ entries_spelling Self.meaning.state_spelling table.now.entries) }
+        ensures err { OnErr result (AppendsPart out.old.items out.new.items
+            (entries_spelling Self.meaning.state_spelling table.now.entries)) }
     {
         put_u64(table.len() as u64, out)?;
         for (key, value) in table.iter() {
@@ -78,9 +82,12 @@ pub(crate) trait Entries: Mrdt {
         cursor: &mut Cursor<'_>,
         table: &mut Table<Self>,
     ) -> Result<(), Unread>
-        ensures ok { OnOk result (TakesEntry Self.meaning cursor.old table.old.entries cursor.new table.new.entries) }
+        ensures ok { OnOk result
+            (TakesEntry Self.meaning cursor.old table.old.entries cursor.new table.new.entries) }
         ensures ordered { OnOk result (IsOrdered (slice_cmp nat_cmp) table.new) }
-        ensures outside { IsErrOf result Unread.NotCanonical → (e : List ℕ × List ℕ) (rest : List ℕ) → IsEntry Self.meaning.is_state_spelling e → IsAbove e.0 (keys table.old) → cursor.old ≡ entry_spelling as_spelled e ++ rest → ⊥ }
+        ensures outside { IsErrOf result Unread.NotCanonical → (e : List ℕ × List ℕ) (rest : List ℕ)
+            → IsEntry Self.meaning.is_state_spelling e → IsAbove e.0 (keys table.old)
+            → cursor.old ≡ entry_spelling as_spelled e ++ rest → ⊥ }
     {
         let name = cursor.take_bytes()?;
         let text = cursor.take_bytes()?;
@@ -101,8 +108,12 @@ pub(crate) trait Entries: Mrdt {
         cursor: &mut Cursor<'_>,
         count: u64,
     ) -> Result<Table<Self>, Unread>
-        ensures ok { IfOk result (λ table. AreTaken Self.meaning cursor.old count cursor.new table.entries) }
-        ensures outside { IsErrOf result Unread.NotCanonical → (es : List (List ℕ × List ℕ)) (rest : List ℕ) → AreInOrder Self.meaning.is_state_spelling es → length es ≡ count → cursor.old ≡ flat_map (entry_spelling as_spelled) es ++ rest → ⊥ }
+        ensures ok { IfOk result (λ table.
+            AreTaken Self.meaning cursor.old count cursor.new table.entries) }
+        ensures outside { IsErrOf result Unread.NotCanonical
+            → (es : List (List ℕ × List ℕ)) (rest : List ℕ)
+            → AreInOrder Self.meaning.is_state_spelling es → length es ≡ count
+            → cursor.old ≡ flat_map (entry_spelling as_spelled) es ++ rest → ⊥ }
     {
         let mut table = BTreeMap::new(alloc);
         for _index in 0..count {

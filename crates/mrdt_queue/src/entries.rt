@@ -31,7 +31,8 @@ pub(crate) fn reversed(alloc: Global, entries: &[Entry]) -> Result<Vec<Entry>, M
 
 // Where the front is empty, turns the back round and makes it the front.
 fn refill(front: &mut Vec<Entry>, back: &mut Vec<Entry>)
-    ensures same { reverse front.new.items ++ back.new.items ≡ reverse front.old.items ++ back.old.items }
+    ensures same { reverse front.new.items ++ back.new.items
+        ≡ reverse front.old.items ++ back.old.items }
     ensures empty { front.new.items ≡ [] → back.new.items ≡ [] }
 {
     if front.is_empty() {
@@ -42,7 +43,8 @@ fn refill(front: &mut Vec<Entry>, back: &mut Vec<Entry>)
 
 // Takes the first entry of a front, which is its last one, and a back.
 pub(crate) fn take_first(front: &mut Vec<Entry>, back: &mut Vec<Entry>) -> Option<Entry>
-    ensures { TakesFirst (reverse front.old.items ++ back.old.items) result (reverse front.new.items ++ back.new.items) }
+    ensures { TakesFirst (reverse front.old.items ++ back.old.items) result
+        (reverse front.new.items ++ back.new.items) }
 {
     refill(front, back);
     front.pop()

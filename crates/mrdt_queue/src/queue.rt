@@ -71,7 +71,8 @@ impl Queue {
     fn has_same(&self, other: &Queue) -> bool
         requires { length self.now ≡ length other.now }
         ensures same { IsTrue result ↔ (self.now ≡ other.now) }
-        ensures spelled { flat_map (kept_spelling field) self.now ≡ flat_map (kept_spelling field) other.now → self.now ≡ other.now }
+        ensures spelled { flat_map (kept_spelling field) self.now
+            ≡ flat_map (kept_spelling field) other.now → self.now ≡ other.now }
     {
         for place in 0..self.count() {
             let mine = self.entry_at(place);
@@ -154,8 +155,10 @@ impl Queue {
 
     // The queue with a payload behind all others, where its time is after theirs. Else nothing changes.
     fn enqueued(&self, time: Time, payload: &Bytes) -> Result<Queue, Memory>
-        ensures after { IfOk result (λ queue. AllBefore (kept_times self.now) time → queue ≡ self.now ++ record { time = time; payload = payload.now } ∷ []) }
-        ensures early { IfOk result (λ queue. ¬ AllBefore (kept_times self.now) time → queue ≡ self.now) }
+        ensures after { IfOk result (λ queue. AllBefore (kept_times self.now) time
+            → queue ≡ self.now ++ record { time = time; payload = payload.now } ∷ []) }
+        ensures early { IfOk result (λ queue. ¬ AllBefore (kept_times self.now) time
+            → queue ≡ self.now) }
     {
         if !self.ends_before(time) {
             return self.shared();

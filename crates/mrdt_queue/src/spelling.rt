@@ -37,7 +37,8 @@ pub(crate) fn put_op(op: &QueueOp, out: &mut Vec<u8>) -> Result<(), Memory>
 pub(crate) fn get_op(alloc: Global, bytes: &[u8]) -> Result<QueueOp, Unread>
     ensures spelled { IfOk result (λ op. op_spelling op ≡ bytes.now) }
     ensures known { IfOk result IsOp }
-    ensures equal { IfOk result (λ op. (other : SpecOp) → IsOp other → op_spelling other ≡ bytes.now → op ≡ other) }
+    ensures equal { IfOk result (λ op. (other : SpecOp) → IsOp other → op_spelling other ≡ bytes.now
+        → op ≡ other) }
     ensures inside { OnOk result (IsOpSpelling bytes.now) }
     ensures outside { IsErrOf result Unread.NotCanonical → ¬ IsOpSpelling bytes.now }
     ensures refused { ¬ IsOpSpelling bytes.now → IsErrOf result Unread.NotCanonical }
@@ -52,7 +53,8 @@ pub(crate) fn get_op(alloc: Global, bytes: &[u8]) -> Result<QueueOp, Unread>
 // Writes a reply.
 pub(crate) fn put_reply(reply: &QueueReply, out: &mut Vec<u8>) -> Result<(), Memory>
     ensures ok { OnOk result (out.new.items ≡ out.old.items ++ reply_spelling reply.now) }
-    ensures err { OnErr result (AppendsPart out.old.items out.new.items (reply_spelling reply.now)) }
+    ensures err { OnErr result
+        (AppendsPart out.old.items out.new.items (reply_spelling reply.now)) }
 {
     match reply {
         QueueReply::Enqueued => Ok(()),
@@ -69,7 +71,8 @@ pub(crate) fn put_reply(reply: &QueueReply, out: &mut Vec<u8>) -> Result<(), Mem
 fn get_taken(alloc: Global, bytes: &[u8]) -> Result<QueueReply, Unread>
     ensures spelled { IfOk result (λ reply. reply_spelling reply ≡ 1 ∷ bytes.now) }
     ensures known { IfOk result IsReply }
-    ensures equal { IfOk result (λ reply. (other : SpecReply) → IsReply other → reply_spelling other ≡ 1 ∷ bytes.now → reply ≡ other) }
+    ensures equal { IfOk result (λ reply. (other : SpecReply) → IsReply other
+        → reply_spelling other ≡ 1 ∷ bytes.now → reply ≡ other) }
     ensures inside { OnOk result (IsReplySpelling (1 ∷ bytes.now)) }
     ensures outside { IsErrOf result Unread.NotCanonical → ¬ IsReplySpelling (1 ∷ bytes.now) }
 {
@@ -83,7 +86,8 @@ fn get_taken(alloc: Global, bytes: &[u8]) -> Result<QueueReply, Unread>
 pub(crate) fn get_reply(alloc: Global, bytes: &[u8]) -> Result<QueueReply, Unread>
     ensures spelled { IfOk result (λ reply. reply_spelling reply ≡ bytes.now) }
     ensures known { IfOk result IsReply }
-    ensures equal { IfOk result (λ reply. (other : SpecReply) → IsReply other → reply_spelling other ≡ bytes.now → reply ≡ other) }
+    ensures equal { IfOk result (λ reply. (other : SpecReply) → IsReply other
+        → reply_spelling other ≡ bytes.now → reply ≡ other) }
     ensures inside { OnOk result (IsReplySpelling bytes.now) }
     ensures outside { IsErrOf result Unread.NotCanonical → ¬ IsReplySpelling bytes.now }
 {

@@ -95,8 +95,10 @@ fn put_last(last: &Option<Kept<Shared<Bytes>>>, out: &mut Vec<u8>) -> Result<(),
 fn get_last(alloc: Global, bytes: &[u8]) -> Result<Kept<Shared<Bytes>>, Unread>
     ensures spelled { IfOk result (λ kept. time_field kept.time ++ field kept.payload ≡ bytes.now) }
     ensures known { IfOk result IsLast }
-    ensures equal { IfOk result (λ kept. (other : SpecKept (List ℕ)) → IsLast other → time_field other.time ++ field other.payload ≡ bytes.now → kept ≡ other) }
-    ensures outside { IsErrOf result Unread.NotCanonical → (other : SpecKept (List ℕ)) → IsLast other → time_field other.time ++ field other.payload ≡ bytes.now → ⊥ }
+    ensures equal { IfOk result (λ kept. (other : SpecKept (List ℕ)) → IsLast other
+        → time_field other.time ++ field other.payload ≡ bytes.now → kept ≡ other) }
+    ensures outside { IsErrOf result Unread.NotCanonical → (other : SpecKept (List ℕ))
+        → IsLast other → time_field other.time ++ field other.payload ≡ bytes.now → ⊥ }
 {
     let mut cursor = Cursor::new(bytes);
     let time = cursor.take_time()?;

@@ -28,7 +28,9 @@ pub(crate) fn is_same_parent(mine: Option<Time>, theirs: Option<Time>) -> bool
 
 // Whether two nodes are equal but for what was put.
 fn is_same_place(mine: &Node, theirs: &Node) -> bool
-    ensures same { IsTrue result ↔ ((mine.now.time ≡ theirs.now.time) × (mine.now.parent ≡ theirs.now.parent) × (mine.now.hidden ≡ theirs.now.hidden)) }
+    ensures same { IsTrue result
+        ↔ ((mine.now.time ≡ theirs.now.time) × (mine.now.parent ≡ theirs.now.parent)
+        × (mine.now.hidden ≡ theirs.now.hidden)) }
     ensures times { IsTime mine.now.time × IsTime theirs.now.time }
     ensures parents { IsReply mine.now.parent × IsReply theirs.now.parent }
 {
@@ -40,7 +42,8 @@ fn is_same_place(mine: &Node, theirs: &Node) -> bool
 // Whether two nodes are equal. Those whose spellings stand at the front of the same bytes are.
 fn is_same_node(mine: &Node, theirs: &Node) -> bool
     ensures same { IsTrue result ↔ (mine.now ≡ theirs.now) }
-    ensures spelled { (a b : List ℕ) → node_spelling mine.now ++ a ≡ node_spelling theirs.now ++ b → mine.now ≡ theirs.now }
+    ensures spelled { (a b : List ℕ) → node_spelling mine.now ++ a ≡ node_spelling theirs.now ++ b
+        → mine.now ≡ theirs.now }
 {
     is_same_place(mine, theirs) && mine.payload.same(&theirs.payload)
 }
@@ -49,7 +52,8 @@ fn is_same_node(mine: &Node, theirs: &Node) -> bool
 pub(crate) fn are_same(nodes: &[Node], others: &[Node]) -> bool
     requires { length nodes.now ≡ length others.now }
     ensures same { IsTrue result ↔ (nodes.now ≡ others.now) }
-    ensures spelled { flat_map node_spelling nodes.now ≡ flat_map node_spelling others.now → nodes.now ≡ others.now }
+    ensures spelled { flat_map node_spelling nodes.now ≡ flat_map node_spelling others.now
+        → nodes.now ≡ others.now }
 {
     for index in 0..nodes.len() {
         if !is_same_node(&nodes[index], &others[index]) {

@@ -201,7 +201,9 @@ pub(crate) fn first_behind(nodes: &[Node], place: u32) -> Option<Time>
 
 // The first node of two lists, woven, and what is left of them.
 fn next<'a>(left: &'a [Node], right: &'a [Node]) -> Option<(&'a Node, &'a [Node], &'a [Node])>
-    ensures { MatchOption result (woven left.now right.now ≡ []) (λ next. (woven left.now right.now ≡ next.0.now ∷ woven next.1.now next.2.now) × (length next.1.now + length next.2.now < length left.now + length right.now)) }
+    ensures { MatchOption result (woven left.now right.now ≡ []) (λ next.
+        (woven left.now right.now ≡ next.0.now ∷ woven next.1.now next.2.now)
+        × (length next.1.now + length next.2.now < length left.now + length right.now)) }
 {
     match (left.split_first(), right.split_first()) {
         (Some((mine, behind_mine)), Some((other, behind_other))) => {

@@ -44,7 +44,8 @@ fn take_hidden(cursor: &mut Cursor<'_>) -> Result<bool, Unread>
 fn take_node(alloc: Global, cursor: &mut Cursor<'_>) -> Result<Node, Unread>
     ensures known { IfOk result NodeFits }
     ensures ok { IfOk result (λ node. cursor.old ≡ node_spelling node ++ cursor.new) }
-    ensures outside { IsErrOf result Unread.NotCanonical → (node : SpecNode) (rest : List ℕ) → NodeFits node → cursor.old ≡ node_spelling node ++ rest → ⊥ }
+    ensures outside { IsErrOf result Unread.NotCanonical → (node : SpecNode) (rest : List ℕ)
+        → NodeFits node → cursor.old ≡ node_spelling node ++ rest → ⊥ }
 {
     let time = cursor.take_time()?;
     let parent = take_named(cursor)?;
@@ -64,7 +65,8 @@ fn take_node(alloc: Global, cursor: &mut Cursor<'_>) -> Result<Node, Unread>
 
 // The last time.
 fn last_of(path: &[Time]) -> Option<Time>
-    ensures { MatchOption result (path.now ≡ []) (λ last. (others : List SpecTime) × (path.now ≡ others ++ last ∷ [])) }
+    ensures { MatchOption result (path.now ≡ []) (λ last. (others : List SpecTime)
+        × (path.now ≡ others ++ last ∷ [])) }
 {
     match path.split_last() {
         Some((last, _)) => Some(*last),
@@ -75,7 +77,9 @@ fn last_of(path: &[Time]) -> Option<Time>
 // Takes the times that are not earlier off the end of a path. The answer is the one that is then at its end,
 // the nearest earlier one.
 fn drop_later(path: &mut Vec<Time>, time: Time) -> Option<Time>
-    ensures same { (t : SpecTime) → nearest_earlier t (time ∷ reverse path.new.items) ≡ nearest_earlier t (time ∷ reverse path.old.items) }
+    ensures same { (t : SpecTime)
+        → nearest_earlier t (time ∷ reverse path.new.items)
+        ≡ nearest_earlier t (time ∷ reverse path.old.items) }
     ensures nearest { result ≡ nearest_earlier time (reverse path.old.items) }
 {
     while let Some(last) = last_of(path) {
@@ -89,7 +93,8 @@ fn drop_later(path: &mut Vec<Time>, time: Time) -> Option<Time>
 
 // Puts a time at the end of a path, and tells the nearest earlier one.
 fn follow(path: &mut Vec<Time>, time: Time) -> Result<Option<Time>, Memory>
-    ensures { IfOk result (λ nearest. (before : List SpecTime) → IsPath path.old.items before → (nearest ≡ nearest_earlier time before) × IsPath path.new.items (time ∷ before)) }
+    ensures { IfOk result (λ nearest. (before : List SpecTime) → IsPath path.old.items before
+        → (nearest ≡ nearest_earlier time before) × IsPath path.new.items (time ∷ before)) }
 {
     let nearest = drop_later(path, time);
     path.push(time)?;
@@ -132,7 +137,8 @@ fn add(nodes: &mut Vec<Node>, node: Node) -> Result<(), Memory>
 fn take_nodes(alloc: Global, cursor: &mut Cursor<'_>) -> Result<Vec<Node>, Unread>
     ensures known { IfOk result (λ nodes. AreOrdered nodes.items) }
     ensures ok { IfOk result (λ nodes. cursor.old ≡ sequence_spelling nodes.items ++ cursor.new) }
-    ensures outside { IsErrOf result Unread.NotCanonical → (nodes : List SpecNode) (rest : List ℕ) → AreOrdered nodes → cursor.old ≡ sequence_spelling nodes ++ rest → ⊥ }
+    ensures outside { IsErrOf result Unread.NotCanonical → (nodes : List SpecNode) (rest : List ℕ)
+        → AreOrdered nodes → cursor.old ≡ sequence_spelling nodes ++ rest → ⊥ }
 {
     let count = cursor.take_u64()?;
     let mut nodes = Vec::new(alloc);
@@ -152,7 +158,8 @@ fn take_nodes(alloc: Global, cursor: &mut Cursor<'_>) -> Result<Vec<Node>, Unrea
 pub(crate) fn get_nodes(alloc: Global, bytes: &[u8]) -> Result<Vec<Node>, Unread>
     ensures spelled { IfOk result (λ nodes. sequence_spelling nodes.items ≡ bytes.now) }
     ensures known { IfOk result (λ nodes. AreNodes nodes.items) }
-    ensures equal { IfOk result (λ nodes. (others : List SpecNode) → AreNodes others → sequence_spelling others ≡ bytes.now → nodes.items ≡ others) }
+    ensures equal { IfOk result (λ nodes. (others : List SpecNode) → AreNodes others
+        → sequence_spelling others ≡ bytes.now → nodes.items ≡ others) }
     ensures inside { OnOk result (IsSequenceSpelling bytes.now) }
     ensures outside { IsErrOf result Unread.NotCanonical → ¬ IsSequenceSpelling bytes.now }
 {

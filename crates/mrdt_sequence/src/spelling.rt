@@ -37,8 +37,11 @@ pub(crate) fn put_named(time: Option<Time>, out: &mut Vec<u8>) -> Result<(), Mem
 
 // Writes a byte that tells whether a node is hidden, and its payload.
 fn put_payload(node: &Node, out: &mut Vec<u8>) -> Result<(), Memory>
-    ensures ok { OnOk result (out.new.items ≡ out.old.items ++ (hidden_field node.now.hidden ++ field node.now.payload)) }
-    ensures err { OnErr result (AppendsPart out.old.items out.new.items (hidden_field node.now.hidden ++ field node.now.payload)) }
+    ensures ok { OnOk result (out.new.items
+        ≡ out.old.items ++ (hidden_field node.now.hidden ++ field node.now.payload)) }
+    ensures err { OnErr result
+        (AppendsPart out.old.items out.new.items
+        (hidden_field node.now.hidden ++ field node.now.payload)) }
 {
     out.push(node.hidden as u8)?;
     put_bytes(node.payload.get().as_slice(), out)
@@ -46,8 +49,12 @@ fn put_payload(node: &Node, out: &mut Vec<u8>) -> Result<(), Memory>
 
 // Writes a node's parent, and what follows it.
 fn put_rest(node: &Node, out: &mut Vec<u8>) -> Result<(), Memory>
-    ensures ok { OnOk result (out.new.items ≡ out.old.items ++ (named_time node.now.parent ++ (hidden_field node.now.hidden ++ field node.now.payload))) }
-    ensures err { OnErr result (AppendsPart out.old.items out.new.items (named_time node.now.parent ++ (hidden_field node.now.hidden ++ field node.now.payload))) }
+    ensures ok { OnOk result (out.new.items
+        ≡ out.old.items ++ (named_time node.now.parent ++ (hidden_field node.now.hidden ++ field
+        node.now.payload))) }
+    ensures err { OnErr result
+        (AppendsPart out.old.items out.new.items
+        (named_time node.now.parent ++ (hidden_field node.now.hidden ++ field node.now.payload))) }
 {
     put_named(node.parent, out)?;
     put_payload(node, out)
@@ -65,7 +72,8 @@ fn put_node(node: &Node, out: &mut Vec<u8>) -> Result<(), Memory>
 // Writes the number of the nodes, and the nodes in order.
 pub(crate) fn put_nodes(nodes: &[Node], out: &mut Vec<u8>) -> Result<(), Memory>
     ensures ok { OnOk result (out.new.items ≡ out.old.items ++ sequence_spelling nodes.now) }
-    ensures err { OnErr result (AppendsPart out.old.items out.new.items (sequence_spelling nodes.now)) }
+    ensures err { OnErr result
+        (AppendsPart out.old.items out.new.items (sequence_spelling nodes.now)) }
 {
     put_u64(nodes.len() as u64, out)?;
     for node in nodes {
@@ -96,7 +104,8 @@ pub(crate) fn put_op(op: &SequenceOp, out: &mut Vec<u8>) -> Result<(), Memory>
 fn get_insert(alloc: Global, bytes: &[u8]) -> Result<SequenceOp, Unread>
     ensures spelled { IfOk result (λ op. op_spelling op ≡ 1 ∷ bytes.now) }
     ensures known { IfOk result IsOp }
-    ensures equal { IfOk result (λ op. (other : SpecOp) → IsOp other → op_spelling other ≡ 1 ∷ bytes.now → op ≡ other) }
+    ensures equal { IfOk result (λ op. (other : SpecOp) → IsOp other
+        → op_spelling other ≡ 1 ∷ bytes.now → op ≡ other) }
     ensures inside { OnOk result (IsOpSpelling (1 ∷ bytes.now)) }
     ensures outside { IsErrOf result Unread.NotCanonical → ¬ IsOpSpelling (1 ∷ bytes.now) }
 {
@@ -110,7 +119,8 @@ fn get_insert(alloc: Global, bytes: &[u8]) -> Result<SequenceOp, Unread>
 fn get_delete(bytes: &[u8]) -> Result<SequenceOp, Unread>
     ensures spelled { IfOk result (λ op. op_spelling op ≡ 2 ∷ bytes.now) }
     ensures known { IfOk result IsOp }
-    ensures equal { IfOk result (λ op. (other : SpecOp) → IsOp other → op_spelling other ≡ 2 ∷ bytes.now → op ≡ other) }
+    ensures equal { IfOk result (λ op. (other : SpecOp) → IsOp other
+        → op_spelling other ≡ 2 ∷ bytes.now → op ≡ other) }
     ensures inside { OnOk result (IsOpSpelling (2 ∷ bytes.now)) }
     ensures outside { IsErrOf result Unread.NotCanonical → ¬ IsOpSpelling (2 ∷ bytes.now) }
 {
@@ -127,7 +137,8 @@ fn get_delete(bytes: &[u8]) -> Result<SequenceOp, Unread>
 pub(crate) fn get_op(alloc: Global, bytes: &[u8]) -> Result<SequenceOp, Unread>
     ensures spelled { IfOk result (λ op. op_spelling op ≡ bytes.now) }
     ensures known { IfOk result IsOp }
-    ensures equal { IfOk result (λ op. (other : SpecOp) → IsOp other → op_spelling other ≡ bytes.now → op ≡ other) }
+    ensures equal { IfOk result (λ op. (other : SpecOp) → IsOp other → op_spelling other ≡ bytes.now
+        → op ≡ other) }
     ensures inside { OnOk result (IsOpSpelling bytes.now) }
     ensures outside { IsErrOf result Unread.NotCanonical → ¬ IsOpSpelling bytes.now }
 {
@@ -142,7 +153,8 @@ pub(crate) fn get_op(alloc: Global, bytes: &[u8]) -> Result<SequenceOp, Unread>
 fn get_named(bytes: &[u8]) -> Result<Option<Time>, Unread>
     ensures spelled { IfOk result (λ reply. named_time reply ≡ 1 ∷ bytes.now) }
     ensures known { IfOk result IsReply }
-    ensures equal { IfOk result (λ reply. (other : Option SpecTime) → IsReply other → named_time other ≡ 1 ∷ bytes.now → reply ≡ other) }
+    ensures equal { IfOk result (λ reply. (other : Option SpecTime) → IsReply other
+        → named_time other ≡ 1 ∷ bytes.now → reply ≡ other) }
     ensures inside { OnOk result (IsReplySpelling (1 ∷ bytes.now)) }
     ensures outside { IsErrOf result Unread.NotCanonical → ¬ IsReplySpelling (1 ∷ bytes.now) }
 {
@@ -159,7 +171,8 @@ fn get_named(bytes: &[u8]) -> Result<Option<Time>, Unread>
 pub(crate) fn get_reply(bytes: &[u8]) -> Result<Option<Time>, Unread>
     ensures spelled { IfOk result (λ reply. named_time reply ≡ bytes.now) }
     ensures known { IfOk result IsReply }
-    ensures equal { IfOk result (λ reply. (other : Option SpecTime) → IsReply other → named_time other ≡ bytes.now → reply ≡ other) }
+    ensures equal { IfOk result (λ reply. (other : Option SpecTime) → IsReply other
+        → named_time other ≡ bytes.now → reply ≡ other) }
     ensures inside { OnOk result (IsReplySpelling bytes.now) }
     ensures outside { IsErrOf result Unread.NotCanonical → ¬ IsReplySpelling bytes.now }
 {

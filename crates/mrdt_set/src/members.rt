@@ -90,7 +90,8 @@ fn some_new(alloc: Global, times: Live<()>) -> Result<Option<Times>, Memory>
 
 // The same times, where there are some.
 fn some_shared(times: Option<&Times>) -> Result<Option<Times>, Memory>
-    ensures some { IfOk result (λ shared. shared ≡ some_times (all_times (option_copied times.entry))) }
+    ensures some { IfOk result (λ shared.
+        shared ≡ some_times (all_times (option_copied times.entry))) }
     ensures rising { IsRising (kept_times (all_times (option_copied times.entry))) }
 {
     match times {

@@ -135,7 +135,8 @@ fn index_key<X: Entry>(
 ) -> Result<(), Memory>
     requires { IsIndex X.key_of entries.now index.old }
     ensures kept { IsIndex X.key_of entries.now index.new }
-    ensures next { OnOk result ((next : X) → X.key_of next ≡ Some key → IsIndex X.key_of (entries.now ++ next ∷ []) index.new) }
+    ensures next { OnOk result ((next : X) → X.key_of next ≡ Some key
+        → IsIndex X.key_of (entries.now ++ next ∷ []) index.new) }
 {
     if find_place(index, entries, key).is_some() {
         return Ok(());

@@ -35,9 +35,12 @@ impl<X: Entry> Model for Chunks<X> {
 
     ghost Value = { List X };
 
-    ghost view = { λ c. joined (map arc_value c.full.items) ++ take c.rest (entries_of (option_map arc_value c.last)) };
+    ghost view = { λ c.
+        joined (map arc_value c.full.items) ++ take c.rest
+        (entries_of (option_map arc_value c.last)) };
 
-    ghost invariant = { λ c. IsChunked (map arc_value c.full.items) (option_map arc_value c.last) c.rest };
+    ghost invariant = { λ c.
+        IsChunked (map arc_value c.full.items) (option_map arc_value c.last) c.rest };
 }
 
 impl<X: Entry> Chunks<X> {
@@ -166,7 +169,8 @@ impl<X: Entry> Chunks<X> {
         steps: &mut Steps<L>,
     ) -> Result<(), Memory>
         requires { count ≤ length (entries_of (option_map arc_value last.now)) }
-        ensures pushed { OnOk result (self.new ≡ self.old ++ take count (entries_of (option_map arc_value last.now))) }
+        ensures pushed { OnOk result
+            (self.new ≡ self.old ++ take count (entries_of (option_map arc_value last.now))) }
         ensures steps { steps.new ≤ steps.old + count }
     {
         if let Some(chunk) = last {
@@ -200,8 +204,11 @@ fn chunk_at<'a, X: Entry>(
     last: &'a Option<Arc<Chunk<X>>>,
     index: usize,
 ) -> &'a Chunk<X>
-    requires { index < length (map arc_value full.now ++ option_to_list (option_map arc_value last.now)) }
-    ensures { slice_get (map arc_value full.now ++ option_to_list (option_map arc_value last.now)) index ≡ Some result.now }
+    requires { index
+        < length (map arc_value full.now ++ option_to_list (option_map arc_value last.now)) }
+    ensures { slice_get
+        (map arc_value full.now ++ option_to_list (option_map arc_value last.now)) index
+        ≡ Some result.now }
 {
     if index < full.len() {
         return &full[index];
@@ -212,8 +219,10 @@ fn chunk_at<'a, X: Entry>(
 // The place of an entry with this key among the first entries of a chunk that may be there, if one of these has it.
 fn find_last<X: Entry>(last: &Option<Arc<Chunk<X>>>, key: (u32, u32), count: usize) -> Option<usize>
     requires { count ≤ length (entries_of (option_map arc_value last.now)) }
-    ensures has { IfSome result (λ n. HasKey X.key_of (take count (entries_of (option_map arc_value last.now))) n key) }
-    ensures none { IfNone result ((n : ℕ) → ¬ HasKey X.key_of (take count (entries_of (option_map arc_value last.now))) n key) }
+    ensures has { IfSome result (λ n.
+        HasKey X.key_of (take count (entries_of (option_map arc_value last.now))) n key) }
+    ensures none { IfNone result ((n : ℕ)
+        → ¬ HasKey X.key_of (take count (entries_of (option_map arc_value last.now))) n key) }
 {
     match last {
         Some(chunk) => chunk.find(key, count),
@@ -246,8 +255,10 @@ fn add_entry<X: Entry>(
     entry: X,
 ) -> Result<(), Memory>
     requires { rest ≤ length (entries_of (option_map arc_value last.old)) }
-    ensures added { OnOk result (option_map arc_value last.new ≡ Some (take rest (entries_of (option_map arc_value last.old)) ++ entry ∷ [])) }
-    ensures kept { OnErr result (take rest (entries_of (option_map arc_value last.new)) ≡ take rest (entries_of (option_map arc_value last.old))) }
+    ensures added { OnOk result (option_map arc_value last.new
+        ≡ Some (take rest (entries_of (option_map arc_value last.old)) ++ entry ∷ [])) }
+    ensures kept { OnErr result (take rest (entries_of (option_map arc_value last.new))
+        ≡ take rest (entries_of (option_map arc_value last.old))) }
     ensures there { OnErr result (rest ≤ length (entries_of (option_map arc_value last.new))) }
 {
     match last {
@@ -262,8 +273,10 @@ fn add_entry<X: Entry>(
 // The same for a chunk that another may share: then it is copied first.
 fn add_to_shared<X: Entry>(chunk: &mut Arc<Chunk<X>>, rest: usize, entry: X) -> Result<(), Memory>
     requires { rest ≤ length (arc_value chunk.old) }
-    ensures added { OnOk result (arc_value chunk.new ≡ take rest (arc_value chunk.old) ++ entry ∷ []) }
-    ensures kept { OnErr result (take rest (arc_value chunk.new) ≡ take rest (arc_value chunk.old)) }
+    ensures added { OnOk result (arc_value chunk.new
+        ≡ take rest (arc_value chunk.old) ++ entry ∷ []) }
+    ensures kept { OnErr result (take rest (arc_value chunk.new)
+        ≡ take rest (arc_value chunk.old)) }
     ensures there { OnErr result (rest ≤ length (arc_value chunk.new)) }
 {
     let own = Arc::make_mut(chunk)?;

@@ -62,7 +62,8 @@ pub fn value_at_all_kept<T: Mrdt, L: Ledger>(
     ensures keeps { OnOk result (KeepsSeveral memo.new (maximal_at nodes.now commits.now)) }
     ensures held { Holds memo.old (maximal_at nodes.now commits.now) → steps.new ≡ steps.old }
     ensures few { length (maximal_at nodes.now commits.now) ≤ 1 → steps.new ≡ steps.old }
-    ensures merged { AreParents nodes.now.graph.commits (maximal_at nodes.now commits.now) → steps.new ≡ steps.old }
+    ensures merged { AreParents nodes.now.graph.commits (maximal_at nodes.now commits.now)
+        → steps.new ≡ steps.old }
 {
     let maximal = nodes.maximal(commits)?;
     fold_kept(nodes, maximal, memo, steps)
