@@ -16,9 +16,11 @@ pub mod laws;
 mod names;
 mod reading;
 mod record;
+mod spelling;
 
 pub use joined::Joined;
 pub use journal::{AppendRefused, Journal};
 pub use kinds::{KindRefused, kind};
 pub use reading::{ReadAllRefused, Stop, read_all};
 pub use record::Record;
+pub use spelling::{put_header, put_record};
