@@ -6,6 +6,7 @@ pub mod Held
 pub mod Read
 pub mod Parted
 pub mod Steps
+pub mod Received
 pub mod Looked
 pub mod Remade
 pub mod Walked

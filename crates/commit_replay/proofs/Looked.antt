@@ -91,8 +91,8 @@ may-by fixed moves r q may is room known suits =
 le-last : {n : ℕ} → n ≤ 8 → n ≤ last_in version
 le-last le = le
 
-pub known-by : (r : Record) → (fields_of r).kind ≤ 8 → ((fields_of r).kind ≡ 6 → ⊥) → IsKnown r
-known-by r le other = record { within = le-last le; made_here = other }
+pub known-by : (r : Record) → (fields_of r).kind ≤ 8 → IsKnown r
+known-by r le = record { within = le-last le }
 
 -- a record of an unknown kind may not
 pub may-not : {S O R Q A : Type 0} (fixed : Fixed S O R Q A) (moves : List (Move O R)) (r q : Record) → q ≡ r → (IsKnown r → ⊥) → IsTrue false ↔ MayCome fixed moves q

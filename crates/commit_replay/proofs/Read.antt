@@ -25,7 +25,7 @@ use Rattle.branch_machine.proofs.Valid.{valid-none}
 use Rattle.branch_files.specs.Records.{records_after, records_of, header_in, history_text, gate_of}
 use Rattle.branch_files.specs.Stands.{Spans}
 use Rattle.branch_files.specs.Next.{IsNext}
-use Rattle.branch_files.specs.Reading.{Answer, Opens, NotAStore, BadRecord, BadObject, BadCommit, Truncated, EndsWith, IsNoStoreIn, ReadsIn}
+use Rattle.branch_files.specs.Reading.{Answer, Opens, NotAStore, BadRecord, BadObject, BadCommit, Truncated, EndsWith, ReadsIn, IsNoStoreInOf, ReadsInOf}
 use Rattle.branch_files.proofs.Longer.{begins-more, none-known}
 use Rattle.branch_files.proofs.Next.{next-record}
 use Rattle.branch_files.proofs.Limited.{terms-same_in}
@@ -61,8 +61,11 @@ module _ {S O R Q A : Type 0} (form : Form) (m : Meaning S O R Q A) (address : L
         long = omega (arith, gate, length-append (header_fields header) (open_records records), length-header_fields header);
       }
 
-  pub no_header : heads.HasNone form.version form.kind files.heads → ReadsIn form m address files NotAStore
+  pub no_header : ((terms : Terms) → HasHeader (header_in form terms) files.heads → ⊥) → ReadsIn form m address files NotAStore
   no_header none = inl (refl, λ terms fits spans. none terms (headed terms fits spans))
+
+  pub no_header_of : (kind : ℕ) → heads.HasNone form.version kind files.heads → ReadsInOf form kind m address files NotAStore
+  no_header_of kind none = inl (refl, λ terms is fits spans. none terms is (headed terms fits spans))
 
   module _ (terms : Terms) (has : HasHeader (header_in form terms) files.heads) where
     abbrev own_fixed : FixedIn form S O R Q A
@@ -110,8 +113,8 @@ module _ {S O R Q A : Type 0} (form : Form) (m : Meaning S O R Q A) (terms : Ter
     abbrev spanned : Spans fixed moves files
     spanned = spans fixed moves records files holds follows
 
-    ends : (a : Answer O R) → EndsWith fixed moves files a → ReadsIn form m address files a
-    ends a ending = inr (terms, moves, fits, spanned, ending)
+    ends : (a : Answer O R) → EndsWith fixed moves files a → ReadsInOf form terms.kind m address files a
+    ends a ending = inr (terms, moves, refl, fits, spanned, ending)
 
     -- behind a history of all the records
     module _ (all : records_of fixed moves ≡ records) where
@@ -136,30 +139,30 @@ module _ {S O R Q A : Type 0} (form : Form) (m : Meaning S O R Q A) (terms : Ter
         shut = λ is. shut.shut (get_or-drop gate files.heads 0 0 ∙ ap (λ (k : ℕ). get_or files.heads k 0) (omega arith) ∙ is);
       }
 
-      stopped : (part : Part) (place : ℕ) → part ≡ Heads → place ≡ gate → IsOpen (drop gate files.heads) → length (drop gate files.heads) < 65 → ReadsIn form m address files (Truncated part place)
+      stopped : (part : Part) (place : ℕ) → part ≡ Heads → place ≡ gate → IsOpen (drop gate files.heads) → length (drop gate files.heads) < 65 → ReadsInOf form terms.kind m address files (Truncated part place)
       stopped part place is at opens less =
-          subst (λ (p : Part). ReadsIn form m address files (Truncated p place)) (sym is)
+          subst (λ (p : Part). ReadsInOf form terms.kind m address files (Truncated p place)) (sym is)
           (ends (Truncated Heads place) (at, opens, omega (arith, less, length-drop gate files.heads)))
 
       none-next : heads_reading.IsBad form.version (drop gate files.heads) → (r : Record) → IsNext fixed moves files.heads r → ⊥
       none-next bad r next = bad r (next-record fixed moves files.heads r next) (ap (take 63) (drop-drop 1 gate files.heads) ∙ next.spelled)
 
-      stops : (stop : Option Stop) → StopsAt form.version (drop gate files.heads) (length records + 1) stop → ReadsIn form m address files (answer_of terms moves stop)
+      stops : (stop : Option Stop) → StopsAt form.version (drop gate files.heads) (length records + 1) stop → ReadsInOf form terms.kind m address files (answer_of terms moves stop)
       stops None shut = ends (Opens terms moves) (refl, refl, shut-at shut)
       stops (Some (stop.Truncated part place)) (is, at, opens, less) = stopped part place is (at ∙ sym place-is) opens less
       stops (Some (stop.BadRecord bad)) (at, opens, long, none) =
           ends (BadRecord bad)
           (at ∙ ap (λ (k : ℕ). k + 1) count-is, record { gate = opens; long = let more = long in let there = spanned.gate in omega (arith, length-drop gate files.heads) }, none-next none)
 
-      pub stops-so : (stop : Option Stop) → StopsAt form.version (drop (length (heads_text (header_in form terms) records)) files.heads) (length records + 1) stop → ReadsIn form m address files (answer_of terms moves stop)
+      pub stops-so : (stop : Option Stop) → StopsAt form.version (drop (length (heads_text (header_in form terms) records)) files.heads) (length records + 1) stop → ReadsInOf form terms.kind m address files (answer_of terms moves stop)
       stops-so stop is = stops stop (subst (λ (rest : List ℕ). StopsAt form.version rest (length records + 1) stop) rest-is is)
 
   -- a history with other terms has another header
-  no_store : (Spans fixed [] files → ⊥) → IsNoStoreIn form m address files
-  no_store none other other_fits other_spans =
+  no_store : (Spans fixed [] files → ⊥) → IsNoStoreInOf form terms.kind m address files
+  no_store none other is other_fits other_spans =
       none (subst (λ (l : Terms). Spans (fix_in form m l address) [] files) (terms-same_in form other terms (records_of (fix_in form m other address) []) records files.heads other_fits fits other_spans.heads holds.text) other_spans)
 
-  pub refuses-so : (refusal : ReplayRefused) → ReplayRefusedAs fixed records files.objects refusal → ReadsAsRefused form m address files refusal
+  pub refuses-so : (refusal : ReplayRefused) → ReplayRefusedAs fixed records files.objects refusal → ReadsAsRefused form terms.kind m address files refusal
   refuses-so refused.NotAStore none = inl (refl, no_store (λ spanned. none spanned.objects))
   refuses-so refused.Memory is = tt
   refuses-so (refused.BadRecord number) (moves, follows, (r, comes, (at, none))) =

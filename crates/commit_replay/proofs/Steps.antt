@@ -214,7 +214,7 @@ module _ {S O R Q A : Type 0} (fixed : Fixed S O R Q A) (moves : List (Move O R)
   abbrev behind : List ℕ
   behind = 1 ∷ (record_fields r ++ 0 ∷ [])
 
-  abbrev files : Files
+  abbrev pub files : Files
   files = record { objects = objects; heads = text ++ behind }
 
   spanned : Spans fixed moves files
@@ -233,7 +233,7 @@ module _ {S O R Q A : Type 0} (fixed : Fixed S O R Q A) (moves : List (Move O R)
     suits = may.suits;
   }
 
-  spans-more : (m : Move O R) → IsFullMove fixed moves m → record_of fixed moves m ≡ r → region fixed moves m ≡ bytes_behind fixed moves objects r → Spans fixed (moves ++ m ∷ []) files
+  pub spans-more : (m : Move O R) → IsFullMove fixed moves m → record_of fixed moves m ≡ r → region fixed moves m ≡ bytes_behind fixed moves objects r → Spans fixed (moves ++ m ∷ []) files
   spans-more m full same is = grown fixed files moves spanned r m next full same is
 
   module _ (laws : KeepsLaws fixed.meaning) (size : HasSize fixed.address) (short : HasLength64 objects) where
@@ -271,16 +271,16 @@ module _ {S O R Q A : Type 0} (fixed : Fixed S O R Q A) (moves : List (Move O R)
   abbrev before : List ℕ
   before = objects_text fixed moves
 
-  abbrev whole : List ℕ
+  abbrev pub whole : List ℕ
   whole = before ++ bytes
 
-  starts : Begins before whole
+  pub starts : Begins before whole
   starts = take-append_seam before bytes
 
-  whole-short : HasLength64 whole
+  pub whole-short : HasLength64 whole
   whole-short = let small = fits.0.end in omega (arith, length-append before bytes, long, end-field r, small)
 
-  behind-is : bytes_behind fixed moves whole r ≡ bytes
+  pub behind-is : bytes_behind fixed moves whole r ≡ bytes
   behind-is =
       ap (take (end_at r - end_of fixed moves)) (drop-append_seam before bytes) ∙ take_all (end_at r - end_of fixed moves) bytes (omega (arith, long))
 
@@ -410,7 +410,7 @@ module _ {S O R Q A : Type 0} (fixed : Fixed S O R Q A) (moves : List (Move O R)
       dropped b end is_r made.0 made.1 made.2 (made.3 ∙ behind-is)
 
   -- what the step of a plan does not remake, the machine does not make
-  planned-not : (q : Record) → r ≡ q → (action : Action) (p : Plan O) → IsPlanOf fixed.meaning q action p → (value : Option (List ℕ)) (c : CommitFields) → AreParts bytes value c → IsOfType fixed.meaning value → c.action ≡ action → (Remakes fixed moves (step_for fixed.terms moves p) r bytes → ⊥) → IsMade fixed moves r bytes → ⊥
+  pub planned-not : (q : Record) → r ≡ q → (action : Action) (p : Plan O) → IsPlanOf fixed.meaning q action p → (value : Option (List ℕ)) (c : CommitFields) → AreParts bytes value c → IsOfType fixed.meaning value → c.action ≡ action → (Remakes fixed moves (step_for fixed.terms moves p) r bytes → ⊥) → IsMade fixed moves r bytes → ⊥
   planned-not (Operation b address end) is_r (wire.Operation spelling told) (plan.Operation branch op) (same, known, one) value c are inside does none made =
       not-operated op spelling told one value c are inside does b address end is_r
       (λ again. none (subst (λ (x : ℕ). Remakes fixed moves (machine.Land x (head_of t.branches x) op) r bytes) (sym same) again)) made
@@ -445,10 +445,10 @@ module _ {S O R Q A : Type 0} (fixed : Fixed S O R Q A) (moves : List (Move O R)
   planned-not (Join b ks end) is_r wire.Merge (plan.Merge branch commit) none-planned value c are inside does none made = absurd none-planned
 
   -- why bytes were refused, of which these parts were read
-  pub why-refused : (p : Plan O) (value : Option (List ℕ)) (c : CommitFields) (action : Action) → IsPlanOf fixed.meaning r action p → AreParts bytes value c → c.action ≡ action → Does fixed r action → (Remakes fixed moves (step_for fixed.terms moves p) r bytes → ⊥) → (why : NotRemade) → IsWhyNot fixed.meaning value why → NotRemadeAs fixed moves r bytes why
-  why-refused p value c action planned are does done none unmade.Object inside = not-valued fixed r bytes value c are inside
-  why-refused p value c action planned are does done none unmade.Commit inside = (parts-shape fixed r bytes value c are inside (subst (Does fixed r) (sym does) done) (λ one. absurd (omega (arith, one))), planned-not r refl action p planned value c are inside does none)
-  why-refused p value c action planned are does done none unmade.Memory inside = tt
+  pub why-not-made : (value : Option (List ℕ)) (c : CommitFields) (action : Action) → AreParts bytes value c → c.action ≡ action → Does fixed r action → (IsOfType fixed.meaning value → IsMade fixed moves r bytes → ⊥) → (why : NotRemade) → IsWhyNot fixed.meaning value why → NotRemadeAs fixed moves r bytes why
+  why-not-made value c action are does done none unmade.Object inside = not-valued fixed r bytes value c are inside
+  why-not-made value c action are does done none unmade.Commit inside = (parts-shape fixed r bytes value c are inside (subst (Does fixed r) (sym does) done) (λ one. absurd (omega (arith, one))), none inside)
+  why-not-made value c action are does done none unmade.Memory inside = tt
 
 -- bytes that are not read are refused for it
 pub why-unread : {S O R Q A : Type 0} {form : Form} (fixed : FixedIn form S O R Q A) (moves : List (Move O R)) (r : Record) (bytes : List ℕ) (why : Unread) → (why ≡ unread.NotCanonical → HasShape fixed r bytes → ⊥) → NotRemadeAs fixed moves r bytes (unread_as why)

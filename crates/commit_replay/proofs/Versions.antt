@@ -34,14 +34,14 @@ last-few version = at (version == 1)
 
 -- a record that is known today, and is one of the version, is known in it; and what is known in the version is known today
 pub known-in : (version : ℕ) (r : Record) → IsRecord version r → IsKnown r → IsKnownIn version r
-known-in version r is known = record { within = at (version == 1) (eqb-true version 1); made_here = known.made_here }
+known-in version r is known = record { within = at (version == 1) (eqb-true version 1) }
   where
     at : (old : Bool) → (old ≡ true → version ≡ 1) → (fields_of r).kind ≤ cond old 4 8
     at true one = is.1 (one refl)
     at false one = known.within
 
 pub known-out : (version : ℕ) (r : Record) → IsKnownIn version r → IsKnown r
-known-out version r known = record { within = let most = last-few version in let few = known.within in omega (arith, most, few); made_here = known.made_here }
+known-out version r known = record { within = let most = last-few version in let few = known.within in omega (arith, most, few) }
 
 module _ {S O R Q A : Type 0} (m : Meaning S O R Q A) (terms : Terms) (address : List ℕ → List ℕ) (version : ℕ) where
   abbrev today : Fixed S O R Q A

@@ -11,9 +11,9 @@ use Rattle.branch_machine.specs.Validity.{IsFullyValid}
 use Rattle.branch_files.specs.Records.{record_of, records_of, IsKnownIn, AreKnown}
 use Rattle.branch_files.specs.Next.{Suits}
 
--- the form of the files of a version, whose values are of the kind 0
+-- the form of the files of a version
 abbrev pub form_of : ℕ → Form
-form_of version = record { version = version; kind = 0 }
+form_of version = record { version = version }
 
 -- the first records are those of a valid history, all of known kinds, and the objects begin with its objects
 pub record Follows {S O R Q A : Type 0} {form : Form} (fixed : FixedIn form S O R Q A) (moves : List (Move O R)) (records : List Record) (objects : List ℕ) : Type 0 where

@@ -27,10 +27,12 @@ pub record AreParts (bytes : List ℕ) (value : Option (List ℕ)) (c : CommitFi
   pub commit : IsCommit c
   pub whole : bytes ≡ value_text value ++ commit_object c
 
--- the commit's object does this, and has so many parents
+-- the commit's object does this, and has so many parents and this address of its value
 pub record IsDoneIn (bytes : List ℕ) (parts : Parts) : Type 0 where
   pub commit : CommitFields
+  pub placed : length (value_text parts.value) ≡ parts.place
   pub counted : length commit.parents ≡ parts.parents
+  pub addressed : commit.value ≡ parts.address
   pub does : commit.action ≡ parts.action
   pub are : AreParts bytes parts.value commit
 

@@ -16,9 +16,14 @@ pub fn are_brought<T: Mrdt, A: Address>(
     commits: &[u32],
 ) -> Result<bool, Memory>
     requires settled { recorded.now.pending ≡ [] }
-    requires head { head < length (store_of recorded.now.terms.origin recorded.now.written).commits }
-    requires there { All (λ n. n < length (store_of recorded.now.terms.origin recorded.now.written).commits) commits.now }
-    ensures { IfOk result (λ all. IsTrue all ↔ (merging.brought (graph_of (store_of recorded.now.terms.origin recorded.now.written).commits) head commits.now ≡ commits.now)) }
+    requires head { head
+        < length (store_of recorded.now.terms.origin recorded.now.written).commits }
+    requires there { All (λ n.
+        n < length (store_of recorded.now.terms.origin recorded.now.written).commits) commits.now }
+    ensures { IfOk result (λ all. IsTrue all
+        ↔ (merging.brought
+        (graph_of (store_of recorded.now.terms.origin recorded.now.written).commits) head
+        commits.now ≡ commits.now)) }
 {
     for place in 0..commits.len() {
         if !is_brought(recorded, head, commits, place)? {
@@ -36,10 +41,14 @@ fn is_brought<T: Mrdt, A: Address>(
     place: usize,
 ) -> Result<bool, Memory>
     requires settled { recorded.now.pending ≡ [] }
-    requires head { head < length (store_of recorded.now.terms.origin recorded.now.written).commits }
-    requires there { All (λ n. n < length (store_of recorded.now.terms.origin recorded.now.written).commits) commits.now }
+    requires head { head
+        < length (store_of recorded.now.terms.origin recorded.now.written).commits }
+    requires there { All (λ n.
+        n < length (store_of recorded.now.terms.origin recorded.now.written).commits) commits.now }
     requires place { place < length commits.now }
-    ensures { IfOk result (λ is. IsTrue is ↔ IsBroughtAt (graph_of (store_of recorded.now.terms.origin recorded.now.written).commits) head commits.now place) }
+    ensures { IfOk result (λ is. IsTrue is
+        ↔ IsBroughtAt (graph_of (store_of recorded.now.terms.origin recorded.now.written).commits)
+        head commits.now place) }
 {
     let commit = commits[place];
     if commits[..place].contains(&commit) || recorded.reaches(head, commit)? {
@@ -55,9 +64,14 @@ fn is_below<T: Mrdt, A: Address>(
     commit: u32,
 ) -> Result<bool, Memory>
     requires settled { recorded.now.pending ≡ [] }
-    requires there { All (λ n. n < length (store_of recorded.now.terms.origin recorded.now.written).commits) commits.now }
-    requires stands { commit < length (store_of recorded.now.terms.origin recorded.now.written).commits }
-    ensures { IfOk result (λ below. below ≡ merging.is_below (graph_of (store_of recorded.now.terms.origin recorded.now.written).commits) commits.now commit) }
+    requires there { All (λ n.
+        n < length (store_of recorded.now.terms.origin recorded.now.written).commits) commits.now }
+    requires stands { commit
+        < length (store_of recorded.now.terms.origin recorded.now.written).commits }
+    ensures { IfOk result (λ below.
+        below ≡ merging.is_below
+        (graph_of (store_of recorded.now.terms.origin recorded.now.written).commits) commits.now
+        commit) }
 {
     for other in commits {
         if *other != commit && recorded.reaches(*other, commit)? {

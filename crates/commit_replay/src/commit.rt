@@ -1,16 +1,18 @@
 // One record of a move that makes a commit, with the bytes of its objects.
-ghost use Rattle.std.specs.Prelude.{◌≡◌, ◌↔◌, ◌+◌, ◌≤◌, [], length, IfErr, IsTrue, OnOk};
+ghost use Rattle.std.specs.Prelude.{◌≡◌, ◌↔◌, ◌+◌, ◌≤◌, [], length, IfErr, IfOk, IfSome, IsTrue, OnOk};
+ghost use Rattle.branch_history.specs.History.{store_of};
 ghost use Rattle.branch_machine.specs.Fixed.{fix, fix_in};
 ghost use Rattle.branch_machine.specs.Objects.{end_of};
 ghost use Rattle.branch_files.specs.Next.{end_at};
 ghost use Rattle.branch_files.specs.Records.{AreKnown};
 ghost use Rattle.heads_journal.specs.Format.{Fits};
 ghost use Rattle.commit_replay.specs.Follows.{form_of, MayCome};
-ghost use Rattle.commit_replay.specs.Parts.{IsWhyNot, unread_as};
-ghost use Rattle.commit_replay.specs.Walk.{GoesOn, NotRemadeAs};
+ghost use Rattle.commit_replay.specs.Parts.{IsDoneIn, IsWhyNot, unread_as};
+ghost use Rattle.commit_replay.specs.Walk.{GoesOn, HasPlan, MadeAnew, NotRemadeAs};
 
-use crate::parts::parted;
-use crate::plan::planned;
+use crate::parts::{Parts, parted};
+use crate::plan::{Plan, planned};
+use crate::receive::receive;
 use crate::remake::remake;
 use branch_address::Address;
 use heads_journal::Record;
@@ -63,9 +65,13 @@ pub fn remake_commit<T: Mrdt, A: Address>(
     requires settled { recorded.old.pending ≡ [] }
     requires known { AreKnown (fix T.meaning recorded.old.terms A.address) recorded.old.written }
     requires fits { Fits next.now }
-    requires may { MayCome (fix T.meaning recorded.old.terms A.address) recorded.old.written next.now }
-    requires long { end_of (fix T.meaning recorded.old.terms A.address) recorded.old.written + length bytes.now ≡ end_at next.now }
-    ensures went { OnOk result (GoesOn (fix T.meaning recorded.old.terms A.address) recorded.old recorded.new next.now bytes.now) }
+    requires may { MayCome (fix T.meaning recorded.old.terms A.address) recorded.old.written
+        next.now }
+    requires long { end_of (fix T.meaning recorded.old.terms A.address)
+        recorded.old.written + length bytes.now ≡ end_at next.now }
+    ensures went { OnOk result
+        (GoesOn (fix T.meaning recorded.old.terms A.address) recorded.old recorded.new next.now
+        bytes.now) }
     ensures not { let own = fix_in (form_of version) T.meaning recorded.old.terms A.address in
         IfErr result (NotRemadeAs own recorded.old.written next.now bytes.now) }
 {
@@ -81,10 +87,34 @@ pub fn remake_commit<T: Mrdt, A: Address>(
         Ok(plan) => plan,
         Err(why) => return Err(unread(why)),
     };
-    match remake(recorded, plan, next, bytes) {
+    match made_anew(alloc, recorded, plan, &parts, next, bytes) {
         Ok(true) => Ok(()),
         Ok(false) => Err(why_not::<T>(alloc, &parts.value)),
         Err(Memory) => Err(NotRemade::Memory),
+    }
+}
+
+// Makes the move of a plan, and without one the move that receives the commit of these parts, where it has this record
+// and this region.
+fn made_anew<T: Mrdt, A: Address>(
+    alloc: Global,
+    recorded: &mut Recorded<T, A>,
+    plan: Option<Plan<T::Op>>,
+    parts: &Parts,
+    next: &Record,
+    bytes: &[u8],
+) -> Result<bool, Memory>
+    requires settled { recorded.old.pending ≡ [] }
+    requires there { IfSome plan
+        (HasPlan (store_of recorded.old.terms.origin recorded.old.written)) }
+    requires parts { IsDoneIn bytes.now parts.now }
+    ensures { IfOk result
+        (MadeAnew (fix T.meaning recorded.old.terms A.address) recorded.old recorded.new plan
+        parts.now next.now bytes.now) }
+{
+    match plan {
+        Some(plan) => remake(recorded, plan, next, bytes),
+        None => receive(alloc, recorded, parts, next, bytes),
     }
 }
 

@@ -11,6 +11,7 @@ pub mod laws;
 mod lookups;
 mod parts;
 mod plan;
+mod receive;
 mod refused;
 mod remake;
 mod rules;

@@ -38,7 +38,8 @@ pub fn standing_of<T: Mrdt, A: Address>(recorded: &Recorded<T, A>) -> Standing
 // Whether a branch is there, and was not dropped.
 pub fn has_branch<T: Mrdt, A: Address>(recorded: &Recorded<T, A>, number: u32) -> bool
     requires { recorded.now.pending ≡ [] }
-    ensures { IsTrue result ↔ HasBranch (store_of recorded.now.terms.origin recorded.now.written) number }
+    ensures { IsTrue result
+        ↔ HasBranch (store_of recorded.now.terms.origin recorded.now.written) number }
 {
     number < recorded.branches() && !recorded.is_dropped(number)
 }
@@ -47,9 +48,12 @@ pub fn has_branch<T: Mrdt, A: Address>(recorded: &Recorded<T, A>, number: u32) -
 pub fn branch_at<T: Mrdt, A: Address>(recorded: &Recorded<T, A>, number: u32) -> (Name, u32)
     requires settled { recorded.now.pending ≡ [] }
     requires there { HasBranch (store_of recorded.now.terms.origin recorded.now.written) number }
-    ensures named { branch_named (store_of recorded.now.terms.origin recorded.now.written).branches result.0 ≡ Some number }
-    ensures head { result.1 ≡ head_of (store_of recorded.now.terms.origin recorded.now.written).branches number }
-    ensures commit { result.1 < length (store_of recorded.now.terms.origin recorded.now.written).commits }
+    ensures named { branch_named (store_of recorded.now.terms.origin recorded.now.written).branches
+        result.0 ≡ Some number }
+    ensures head { result.1
+        ≡ head_of (store_of recorded.now.terms.origin recorded.now.written).branches number }
+    ensures commit { result.1
+        < length (store_of recorded.now.terms.origin recorded.now.written).commits }
 {
     let _moves = recorded.moves();
     match recorded.branch(number) {
@@ -65,7 +69,13 @@ pub fn look_at<T: Mrdt, A: Address>(
 ) -> Result<Seen<T>, Memory>
     requires settled { recorded.now.pending ≡ [] }
     requires there { HasBranch (store_of recorded.now.terms.origin recorded.now.written) branch }
-    ensures { IfOk result (λ seen. seen ≡ record { history = recorded.now.written; terms = recorded.now.terms; branch = branch; head = head_of (store_of recorded.now.terms.origin recorded.now.written).branches branch }) }
+    ensures { IfOk result (λ seen. seen ≡ record {
+      history = recorded.now.written;
+      terms = recorded.now.terms;
+      branch = branch;
+      head = head_of (store_of recorded.now.terms.origin recorded.now.written).branches
+          branch;
+    }) }
 {
     let (name, _head) = branch_at(recorded, branch);
     match recorded.look(&name) {
@@ -78,7 +88,9 @@ pub fn look_at<T: Mrdt, A: Address>(
 // Whether no branch has the name.
 pub fn is_free<T: Mrdt, A: Address>(recorded: &Recorded<T, A>, name: &Name) -> Result<bool, Memory>
     requires { recorded.now.pending ≡ [] }
-    ensures { IfOk result (λ free. IsTrue free ↔ (branch_named (store_of recorded.now.terms.origin recorded.now.written).branches name.now ≡ None)) }
+    ensures { IfOk result (λ free. IsTrue free
+        ↔ (branch_named (store_of recorded.now.terms.origin recorded.now.written).branches name.now
+        ≡ None)) }
 {
     match recorded.look(name) {
         Ok(_) => Ok(false),

@@ -11,24 +11,29 @@ use branch_wire::Cursor;
 use mrdt_model::{Bytes, Unread};
 use std::alloc::Global;
 
-// The spelling of a commit's value, where its object stands there, how many parents the commit has, and what it does.
+// The spelling of a commit's value, where its object stands there, where the commit's own begins, how many parents the
+// commit has, the address of its value, and what it does.
 #[derive(Drop)]
 pub struct Parts {
     pub value: Option<Bytes>,
+    pub place: usize,
     pub parents: usize,
+    pub address: [u8; 32],
     pub action: Action,
 }
 
 // The parts that the bytes are, and no more. `NotCanonical` comes exactly where they are none.
 pub fn parted(alloc: Global, bytes: &[u8]) -> Result<Parts, Unread>
     ensures parts { IfOk result (IsDoneIn bytes.now) }
-    ensures none { IsErrOf result Unread.NotCanonical → (value : SpecOption (List ℕ)) (c : CommitFields) → AreParts bytes.now value c → ⊥ }
+    ensures none { IsErrOf result Unread.NotCanonical
+        → (value : SpecOption (List ℕ)) (c : CommitFields) → AreParts bytes.now value c → ⊥ }
 {
     let mut cursor = Cursor::new(bytes);
     match Object::take(alloc, &mut cursor) {
         Ok(
             Object::Commit {
                 parents,
+                value,
                 action,
                 ..
             },
@@ -36,35 +41,45 @@ pub fn parted(alloc: Global, bytes: &[u8]) -> Result<Parts, Unread>
             if cursor.is_at_end() {
                 Ok(Parts {
                     value: None,
+                    place: 0,
                     parents: parents.as_slice().len(),
+                    address: value,
                     action,
                 })
             } else {
                 Err(Unread::NotCanonical)
             }
         }
-        Ok(Object::Value(value)) => behind(alloc, value, cursor.take_rest()),
+        Ok(Object::Value(value)) => {
+            let rest = cursor.take_rest();
+            behind(alloc, value, bytes.len() - rest.len(), rest)
+        }
         Err(refused) => Err(refused),
     }
 }
 
-// A value's spelling, and the rest of the parts of the commit whose object is the whole of the bytes.
-fn behind(alloc: Global, value: Bytes, bytes: &[u8]) -> Result<Parts, Unread>
+// A value's spelling, and the rest of the parts of the commit whose object is the whole of the bytes, and begins there.
+fn behind(alloc: Global, value: Bytes, place: usize, bytes: &[u8]) -> Result<Parts, Unread>
     ensures commit { IfOk result (λ parts. (c : CommitFields) × (c.action ≡ parts.action)
-        × (length c.parents ≡ parts.parents) × IsCommit c × (bytes.now ≡ commit_object c)) }
-    ensures value { IfOk result (λ parts. parts.value ≡ Some value) }
-    ensures none { IsErrOf result Unread.NotCanonical → (c : CommitFields) → IsCommit c → bytes.now ≡ commit_object c → ⊥ }
+        × (length c.parents ≡ parts.parents) × (c.value ≡ parts.address) × IsCommit c
+        × (bytes.now ≡ commit_object c)) }
+    ensures value { IfOk result (λ parts. (parts.value ≡ Some value) × (parts.place ≡ place)) }
+    ensures none { IsErrOf result Unread.NotCanonical → (c : CommitFields) → IsCommit c
+        → bytes.now ≡ commit_object c → ⊥ }
 {
     match Object::get(alloc, bytes) {
         Ok(
             Object::Commit {
                 parents,
+                value: address,
                 action,
                 ..
             },
         ) => Ok(Parts {
             value: Some(value),
+            place,
             parents: parents.as_slice().len(),
+            address,
             action,
         }),
         Ok(Object::Value(_)) => Err(Unread::NotCanonical),

@@ -32,7 +32,9 @@ pub fn remake<T: Mrdt, A: Address>(
 ) -> Result<bool, Memory>
     requires settled { recorded.old.pending ≡ [] }
     requires there { HasPlan (store_of recorded.old.terms.origin recorded.old.written) plan }
-    ensures remade { IfOk result (Remade (fix T.meaning recorded.old.terms A.address) recorded.old recorded.new (step_for recorded.old.terms recorded.old.written plan) next.now bytes.now) }
+    ensures remade { IfOk result
+        (Remade (fix T.meaning recorded.old.terms A.address) recorded.old recorded.new
+        (step_for recorded.old.terms recorded.old.written plan) next.now bytes.now) }
 {
     match prepared(recorded, plan)? {
         Some(prepared) => land(recorded, prepared, next, bytes),
@@ -47,8 +49,13 @@ fn prepared<T: Mrdt, A: Address>(
 ) -> Result<Option<Prepared<T>>, Memory>
     requires settled { recorded.old.pending ≡ [] }
     requires there { HasPlan (store_of recorded.old.terms.origin recorded.old.written) plan }
-    ensures some { IfOk result (λ found. IfSome found (λ p. (p.seen.history ≡ recorded.old.written) × (p.seen.terms ≡ recorded.old.terms) × (step_of {Q = T.Query} p.seen p.work ≡ step_for recorded.old.terms recorded.old.written plan))) }
-    ensures none { IfOk result (λ found. IsNone found → (full_turn (fix T.meaning recorded.old.terms A.address) recorded.old.written (step_for recorded.old.terms recorded.old.written plan)).made ≡ []) }
+    ensures some { IfOk result (λ found. IfSome found (λ p. (p.seen.history ≡ recorded.old.written)
+        × (p.seen.terms ≡ recorded.old.terms)
+        × (step_of {Q = T.Query} p.seen p.work
+        ≡ step_for recorded.old.terms recorded.old.written plan))) }
+    ensures none { IfOk result (λ found. IsNone found
+        → (full_turn (fix T.meaning recorded.old.terms A.address) recorded.old.written
+        (step_for recorded.old.terms recorded.old.written plan)).made ≡ []) }
     ensures same { recorded.new ≡ recorded.old }
 {
     match plan {
@@ -66,8 +73,16 @@ fn prepared_operation<T: Mrdt, A: Address>(
 ) -> Result<Option<Prepared<T>>, Memory>
     requires settled { recorded.now.pending ≡ [] }
     requires there { HasBranch (store_of recorded.now.terms.origin recorded.now.written) branch }
-    ensures some { IfOk result (λ found. IfSome found (λ p. (p.seen.history ≡ recorded.now.written) × (p.seen.terms ≡ recorded.now.terms) × (step_of {Q = T.Query} p.seen p.work ≡ machine.Land branch (head_of (store_of recorded.now.terms.origin recorded.now.written).branches branch) op))) }
-    ensures none { IfOk result (λ found. IsNone found → (full_turn (fix T.meaning recorded.now.terms A.address) recorded.now.written (machine.Land branch (head_of (store_of recorded.now.terms.origin recorded.now.written).branches branch) op)).made ≡ []) }
+    ensures some { IfOk result (λ found. IfSome found (λ p. (p.seen.history ≡ recorded.now.written)
+        × (p.seen.terms ≡ recorded.now.terms)
+        × (step_of {Q = T.Query} p.seen p.work
+        ≡ machine.Land branch
+        (head_of (store_of recorded.now.terms.origin recorded.now.written).branches branch) op))) }
+    ensures none { IfOk result (λ found. IsNone found
+        → (full_turn (fix T.meaning recorded.now.terms A.address) recorded.now.written
+        (machine.Land branch
+        (head_of (store_of recorded.now.terms.origin recorded.now.written).branches branch)
+        op)).made ≡ []) }
 {
     let seen = look_at(recorded, branch)?;
     match seen.prepare(op) {
@@ -87,8 +102,17 @@ fn prepared_merge<T: Mrdt, A: Address>(
     requires settled { recorded.old.pending ≡ [] }
     requires branch { HasBranch (store_of recorded.old.terms.origin recorded.old.written) branch }
     requires commit { HasCommit (store_of recorded.old.terms.origin recorded.old.written) commit }
-    ensures some { IfOk result (λ found. IfSome found (λ p. (p.seen.history ≡ recorded.old.written) × (p.seen.terms ≡ recorded.old.terms) × (step_of {Q = T.Query} p.seen p.work ≡ machine.Merge branch (head_of (store_of recorded.old.terms.origin recorded.old.written).branches branch) (commit ∷ [])))) }
-    ensures none { IfOk result (λ found. IsNone found → (full_turn (fix T.meaning recorded.old.terms A.address) recorded.old.written (machine.Merge branch (head_of (store_of recorded.old.terms.origin recorded.old.written).branches branch) (commit ∷ []))).made ≡ []) }
+    ensures some { IfOk result (λ found. IfSome found (λ p. (p.seen.history ≡ recorded.old.written)
+        × (p.seen.terms ≡ recorded.old.terms)
+        × (step_of {Q = T.Query} p.seen p.work
+        ≡ machine.Merge branch
+        (head_of (store_of recorded.old.terms.origin recorded.old.written).branches branch)
+        (commit ∷ [])))) }
+    ensures none { IfOk result (λ found. IsNone found
+        → (full_turn (fix T.meaning recorded.old.terms A.address) recorded.old.written
+        (machine.Merge branch
+        (head_of (store_of recorded.old.terms.origin recorded.old.written).branches branch)
+        (commit ∷ []))).made ≡ []) }
     ensures same { recorded.new ≡ recorded.old }
 {
     let seen = look_at(recorded, branch)?;
@@ -108,9 +132,19 @@ fn prepared_join<T: Mrdt, A: Address>(
 ) -> Result<Option<Prepared<T>>, Memory>
     requires settled { recorded.old.pending ≡ [] }
     requires branch { HasBranch (store_of recorded.old.terms.origin recorded.old.written) branch }
-    requires joined { AreJoined (store_of recorded.old.terms.origin recorded.old.written) branch commits.now }
-    ensures some { IfOk result (λ found. IfSome found (λ p. (p.seen.history ≡ recorded.old.written) × (p.seen.terms ≡ recorded.old.terms) × (step_of {Q = T.Query} p.seen p.work ≡ machine.Merge branch (head_of (store_of recorded.old.terms.origin recorded.old.written).branches branch) commits.now))) }
-    ensures none { IfOk result (λ found. IsNone found → (full_turn (fix T.meaning recorded.old.terms A.address) recorded.old.written (machine.Merge branch (head_of (store_of recorded.old.terms.origin recorded.old.written).branches branch) commits.now)).made ≡ []) }
+    requires joined { AreJoined (store_of recorded.old.terms.origin recorded.old.written) branch
+        commits.now }
+    ensures some { IfOk result (λ found. IfSome found (λ p. (p.seen.history ≡ recorded.old.written)
+        × (p.seen.terms ≡ recorded.old.terms)
+        × (step_of {Q = T.Query} p.seen p.work
+        ≡ machine.Merge branch
+        (head_of (store_of recorded.old.terms.origin recorded.old.written).branches branch)
+        commits.now))) }
+    ensures none { IfOk result (λ found. IsNone found
+        → (full_turn (fix T.meaning recorded.old.terms A.address) recorded.old.written
+        (machine.Merge branch
+        (head_of (store_of recorded.old.terms.origin recorded.old.written).branches branch)
+        commits.now)).made ≡ []) }
     ensures same { recorded.new ≡ recorded.old }
 {
     let seen = look_at(recorded, branch)?;
@@ -132,7 +166,9 @@ fn land<T: Mrdt, A: Address>(
     requires settled { recorded.old.pending ≡ [] }
     requires history { prepared.seen.history ≡ recorded.old.written }
     requires terms { prepared.seen.terms ≡ recorded.old.terms }
-    ensures { IfOk result (Remade (fix T.meaning recorded.old.terms A.address) recorded.old recorded.new (step_of prepared.seen prepared.work) next.now bytes.now) }
+    ensures { IfOk result
+        (Remade (fix T.meaning recorded.old.terms A.address) recorded.old recorded.new
+        (step_of prepared.seen prepared.work) next.now bytes.now) }
 {
     match recorded.land(Addressed::later(prepared)) {
         Ok(made) => {
@@ -157,7 +193,10 @@ pub fn fork<T: Mrdt, A: Address>(
 ) -> Result<bool, Memory>
     requires settled { recorded.old.pending ≡ [] }
     requires there { HasBranch (store_of recorded.old.terms.origin recorded.old.written) from }
-    ensures { IfOk result (λ same. (source : List ℕ) × (branch_named (store_of recorded.old.terms.origin recorded.old.written).branches source ≡ Some from) × Remade (fix T.meaning recorded.old.terms A.address) recorded.old recorded.new (machine.Fork name source) next.now [] same) }
+    ensures { IfOk result (λ same. (source : List ℕ)
+        × (branch_named (store_of recorded.old.terms.origin recorded.old.written).branches source
+        ≡ Some from) × Remade (fix T.meaning recorded.old.terms A.address) recorded.old recorded.new
+        (machine.Fork name source) next.now [] same) }
 {
     let (source, _head) = branch_at(recorded, from);
     match recorded.fork(name, &source) {
@@ -182,7 +221,9 @@ pub fn place<T: Mrdt, A: Address>(
 ) -> Result<bool, Memory>
     requires settled { recorded.old.pending ≡ [] }
     requires there { HasCommit (store_of recorded.old.terms.origin recorded.old.written) commit }
-    ensures { IfOk result (Remade (fix T.meaning recorded.old.terms A.address) recorded.old recorded.new (machine.Place name commit) next.now []) }
+    ensures { IfOk result
+        (Remade (fix T.meaning recorded.old.terms A.address) recorded.old recorded.new
+        (machine.Place name commit) next.now []) }
 {
     match recorded.place(name, commit) {
         Ok(placed) => {
@@ -204,7 +245,11 @@ pub fn drop_branch<T: Mrdt, A: Address>(
 ) -> Result<bool, Memory>
     requires settled { recorded.old.pending ≡ [] }
     requires there { HasBranch (store_of recorded.old.terms.origin recorded.old.written) branch }
-    ensures { IfOk result (Remade (fix T.meaning recorded.old.terms A.address) recorded.old recorded.new (machine.Drop branch (head_of (store_of recorded.old.terms.origin recorded.old.written).branches branch)) next.now []) }
+    ensures { IfOk result
+        (Remade (fix T.meaning recorded.old.terms A.address) recorded.old recorded.new
+        (machine.Drop branch
+        (head_of (store_of recorded.old.terms.origin recorded.old.written).branches branch))
+        next.now []) }
 {
     let seen = look_at(recorded, branch)?;
     match recorded.drop_branch(&seen) {
@@ -221,14 +266,16 @@ pub fn drop_branch<T: Mrdt, A: Address>(
 }
 
 // Settles the pending move where it has the record and the region that stand in the files, and else undoes it.
-fn keep_if_same<T: Mrdt, A: Address>(
+pub fn keep_if_same<T: Mrdt, A: Address>(
     recorded: &mut Recorded<T, A>,
     own: &Record,
     next: &Record,
     bytes: &[u8],
 ) -> bool
-    ensures { (made : SpecMove T.Op T.Reply) → recorded.old.pending ≡ made ∷ [] → own.now ≡ record_of (fix T.meaning recorded.old.terms A.address) recorded.old.written made
-        → IsKeptIfSame (fix T.meaning recorded.old.terms A.address) recorded.old recorded.new made next.now bytes.now result }
+    ensures { (made : SpecMove T.Op T.Reply) → recorded.old.pending ≡ made ∷ []
+        → own.now ≡ record_of (fix T.meaning recorded.old.terms A.address) recorded.old.written made
+        → IsKeptIfSame (fix T.meaning recorded.old.terms A.address) recorded.old recorded.new made
+        next.now bytes.now result }
 {
     let same = *own == *next && recorded.region() == bytes;
     if same {

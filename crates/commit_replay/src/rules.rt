@@ -20,7 +20,8 @@ pub fn may_come<T: Mrdt, A: Address>(
     next: &Record,
 ) -> Result<bool, Memory>
     requires { recorded.now.pending ≡ [] }
-    ensures { IfOk result (λ may. IsTrue may ↔ MayCome (fix T.meaning recorded.now.terms A.address) recorded.now.written next.now) }
+    ensures { IfOk result (λ may. IsTrue may
+        ↔ MayCome (fix T.meaning recorded.now.terms A.address) recorded.now.written next.now) }
 {
     let now = standing_of(recorded);
     if now.moves >= now.terms.limits.moves {
@@ -46,8 +47,7 @@ pub fn may_come<T: Mrdt, A: Address>(
             joined,
             end,
         } => may_join(recorded, *branch, joined, *end),
-        // Records of commits that were received are not read.
-        Record::Received { .. } => Ok(false),
+        Record::Received { end, .. } => Ok(*end > now.end),
         Record::Place {
             number,
             commit,
@@ -67,7 +67,9 @@ fn may_fork<T: Mrdt, A: Address>(
     end: u64,
 ) -> Result<bool, Memory>
     requires { recorded.now.pending ≡ [] }
-    ensures { IfOk result (λ may. IsTrue may ↔ Suits (fix T.meaning recorded.now.terms A.address) recorded.now.written (entry.Fork number from name.now end)) }
+    ensures { IfOk result (λ may. IsTrue may
+        ↔ Suits (fix T.meaning recorded.now.terms A.address) recorded.now.written
+        (entry.Fork number from name.now end)) }
 {
     let now = standing_of(recorded);
     if number != now.branches || number >= now.terms.limits.branches {
@@ -86,7 +88,9 @@ fn may_operate<T: Mrdt, A: Address>(
     end: u64,
 ) -> Result<bool, Memory>
     requires { recorded.now.pending ≡ [] }
-    ensures { IfOk result (λ may. (address : List ℕ) → IsTrue may ↔ Suits (fix T.meaning recorded.now.terms A.address) recorded.now.written (entry.Operation branch address end)) }
+    ensures { IfOk result (λ may. (address : List ℕ) → IsTrue may
+        ↔ Suits (fix T.meaning recorded.now.terms A.address) recorded.now.written
+        (entry.Operation branch address end)) }
 {
     let now = standing_of(recorded);
     if !has_branch(recorded, branch) || end <= now.end || now.commits >= now.terms.limits.commits {
@@ -104,7 +108,9 @@ fn may_merge<T: Mrdt, A: Address>(
     end: u64,
 ) -> Result<bool, Memory>
     requires { recorded.now.pending ≡ [] }
-    ensures { IfOk result (λ may. (address : List ℕ) → IsTrue may ↔ Suits (fix T.meaning recorded.now.terms A.address) recorded.now.written (entry.Merge branch from address end)) }
+    ensures { IfOk result (λ may. (address : List ℕ) → IsTrue may
+        ↔ Suits (fix T.meaning recorded.now.terms A.address) recorded.now.written
+        (entry.Merge branch from address end)) }
 {
     let now = standing_of(recorded);
     if !has_branch(recorded, branch) || from >= now.commits {
@@ -128,7 +134,9 @@ fn may_go_forward<T: Mrdt, A: Address>(
     end: u64,
 ) -> Result<bool, Memory>
     requires { recorded.now.pending ≡ [] }
-    ensures { IfOk result (λ may. IsTrue may ↔ Suits (fix T.meaning recorded.now.terms A.address) recorded.now.written (entry.Forward branch to end)) }
+    ensures { IfOk result (λ may. IsTrue may
+        ↔ Suits (fix T.meaning recorded.now.terms A.address) recorded.now.written
+        (entry.Forward branch to end)) }
 {
     let now = standing_of(recorded);
     if !has_branch(recorded, branch) || to >= now.commits || end != now.end {
@@ -149,7 +157,9 @@ fn may_join<T: Mrdt, A: Address>(
     end: u64,
 ) -> Result<bool, Memory>
     requires { recorded.now.pending ≡ [] }
-    ensures { IfOk result (λ may. IsTrue may ↔ Suits (fix T.meaning recorded.now.terms A.address) recorded.now.written (entry.Join branch joined.now end)) }
+    ensures { IfOk result (λ may. IsTrue may
+        ↔ Suits (fix T.meaning recorded.now.terms A.address) recorded.now.written
+        (entry.Join branch joined.now end)) }
 {
     let now = standing_of(recorded);
     let commits = joined.as_slice();
@@ -179,7 +189,9 @@ fn may_place<T: Mrdt, A: Address>(
     end: u64,
 ) -> Result<bool, Memory>
     requires { recorded.now.pending ≡ [] }
-    ensures { IfOk result (λ may. IsTrue may ↔ Suits (fix T.meaning recorded.now.terms A.address) recorded.now.written (entry.Place number commit name.now end)) }
+    ensures { IfOk result (λ may. IsTrue may
+        ↔ Suits (fix T.meaning recorded.now.terms A.address) recorded.now.written
+        (entry.Place number commit name.now end)) }
 {
     let now = standing_of(recorded);
     if number != now.branches || number >= now.terms.limits.branches {
@@ -194,7 +206,9 @@ fn may_place<T: Mrdt, A: Address>(
 // Whether a branch may be dropped, which the first may not.
 fn may_drop<T: Mrdt, A: Address>(recorded: &Recorded<T, A>, branch: u32, end: u64) -> bool
     requires { recorded.now.pending ≡ [] }
-    ensures { IsTrue result ↔ Suits (fix T.meaning recorded.now.terms A.address) recorded.now.written (entry.Drop branch end) }
+    ensures { IsTrue result
+        ↔ Suits (fix T.meaning recorded.now.terms A.address) recorded.now.written
+        (entry.Drop branch end) }
 {
     let now = standing_of(recorded);
     has_branch(recorded, branch) && branch != 0 && end == now.end

@@ -84,7 +84,10 @@ fn replay_record<T: Mrdt, A: Address>(
     requires settled { recorded.old.pending ≡ [] }
     requires known { AreKnown (fix T.meaning recorded.old.terms A.address) recorded.old.written }
     requires of { IsRecord version next.now }
-    ensures went { OnOk result (GoesOn (fix T.meaning recorded.old.terms A.address) recorded.old recorded.new next.now (bytes_behind (fix T.meaning recorded.old.terms A.address) recorded.old.written objects.now next.now)) }
+    ensures went { OnOk result
+        (GoesOn (fix T.meaning recorded.old.terms A.address) recorded.old recorded.new next.now
+        (bytes_behind (fix T.meaning recorded.old.terms A.address) recorded.old.written objects.now
+        next.now)) }
     ensures read { OnOk result (IsKnown next.now) }
     ensures stops { let own = fix_in (form_of version) T.meaning recorded.old.terms A.address in
         IfErr result (StopsAs own recorded.old.written objects.now next.now) }
@@ -113,6 +116,9 @@ fn replay_record<T: Mrdt, A: Address>(
             }
         }
         Record::Join { end, .. } => replay_commit(alloc, version, recorded, next, *end, objects),
+        Record::Received { end, .. } => replay_commit(
+            alloc, version, recorded, next, *end, objects,
+        ),
         Record::Place { commit, name, .. } => match replay_place(recorded, next, *commit, *name) {
             Ok(()) => Ok(()),
             Err(Memory) => Err(ReplayRefused::Memory),
@@ -121,7 +127,6 @@ fn replay_record<T: Mrdt, A: Address>(
             Ok(()) => Ok(()),
             Err(Memory) => Err(ReplayRefused::Memory),
         },
-        Record::Received { .. } => unreachable!(),
     }
 }
 
@@ -136,8 +141,11 @@ fn replay_fork<T: Mrdt, A: Address>(
     requires is { (number end : ℕ) × (next.now ≡ entry.Fork number from name end) }
     requires known { AreKnown (fix T.meaning recorded.old.terms A.address) recorded.old.written }
     requires fits { Fits next.now }
-    requires may { MayCome (fix T.meaning recorded.old.terms A.address) recorded.old.written next.now }
-    ensures { OnOk result (GoesOn (fix T.meaning recorded.old.terms A.address) recorded.old recorded.new next.now []) }
+    requires may { MayCome (fix T.meaning recorded.old.terms A.address) recorded.old.written
+        next.now }
+    ensures { OnOk result
+        (GoesOn (fix T.meaning recorded.old.terms A.address) recorded.old recorded.new next.now
+        []) }
 {
     let _moves = recorded.moves();
     if fork(recorded, name, from, next)? {
@@ -158,8 +166,11 @@ fn replay_forward<T: Mrdt, A: Address>(
     requires is { (end : ℕ) × (next.now ≡ entry.Forward branch to end) }
     requires known { AreKnown (fix T.meaning recorded.old.terms A.address) recorded.old.written }
     requires fits { Fits next.now }
-    requires may { MayCome (fix T.meaning recorded.old.terms A.address) recorded.old.written next.now }
-    ensures { OnOk result (GoesOn (fix T.meaning recorded.old.terms A.address) recorded.old recorded.new next.now []) }
+    requires may { MayCome (fix T.meaning recorded.old.terms A.address) recorded.old.written
+        next.now }
+    ensures { OnOk result
+        (GoesOn (fix T.meaning recorded.old.terms A.address) recorded.old recorded.new next.now
+        []) }
 {
     let _moves = recorded.moves();
     let plan = Plan::Merge { branch, commit: to };
@@ -181,8 +192,11 @@ fn replay_place<T: Mrdt, A: Address>(
     requires is { (number end : ℕ) × (next.now ≡ entry.Place number commit name end) }
     requires known { AreKnown (fix T.meaning recorded.old.terms A.address) recorded.old.written }
     requires fits { Fits next.now }
-    requires may { MayCome (fix T.meaning recorded.old.terms A.address) recorded.old.written next.now }
-    ensures { OnOk result (GoesOn (fix T.meaning recorded.old.terms A.address) recorded.old recorded.new next.now []) }
+    requires may { MayCome (fix T.meaning recorded.old.terms A.address) recorded.old.written
+        next.now }
+    ensures { OnOk result
+        (GoesOn (fix T.meaning recorded.old.terms A.address) recorded.old recorded.new next.now
+        []) }
 {
     let _moves = recorded.moves();
     if place(recorded, name, commit, next)? {
@@ -202,8 +216,11 @@ fn replay_drop<T: Mrdt, A: Address>(
     requires is { (end : ℕ) × (next.now ≡ entry.Drop branch end) }
     requires known { AreKnown (fix T.meaning recorded.old.terms A.address) recorded.old.written }
     requires fits { Fits next.now }
-    requires may { MayCome (fix T.meaning recorded.old.terms A.address) recorded.old.written next.now }
-    ensures { OnOk result (GoesOn (fix T.meaning recorded.old.terms A.address) recorded.old recorded.new next.now []) }
+    requires may { MayCome (fix T.meaning recorded.old.terms A.address) recorded.old.written
+        next.now }
+    ensures { OnOk result
+        (GoesOn (fix T.meaning recorded.old.terms A.address) recorded.old recorded.new next.now
+        []) }
 {
     let _moves = recorded.moves();
     if drop_branch(recorded, branch, next)? {
@@ -227,8 +244,12 @@ fn replay_commit<T: Mrdt, A: Address>(
     requires makes { MakesCommit next.now }
     requires known { AreKnown (fix T.meaning recorded.old.terms A.address) recorded.old.written }
     requires of { IsRecord version next.now }
-    requires may { MayCome (fix T.meaning recorded.old.terms A.address) recorded.old.written next.now }
-    ensures went { OnOk result (GoesOn (fix T.meaning recorded.old.terms A.address) recorded.old recorded.new next.now (bytes_behind (fix T.meaning recorded.old.terms A.address) recorded.old.written objects.now next.now)) }
+    requires may { MayCome (fix T.meaning recorded.old.terms A.address) recorded.old.written
+        next.now }
+    ensures went { OnOk result
+        (GoesOn (fix T.meaning recorded.old.terms A.address) recorded.old recorded.new next.now
+        (bytes_behind (fix T.meaning recorded.old.terms A.address) recorded.old.written objects.now
+        next.now)) }
     ensures stops { let own = fix_in (form_of version) T.meaning recorded.old.terms A.address in
         IfErr result (StopsAs own recorded.old.written objects.now next.now) }
 {

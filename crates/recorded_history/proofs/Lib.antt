@@ -8,3 +8,11 @@ pub mod Joined
 pub mod Forks
 pub mod Placed
 pub mod Fresh
+pub mod Asked
+pub mod Told
+pub mod Here
+pub mod Sought
+pub mod Remade
+pub mod Taken
+pub mod Alone
+pub mod Found

@@ -1,10 +1,11 @@
 // A history, its commits in memory, and its stored objects.
 ghost use Rattle.std.specs.Prelude.{◌≡◌, ◌+◌, ◌<◌, ◌≤◌, All, false, ◌∷◌, [], ◌++◌, length, slice_get, Some, Ok, IfOk, IfErr, IfSome, OnOk, OnErr};
-ghost use Rattle.std.specs.Option.{option_map};
+ghost use Rattle.std.specs.Option.{option_copied, option_map};
 ghost use mathlib.Core.List.{IsPrefix};
 ghost use Rattle.branch_io.specs.Causes.{HasCause};
 ghost use Rattle.branch_disk.specs.Disk.{After, Holds, LeavesOnly, OnPart, Tells, Torn};
 ghost use Rattle.branch_graph.specs.Graph.{reaches};
+ghost use Rattle.branch_wire.specs.StoredObjects.{first_with};
 ghost use Rattle.branch_names.specs.Heads.{branch_named, is_dropped};
 ghost use Rattle.branch_names.specs.declared.branch.Branch.{Branch};
 ghost use Rattle.branch_history.specs.Commits.{graph_of};
@@ -12,18 +13,20 @@ ghost use Rattle.branch_history.specs.History.{store_of};
 ghost use Rattle.branch_history.specs.Machine.{turn, answers};
 ghost use Rattle.branch_history.specs.Steps as machine;
 ghost use Rattle.branch_machine.specs.Fixed.{fix};
-ghost use Rattle.branch_machine.specs.Objects.{end_of, objects_of, objects_text, region};
+ghost use Rattle.branch_machine.specs.Objects.{end_of, objects_of, objects_text, pairs_of, region};
 ghost use Rattle.branch_machine.specs.Validity.{IsFullyValid};
 ghost use Rattle.object_store.specs.Images.{AllBegin, AllCome, Grows};
 ghost use Rattle.store_seen.specs.Groups.{grouped_at, IsGrouped, GroupRefusedAs, IsStepOfAll, MergeAllRefusedAs};
 ghost use Rattle.store_seen.specs.Pairs.{IsPaired, PairRefusedAs, paired_at, IsStepOf, MergeRefusedAs};
 ghost use Rattle.store_seen.specs.Turns.{LookRefusedAs};
+ghost use Rattle.recorded_history.specs.Items.{lent_item};
 ghost use Rattle.recorded_history.specs.Machine.{addresses_of, commit_of_address, Forks, LandsAs, Steps, IsRecordOf, place_answer, drop_answer};
 ghost use Rattle.recorded_history.specs.Refusals.{ForkRefusedAs, LandRefusedAs};
 ghost use Rattle.recorded_history.specs.Views.{core_of};
 
 use crate::addressed::Addressed;
 use crate::answers::{Branched, Dropped, LandRefused, Made};
+use crate::items::{first_item, item_at};
 use crate::staging::{record_for, stage};
 use branch_address::Address;
 use branch_disk::{Disk, DiskFailed, Part};
@@ -44,13 +47,13 @@ use store_seen::{
 /// made and is not written yet, and the terms.
 #[derive(Drop)]
 pub struct Recorded<T: Mrdt, A: Address> {
-    alloc: Global,
-    versions: Versions<T>,
-    objects: Objects<A>,
+    pub(crate) alloc: Global,
+    pub(crate) versions: Versions<T>,
+    pub(crate) objects: Objects<A>,
     // What was there when no move was pending last.
     settled: Snapshot<Versions<T>>,
     // Where the branch of the pending move stood before it, if one is pending.
-    stood: Option<u32>,
+    pub(crate) stood: Option<u32>,
 }
 
 impl<T: Mrdt, A: Address> Model for Recorded<T, A> {
@@ -62,13 +65,19 @@ impl<T: Mrdt, A: Address> Model for Recorded<T, A> {
 
     ghost view = { λ r. recorded_of r.settled.value.core r.versions.core };
 
-    ghost invariant = { λ r. IsRecorded T.meaning A.address (recorded_of r.settled.value.core r.versions.core) r.stood r.versions r.objects };
+    ghost invariant = { λ r.
+        IsRecorded T.meaning A.address (recorded_of r.settled.value.core r.versions.core) r.stood
+        r.versions r.objects };
 }
 
 impl<T: Mrdt, A: Address> Recorded<T, A> {
     /// The empty history, with `main` at commit 0, whose objects stand in memory: `create` writes them.
     pub fn fresh(alloc: Global, terms: Terms) -> Result<Recorded<T, A>, Memory>
-        ensures { IfOk result (λ recorded. recorded ≡ record { written = []; pending = []; terms = terms }) }
+        ensures { IfOk result (λ recorded. recorded ≡ record {
+          written = [];
+          pending = [];
+          terms = terms;
+        }) }
     {
         let mut value = Vec::new(alloc);
         T::initial(alloc).put(&mut value)?;
@@ -83,12 +92,26 @@ impl<T: Mrdt, A: Address> Recorded<T, A> {
         })
     }
 
+    /// The allocator that it takes memory from.
+    pub fn alloc(&self) -> Global {
+        self.alloc
+    }
+
     /// How many moves the history has, the pending one counted. It is a valid history of a store that keeps objects.
     pub fn moves(&self) -> u64
         ensures moves { result ≡ length (self.now.written ++ self.now.pending) }
-        ensures valid { IsFullyValid (fix T.meaning self.now.terms A.address) (self.now.written ++ self.now.pending) }
+        ensures valid { IsFullyValid (fix T.meaning self.now.terms A.address)
+            (self.now.written ++ self.now.pending) }
     {
         self.versions.moves()
+    }
+
+    /// The moves that are written, in order, where none is pending; they are lent.
+    pub fn history(&self) -> &[Move<T::Op, T::Reply>]
+        requires { self.now.pending ≡ [] }
+        ensures { result.now ≡ self.now.written }
+    {
+        self.versions.history()
     }
 
     /// The moves that are written, in order, where none is pending. It takes no memory.
@@ -101,14 +124,18 @@ impl<T: Mrdt, A: Address> Recorded<T, A> {
 
     /// How many commits the store holds, commit 0 counted, and that of the pending move.
     pub fn commits(&self) -> u32
-        ensures { result ≡ length (store_of self.now.terms.origin (self.now.written ++ self.now.pending)).commits }
+        ensures { result
+            ≡ length (store_of self.now.terms.origin
+            (self.now.written ++ self.now.pending)).commits }
     {
         self.versions.commits()
     }
 
     /// How many branches the store holds, `main`, those that were dropped and that of the pending move counted.
     pub fn branches(&self) -> u32
-        ensures { result ≡ length (store_of self.now.terms.origin (self.now.written ++ self.now.pending)).branches }
+        ensures { result
+            ≡ length (store_of self.now.terms.origin
+            (self.now.written ++ self.now.pending)).branches }
     {
         self.versions.branches()
     }
@@ -124,17 +151,27 @@ impl<T: Mrdt, A: Address> Recorded<T, A> {
     /// past the last branch. No other branch has the name of one that was not dropped.
     pub fn branch(&self, number: u32) -> Option<(Name, u32)>
         ensures named { IfSome result (λ found.
-            is_dropped (store_of self.now.terms.origin (self.now.written ++ self.now.pending)).branches number ≡ false
-            → branch_named (store_of self.now.terms.origin (self.now.written ++ self.now.pending)).branches found.0 ≡ Some number) }
-        ensures found { result ≡ option_map (λ (b : Branch). (b.name, b.head)) (slice_get (store_of self.now.terms.origin (self.now.written ++ self.now.pending)).branches number) }
+            is_dropped (store_of self.now.terms.origin
+            (self.now.written ++ self.now.pending)).branches number ≡ false
+            → branch_named
+            (store_of self.now.terms.origin (self.now.written ++ self.now.pending)).branches found.0
+            ≡ Some number) }
+        ensures found { result ≡ option_map (λ (b : Branch).
+            (b.name, b.head))
+            (slice_get (store_of self.now.terms.origin
+            (self.now.written ++ self.now.pending)).branches number) }
     {
         self.versions.branch(number)
     }
 
     /// Whether a branch was dropped.
     pub fn is_dropped(&self, number: u32) -> bool
-        requires { number < length (store_of self.now.terms.origin (self.now.written ++ self.now.pending)).branches }
-        ensures { result ≡ is_dropped (store_of self.now.terms.origin (self.now.written ++ self.now.pending)).branches number }
+        requires { number
+            < length (store_of self.now.terms.origin
+            (self.now.written ++ self.now.pending)).branches }
+        ensures { result
+            ≡ is_dropped (store_of self.now.terms.origin
+            (self.now.written ++ self.now.pending)).branches number }
     {
         self.versions.is_dropped(number)
     }
@@ -142,8 +179,11 @@ impl<T: Mrdt, A: Address> Recorded<T, A> {
     /// Looks at the branch with a name. `UnknownBranch` comes exactly where no branch has it, or it was dropped.
     pub fn look(&self, name: &Name) -> Result<Seen<T>, LookRefused>
         requires settled { self.now.pending ≡ [] }
-        ensures on { IfOk result (λ seen. (seen.history ≡ self.now.written) × (seen.terms ≡ self.now.terms)) }
-        ensures sees { IfOk result (λ seen. turn T.meaning self.now.terms self.now.written (machine.Look name.now) ≡ answers (machine.Sees seen.branch seen.head)) }
+        ensures on { IfOk result (λ seen. (seen.history ≡ self.now.written)
+            × (seen.terms ≡ self.now.terms)) }
+        ensures sees { IfOk result (λ seen.
+            turn T.meaning self.now.terms self.now.written (machine.Look name.now)
+            ≡ answers (machine.Sees seen.branch seen.head)) }
         ensures refused { IfErr result (LookRefusedAs T.meaning (core_of self.now) name.now) }
     {
         self.versions.look(name)
@@ -172,8 +212,10 @@ impl<T: Mrdt, A: Address> Recorded<T, A> {
         requires history { IsPrefix seen.now.history self.old.written }
         requires terms { seen.now.terms ≡ self.old.terms }
         requires there { other < length (store_of self.old.terms.origin self.old.written).commits }
-        ensures step { IfOk result (IsStepOf T.meaning (paired_at (core_of self.old) seen.now other)) }
-        ensures refused { IfErr result (MergeRefusedAs T.meaning (paired_at (core_of self.old) seen.now other)) }
+        ensures step { IfOk result
+            (IsStepOf T.meaning (paired_at (core_of self.old) seen.now other)) }
+        ensures refused { IfErr result
+            (MergeRefusedAs T.meaning (paired_at (core_of self.old) seen.now other)) }
         ensures same { self.new ≡ self.old }
     {
         self.versions.prepare_at(seen, other)
@@ -214,11 +256,14 @@ impl<T: Mrdt, A: Address> Recorded<T, A> {
         requires settled { self.old.pending ≡ [] }
         requires history { IsPrefix seen.now.history self.old.written }
         requires terms { seen.now.terms ≡ self.old.terms }
-        requires there { All (λ n. n < length (store_of self.old.terms.origin self.old.written).commits) others.now }
+        requires there { All (λ n.
+            n < length (store_of self.old.terms.origin self.old.written).commits) others.now }
         requires some { 1 ≤ length others.now }
         requires few { length others.now ≤ 8 }
-        ensures step { IfOk result (IsStepOfAll T.meaning (grouped_at (core_of self.old) seen.now others.now)) }
-        ensures refused { IfErr result (MergeAllRefusedAs T.meaning (grouped_at (core_of self.old) seen.now others.now)) }
+        ensures step { IfOk result
+            (IsStepOfAll T.meaning (grouped_at (core_of self.old) seen.now others.now)) }
+        ensures refused { IfErr result
+            (MergeAllRefusedAs T.meaning (grouped_at (core_of self.old) seen.now others.now)) }
         ensures same { self.new ≡ self.old }
     {
         self.versions.prepare_all_at(seen, others)
@@ -227,7 +272,9 @@ impl<T: Mrdt, A: Address> Recorded<T, A> {
     /// The address of a commit's object; `None` exactly past the last commit. It takes no memory.
     pub fn address(&self, commit: u32) -> Option<[u8; 32]>
         requires settled { self.now.pending ≡ [] }
-        ensures { result ≡ slice_get (addresses_of (fix T.meaning self.now.terms A.address) self.now.written) commit }
+        ensures { result
+            ≡ slice_get (addresses_of (fix T.meaning self.now.terms A.address) self.now.written)
+            commit }
     {
         if commit < self.versions.commits() {
             Some(*self.versions.address(commit))
@@ -236,10 +283,37 @@ impl<T: Mrdt, A: Address> Recorded<T, A> {
         }
     }
 
+    /// The bytes of the two objects of a commit, that of its value and then its own; `None` exactly past the last
+    /// commit. It takes no memory.
+    pub fn item(&self, commit: u32) -> Option<(&[u8], &[u8])>
+        requires settled { self.now.pending ≡ [] }
+        ensures { lent_item result
+            ≡ slice_get (pairs_of (fix T.meaning self.now.terms A.address)
+            (store_of self.now.terms.origin self.now.written).commits) commit }
+    {
+        if commit >= self.versions.commits() {
+            return None;
+        }
+        match commit {
+            0 => first_item(&self.objects),
+            _ => item_at(&self.objects, self.versions.address(commit)),
+        }
+    }
+
+    /// The first of the stored objects that have an address; `None` exactly where none has it. It takes no memory.
+    pub fn object(&self, address: &[u8; 32]) -> Option<&[u8]>
+        requires settled { self.now.pending ≡ [] }
+        ensures { option_copied result ≡ first_with A.address address.now
+            (objects_of (fix T.meaning self.now.terms A.address) self.now.written) }
+    {
+        self.objects.get(address)
+    }
+
     /// The first commit whose object has an address; `None` exactly where none has it. It takes no memory.
     pub fn commit_at(&self, address: &[u8; 32]) -> Option<u32>
         requires settled { self.now.pending ≡ [] }
-        ensures { result ≡ commit_of_address (fix T.meaning self.now.terms A.address) self.now.written address.now }
+        ensures { result ≡ commit_of_address (fix T.meaning self.now.terms A.address)
+            self.now.written address.now }
     {
         self.versions.commit_at(address)
     }
@@ -265,7 +339,9 @@ impl<T: Mrdt, A: Address> Recorded<T, A> {
         requires settled { self.now.pending ≡ [] }
         requires above { above < length (store_of self.now.terms.origin self.now.written).commits }
         requires below { below < length (store_of self.now.terms.origin self.now.written).commits }
-        ensures { IfOk result (λ is. is ≡ reaches (graph_of (store_of self.now.terms.origin self.now.written).commits) above below) }
+        ensures { IfOk result (λ is.
+            is ≡ reaches (graph_of (store_of self.now.terms.origin self.now.written).commits) above
+            below) }
     {
         self.versions.reaches(above, below)
     }
@@ -280,8 +356,10 @@ impl<T: Mrdt, A: Address> Recorded<T, A> {
         requires settled { self.old.pending ≡ [] }
         requires history { IsPrefix prepared.seen.history self.old.written }
         requires terms { prepared.seen.terms ≡ self.old.terms }
-        ensures made { IfOk result (LandsAs (fix T.meaning self.old.terms A.address) prepared self.old self.new) }
-        ensures refused { IfErr result (LandRefusedAs (fix T.meaning self.old.terms A.address) prepared self.old.written) }
+        ensures made { IfOk result
+            (LandsAs (fix T.meaning self.old.terms A.address) prepared self.old self.new) }
+        ensures refused { IfErr result
+            (LandRefusedAs (fix T.meaning self.old.terms A.address) prepared self.old.written) }
         ensures kept { OnErr result (self.new ≡ self.old) }
     {
         let Addressed {
@@ -314,8 +392,10 @@ impl<T: Mrdt, A: Address> Recorded<T, A> {
     /// `FullMoves`.
     pub fn fork(&mut self, new: Name, from: &Name) -> Result<Branched, ForkRefused>
         requires settled { self.old.pending ≡ [] }
-        ensures forked { IfOk result (Forks (fix T.meaning self.old.terms A.address) new from.now self.old self.new) }
-        ensures refused { IfErr result (ForkRefusedAs (fix T.meaning self.old.terms A.address) new from.now self.old.written) }
+        ensures forked { IfOk result
+            (Forks (fix T.meaning self.old.terms A.address) new from.now self.old self.new) }
+        ensures refused { IfErr result
+            (ForkRefusedAs (fix T.meaning self.old.terms A.address) new from.now self.old.written) }
         ensures kept { OnErr result (self.new ≡ self.old) }
     {
         let Some(source) = self.versions.find(from) else {
@@ -339,8 +419,10 @@ impl<T: Mrdt, A: Address> Recorded<T, A> {
     pub fn place(&mut self, name: Name, commit: u32) -> Result<Branched, PlaceRefused>
         requires settled { self.old.pending ≡ [] }
         requires there { commit < length (store_of self.old.terms.origin self.old.written).commits }
-        ensures steps { Steps (fix T.meaning self.old.terms A.address) (machine.Place name commit) self.old self.new (place_answer result) }
-        ensures recorded { IfOk result (λ made. IsRecordOf (fix T.meaning self.old.terms A.address) self.new made.record) }
+        ensures steps { Steps (fix T.meaning self.old.terms A.address)
+            (machine.Place name commit) self.old self.new (place_answer result) }
+        ensures recorded { IfOk result (λ made.
+            IsRecordOf (fix T.meaning self.old.terms A.address) self.new made.record) }
     {
         let forked = self.versions.place(name, commit)?;
         // The longer history is valid: its count tells the proof so.
@@ -362,8 +444,11 @@ impl<T: Mrdt, A: Address> Recorded<T, A> {
         requires settled { self.old.pending ≡ [] }
         requires history { IsPrefix seen.now.history self.old.written }
         requires terms { seen.now.terms ≡ self.old.terms }
-        ensures steps { Steps (fix T.meaning self.old.terms A.address) (machine.Drop seen.now.branch seen.now.head) self.old self.new (drop_answer seen.now result) }
-        ensures recorded { IfOk result (λ made. IsRecordOf (fix T.meaning self.old.terms A.address) self.new made.record) }
+        ensures steps { Steps (fix T.meaning self.old.terms A.address)
+            (machine.Drop seen.now.branch seen.now.head) self.old self.new
+            (drop_answer seen.now result) }
+        ensures recorded { IfOk result (λ made.
+            IsRecordOf (fix T.meaning self.old.terms A.address) self.new made.record) }
     {
         let moves = self.versions.drop_branch(seen)?;
         // The longer history is valid: its count tells the proof so.
@@ -378,7 +463,8 @@ impl<T: Mrdt, A: Address> Recorded<T, A> {
 
     /// The bytes that the pending move adds to the objects; none where no move is pending.
     pub fn region(&self) -> &[u8]
-        ensures region { (made : Move T.Op T.Reply) → self.now.pending ≡ made ∷ [] → result.now ≡ region (fix T.meaning self.now.terms A.address) self.now.written made }
+        ensures region { (made : Move T.Op T.Reply) → self.now.pending ≡ made ∷ []
+            → result.now ≡ region (fix T.meaning self.now.terms A.address) self.now.written made }
         ensures none { self.now.pending ≡ [] → result.now ≡ [] }
     {
         self.objects.staged()
@@ -386,7 +472,8 @@ impl<T: Mrdt, A: Address> Recorded<T, A> {
 
     /// Where the objects end, behind those of the pending move.
     pub fn end(&self) -> u64
-        ensures { result ≡ end_of (fix T.meaning self.now.terms A.address) (self.now.written ++ self.now.pending) }
+        ensures { result ≡ end_of (fix T.meaning self.now.terms A.address)
+            (self.now.written ++ self.now.pending) }
     {
         self.objects.end()
     }
@@ -394,11 +481,25 @@ impl<T: Mrdt, A: Address> Recorded<T, A> {
     /// Writes the objects of the history over what the file of the objects has, and syncs them.
     pub fn create<D: Disk>(&self, disk: &mut D) -> Result<(), DiskFailed>
         requires settled { self.now.pending ≡ [] }
-        ensures any_moment { LeavesOnly D.moment D.left_since disk.old disk.new (After (OnPart Part.Objects (Torn 0 (end_of (fix T.meaning self.now.terms A.address) self.now.written))) (D.may_leave disk.old)) }
-        ensures acknowledged { OnOk result (AllBegin (objects_text (fix T.meaning self.now.terms A.address) self.now.written) (D.may_leave disk.new)) }
-        ensures heads { OnOk result (AllCome (Grows (objects_text (fix T.meaning self.now.terms A.address) self.now.written)) (D.may_leave disk.old) (D.may_leave disk.new)) }
-        ensures written { OnOk result (Tells (OnPart Part.Objects (Holds 0 (objects_text (fix T.meaning self.now.terms A.address) self.now.written))) (D.contents disk.old) (D.contents disk.new)) }
-        ensures torn { Tells (OnPart Part.Objects (Torn 0 (end_of (fix T.meaning self.now.terms A.address) self.now.written))) (D.contents disk.old) (D.contents disk.new) }
+        ensures any_moment { LeavesOnly D.moment D.left_since disk.old disk.new
+            (After (OnPart Part.Objects
+            (Torn 0 (end_of (fix T.meaning self.now.terms A.address) self.now.written)))
+            (D.may_leave disk.old)) }
+        ensures acknowledged { OnOk result
+            (AllBegin (objects_text (fix T.meaning self.now.terms A.address) self.now.written)
+            (D.may_leave disk.new)) }
+        ensures heads { OnOk result
+            (AllCome (Grows
+            (objects_text (fix T.meaning self.now.terms A.address) self.now.written))
+            (D.may_leave disk.old) (D.may_leave disk.new)) }
+        ensures written { OnOk result
+            (Tells (OnPart Part.Objects
+            (Holds 0 (objects_text (fix T.meaning self.now.terms A.address) self.now.written)))
+            (D.contents disk.old) (D.contents disk.new)) }
+        ensures torn { Tells
+            (OnPart Part.Objects
+            (Torn 0 (end_of (fix T.meaning self.now.terms A.address) self.now.written)))
+            (D.contents disk.old) (D.contents disk.new) }
         ensures cause { HasCause (D.faults disk.old) (D.faults disk.new) result }
     {
         self.objects.create_in(disk)
@@ -407,13 +508,33 @@ impl<T: Mrdt, A: Address> Recorded<T, A> {
     /// Writes the objects of the pending move behind the others, and syncs them; where there are none, it makes no
     /// device call. Then the move is still pending.
     pub fn write<D: Disk>(&self, disk: &mut D) -> Result<(), DiskFailed>
-        requires { AllBegin (objects_text (fix T.meaning self.now.terms A.address) self.now.written) (D.may_leave disk.old) }
-        ensures any_moment { LeavesOnly D.moment D.left_since disk.old disk.new (After (Grows (objects_text (fix T.meaning self.now.terms A.address) self.now.written)) (D.may_leave disk.old)) }
-        ensures acknowledged { OnOk result (AllBegin (objects_text (fix T.meaning self.now.terms A.address) (self.now.written ++ self.now.pending)) (D.may_leave disk.new)) }
-        ensures heads { OnOk result (AllCome (Grows (objects_text (fix T.meaning self.now.terms A.address) (self.now.written ++ self.now.pending))) (D.may_leave disk.old) (D.may_leave disk.new)) }
-        ensures written { (made : Move T.Op T.Reply) → self.now.pending ≡ made ∷ [] → OnOk result (Tells (OnPart Part.Objects (Holds (end_of (fix T.meaning self.now.terms A.address) self.now.written) (region (fix T.meaning self.now.terms A.address) self.now.written made))) (D.contents disk.old) (D.contents disk.new)) }
-        ensures torn { (made : Move T.Op T.Reply) → self.now.pending ≡ made ∷ [] → Tells (OnPart Part.Objects (Torn (end_of (fix T.meaning self.now.terms A.address) self.now.written) (length (region (fix T.meaning self.now.terms A.address) self.now.written made)))) (D.contents disk.old) (D.contents disk.new) }
-        ensures untouched { objects_of (fix T.meaning self.now.terms A.address) (self.now.written ++ self.now.pending) ≡ objects_of (fix T.meaning self.now.terms A.address) self.now.written → (disk.new ≡ disk.old) × (result ≡ Ok tt) }
+        requires { AllBegin (objects_text (fix T.meaning self.now.terms A.address) self.now.written)
+            (D.may_leave disk.old) }
+        ensures any_moment { LeavesOnly D.moment D.left_since disk.old disk.new
+            (After (Grows (objects_text (fix T.meaning self.now.terms A.address) self.now.written))
+            (D.may_leave disk.old)) }
+        ensures acknowledged { OnOk result
+            (AllBegin (objects_text (fix T.meaning self.now.terms A.address)
+            (self.now.written ++ self.now.pending)) (D.may_leave disk.new)) }
+        ensures heads { OnOk result
+            (AllCome (Grows (objects_text (fix T.meaning self.now.terms A.address)
+            (self.now.written ++ self.now.pending))) (D.may_leave disk.old)
+            (D.may_leave disk.new)) }
+        ensures written { (made : Move T.Op T.Reply) → self.now.pending ≡ made ∷ []
+            → OnOk result
+            (Tells (OnPart Part.Objects
+            (Holds (end_of (fix T.meaning self.now.terms A.address) self.now.written)
+            (region (fix T.meaning self.now.terms A.address) self.now.written made)))
+            (D.contents disk.old) (D.contents disk.new)) }
+        ensures torn { (made : Move T.Op T.Reply) → self.now.pending ≡ made ∷ []
+            → Tells (OnPart Part.Objects
+            (Torn (end_of (fix T.meaning self.now.terms A.address) self.now.written)
+            (length (region (fix T.meaning self.now.terms A.address) self.now.written made))))
+            (D.contents disk.old) (D.contents disk.new) }
+        ensures untouched { objects_of (fix T.meaning self.now.terms A.address)
+            (self.now.written ++ self.now.pending)
+            ≡ objects_of (fix T.meaning self.now.terms A.address) self.now.written
+            → (disk.new ≡ disk.old) × (result ≡ Ok tt) }
         ensures cause { HasCause (D.faults disk.old) (D.faults disk.new) result }
     {
         self.objects.write(disk)
@@ -421,7 +542,11 @@ impl<T: Mrdt, A: Address> Recorded<T, A> {
 
     /// Counts the pending move, if there is one, as written. It takes no memory.
     pub fn settle(&mut self)
-        ensures { self.new ≡ record { written = self.old.written ++ self.old.pending; pending = []; terms = self.old.terms } }
+        ensures { self.new ≡ record {
+          written = self.old.written ++ self.old.pending;
+          pending = [];
+          terms = self.old.terms;
+        } }
     {
         self.objects.keep_staged();
         self.settled = Snapshot::of(&self.versions);

@@ -32,8 +32,12 @@ pub(crate) fn stage<T: Mrdt, A: Address>(
     requires may { MayLand T.meaning prepared.now versions.now.core }
     requires known { IfSome known (IsValueAddress T.meaning A.address prepared.now) }
     requires settled { IsSettled T.meaning A.address versions.now objects.old }
-    ensures staged { IfOk result (IsStaged (fix T.meaning versions.now.core.terms A.address) versions.now.core.history prepared.now.work (move_of prepared.now.seen.branch prepared.now.work) objects.new) }
-    ensures refused { IfErr result (LandRefusedAs (fix T.meaning versions.now.core.terms A.address) prepared.now versions.now.core.history) }
+    ensures staged { IfOk result
+        (IsStaged (fix T.meaning versions.now.core.terms A.address) versions.now.core.history
+        prepared.now.work (move_of prepared.now.seen.branch prepared.now.work) objects.new) }
+    ensures refused { IfErr result
+        (LandRefusedAs (fix T.meaning versions.now.core.terms A.address) prepared.now
+        versions.now.core.history) }
     ensures kept { OnErr result (objects.new ≡ objects.old) }
 {
     let (origin, head) = (prepared.origin(), prepared.head());
@@ -92,9 +96,13 @@ fn addresses<T: Mrdt>(
     head: u32,
     others: &[u32],
 ) -> Result<Vec<[u8; 32]>, Memory>
-    requires head { head < length (store_of versions.now.core.terms.origin versions.now.core.history).commits }
-    requires others { All (λ n. n < length (store_of versions.now.core.terms.origin versions.now.core.history).commits) others.now }
-    ensures { IfOk result (λ found. found.items ≡ map (λ n. slice_index_or versions.now.addresses n []) (head ∷ others.now)) }
+    requires head { head
+        < length (store_of versions.now.core.terms.origin versions.now.core.history).commits }
+    requires others { All (λ n.
+        n < length (store_of versions.now.core.terms.origin versions.now.core.history).commits)
+        others.now }
+    ensures { IfOk result (λ found.
+        found.items ≡ map (λ n. slice_index_or versions.now.addresses n []) (head ∷ others.now)) }
 {
     let mut found = Vec::new(alloc);
     push_address(*versions.address(head), &mut found)?;
@@ -106,7 +114,8 @@ fn addresses<T: Mrdt>(
 
 /// The record of a work, given the address of its commit and where the objects end behind it.
 pub(crate) fn record_for<T: Mrdt>(prepared: &Prepared<T>, address: [u8; 32], end: u64) -> Record
-    ensures { result ≡ record_with address end (move_of prepared.now.seen.branch prepared.now.work) }
+    ensures { result
+        ≡ record_with address end (move_of prepared.now.seen.branch prepared.now.work) }
 {
     let branch = prepared.branch();
     match prepared.written() {

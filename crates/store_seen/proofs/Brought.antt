@@ -91,6 +91,11 @@ module _ {O R : Type 0} (commits : List (Commit O R)) where
   greatest-append [] ys = omega arith
   greatest-append (x ∷ xs) ys = ap (λ m. max (clock_of commits x) m) (greatest-append xs ys) ∙ omega arith
 
+  pub greatest-next : (ns : List ℕ) (i : ℕ) → i < length ns → (clock one next : ℕ) → clock ≡ greatest_clock commits (take i ns) → one ≡ clock_of commits (get_or ns i 0) → next ≡ max clock one → next ≡ greatest_clock commits (take (i + 1) ns)
+  greatest-next ns i lt clock one next was at is =
+      let more = ap (greatest_clock commits) (take_more ns i 0 lt) ∙ greatest-append (take i ns) (get_or ns i 0 ∷ []) in
+      omega (arith, was, at, is, more)
+
   pub greatest-more : (head : ℕ) (others : List ℕ) (i : ℕ) → i < length others → (clock one next : ℕ) → clock ≡ greatest_clock commits (head ∷ take i others) → one ≡ clock_of commits (get_or others i 0) → next ≡ max clock one
       → next ≡ greatest_clock commits (head ∷ take (i + 1) others)
   greatest-more head others i lt clock one next was at is =

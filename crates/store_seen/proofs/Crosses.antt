@@ -14,6 +14,7 @@ use Rattle.mrdt_model.specs.contracts.listing.Listing as Listing
 use Rattle.branch_names.proofs.Crosses.{Heads-send}
 use Rattle.branch_history.specs.contracts.moves.Move as Move
 use Rattle.virtual_base.proofs.Crosses.{Nodes-send, Nodes-sync, Memo-send}
+use Rattle.store_seen.specs.contracts.move_list.MoveList as MoveList
 use Rattle.store_seen.specs.contracts.shared.SharedNodes as SharedNodes
 use Rattle.store_seen.specs.contracts.versions.Versions as Versions
 
@@ -35,8 +36,11 @@ module _ (T O Q W R : RattleType) (m : mrdt.Ghosts T.Denot O.Denot Q.Denot W.Den
   move_send : IsSend O → IsSend R → IsSend (Move.the_row O R)
   move_send so sr = search (sendable, crosses, listing_send) depth 30
 
+  list_send : IsSend O → IsSend R → IsSend (MoveList.the_row O R)
+  list_send so sr = let a = move_send so sr in search (sendable, crosses, index_send) depth 20
+
   pub Versions-send : IsSend T → IsSync T → IsSend O → IsSend R → IsSend (Versions.the_row T O Q W R m)
   Versions-send s y so sr =
       let a = shared_send s y in
-      let b = move_send so sr in
+      let b = list_send so sr in
       let c = Heads-send in search (sendable, crosses) depth 20

@@ -1,5 +1,6 @@
 pub mod Crosses
 pub mod Named
+pub mod Times
 pub mod Looks
 pub mod Readies
 pub mod Landings
@@ -12,6 +13,9 @@ pub mod Folds
 pub mod Undone
 pub mod Backs
 pub mod Answered
+pub mod Arrived
+pub mod Gains
+pub mod Apart
 pub mod Placed
 pub mod Brought
 pub mod Joins

@@ -1,4 +1,5 @@
 pub mod Views
+pub mod Times
 pub mod Keeps
 pub mod Turns
 pub mod Nodes
@@ -6,3 +7,4 @@ pub mod Pairs
 pub mod Written
 pub mod Groups
 pub mod Answers
+pub mod Arrivals

@@ -9,6 +9,7 @@ use Rattle.branch_graph.specs.Graph.{Ancestry}
 use Rattle.branch_names.specs.declared.terms.Terms.{Terms}
 use Rattle.branch_names.specs.Heads.{Table, IsKeptBranch}
 use Rattle.branch_history.specs.declared.moves.Move.{Move}
+use Rattle.branch_history.specs.declared.moves.Move.TheVariants as move
 use Rattle.branch_history.specs.Commits.{graph_of, visible}
 use Rattle.branch_history.specs.History.{store_of, with_commit}
 use Rattle.branch_history.specs.Validity.{IsMove, IsValid}
@@ -56,3 +57,9 @@ FindsCommits addresses find = (address : List ℕ) (n : ℕ) → commit_at addre
 abbrev pub Notes : Option ℕ → List ℕ → ℕ → (List ℕ → Option ℕ) → (List ℕ → Option ℕ) → Type 0
 Notes (Some n) address next before after = (other : List ℕ) → after other ≡ before other
 Notes None address next before after = (other : List ℕ) → after other ≡ cond (bytes_eq address other) (Some next) (before other)
+
+-- after a history, a move receives a commit of an origin with these parents, a clock and a value
+pub record AddsReceived {S O R Q A : Type 0} (meaning : Meaning S O R Q A) (terms : Terms) (history : List (Move O R)) (parents : List ℕ) (origin clock : ℕ) (act : Option (O × R)) (value : S) : Type 0 where
+  pub moves : IsMove meaning terms history (move.Received parents origin clock act)
+  pub below : All (λ p. p < length (store_of terms.origin history).commits) parents
+  pub stands : meaning.stands value (visible (store_of terms.origin (history ++ move.Received parents origin clock act ∷ [])).commits (length (store_of terms.origin history).commits))

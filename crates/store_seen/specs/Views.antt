@@ -2,6 +2,7 @@
 use Rattle.std.specs.Prelude.{ℕ, List}
 use Rattle.branch_names.specs.declared.terms.Terms.{Terms}
 use Rattle.branch_history.specs.declared.moves.Move.{Move}
+use Rattle.branch_history.specs.Steps as machine
 
 -- a core: its history of moves M, and the terms that it was made under
 pub record CoreView (M : Type 0) : Type 0 where
@@ -57,3 +58,9 @@ pub record GroupView (M : Type 0) : Type 0 where
   pub branch : ℕ
   pub head : ℕ
   pub others : List ℕ
+
+-- a commit of another store that was made anew: the history and the terms of the core then, and the step that receives it
+pub record ArrivalView (O R Q : Type 0) : Type 0 where
+  pub history : List (Move O R)
+  pub terms : Terms
+  pub step : machine.Step O Q

@@ -129,6 +129,45 @@ pub enum DropRefused {
     Memory,
 }
 
+/// Why a merge of another store was not made anew.
+#[derive(Clone, Copy, Debug, PartialEq, Eq, Error)]
+pub enum RemakeRefused {
+    /// No merge has these parents: one of the others is there twice, or lies below the first or another, or it is alone
+    /// and lies above the first.
+    #[error("no merge has these parents")]
+    NotApart,
+    /// Want of memory.
+    #[error("out of memory")]
+    Memory,
+}
+
+/// Why a commit of another store was not received.
+#[derive(Clone, Copy, Debug, PartialEq, Eq, Error)]
+pub enum ReceiveRefused {
+    /// It has the origin of a branch that this store has or may have.
+    #[error("it has an origin of this store")]
+    OwnOrigin,
+    /// This commit has another operation of the same time.
+    #[error("commit #{number} has its time")]
+    TimeClash { number: u32 },
+    /// The clock of its parent is at the limit.
+    #[error("the clock is at its limit, {clock}")]
+    Exhausted { clock: u64 },
+    /// The spellings of the new value and, of an operation, of the operation and the reply have together this many
+    /// bytes, more than the limit.
+    #[error("{length} bytes are too many")]
+    ValueTooLarge { length: u64 },
+    /// The store holds this many commits, and may not hold more.
+    #[error("the store holds its limit of {count} commits")]
+    FullCommits { count: u32 },
+    /// The history has this many moves, and may not have more.
+    #[error("the history has its limit of {count} moves")]
+    FullMoves { count: u64 },
+    /// Want of memory.
+    #[error("out of memory")]
+    Memory,
+}
+
 /// What was landed.
 #[derive(Drop)]
 pub enum Kind<R> {
@@ -159,6 +198,15 @@ pub struct Forked {
     pub number: u32,
     /// The commit that is its head.
     pub head: u32,
+}
+
+/// A commit of another store that was received.
+#[derive(Clone, Copy, Debug, PartialEq, Eq)]
+pub struct Received {
+    /// The length of the history after the move.
+    pub moves: u64,
+    /// The number of the commit.
+    pub commit: u32,
 }
 
 impl From<Memory> for LookRefused {
@@ -268,5 +316,27 @@ impl From<Memory> for DropRefused {
 
     fn from(_: Memory) -> DropRefused {
         DropRefused::Memory
+    }
+}
+
+impl From<Memory> for RemakeRefused {
+    ghost use Rattle.std.specs.Prelude.{◌≡◌};
+    ghost use Rattle.store_seen.specs.declared.answers.RemakeRefused.TheVariants as refusal;
+
+    ghost from_gives = { λ _ error. error ≡ refusal.Memory };
+
+    fn from(_: Memory) -> RemakeRefused {
+        RemakeRefused::Memory
+    }
+}
+
+impl From<Memory> for ReceiveRefused {
+    ghost use Rattle.std.specs.Prelude.{◌≡◌};
+    ghost use Rattle.store_seen.specs.declared.answers.ReceiveRefused.TheVariants as refusal;
+
+    ghost from_gives = { λ _ error. error ≡ refusal.Memory };
+
+    fn from(_: Memory) -> ReceiveRefused {
+        ReceiveRefused::Memory
     }
 }

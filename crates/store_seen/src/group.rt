@@ -38,7 +38,13 @@ impl<T: Mrdt> Model for Group<T> {
     ghost use Rattle.store_seen.specs.Groups.{others_of};
     ghost use Rattle.store_seen.specs.Keeps.{IsGroup};
 
-    ghost view = { λ g. record { history = g.seen.history; terms = g.seen.terms; branch = g.seen.branch; head = g.seen.head; others = others_of g.pairs.items } };
+    ghost view = { λ g. record {
+      history = g.seen.history;
+      terms = g.seen.terms;
+      branch = g.seen.branch;
+      head = g.seen.head;
+      others = others_of g.pairs.items;
+    } };
 
     ghost invariant = { λ g. IsGroup T.meaning g.seen g.pairs.items (arc_value g.nodes) };
 }
@@ -66,7 +72,8 @@ impl<T: Mrdt> Group<T> {
     pub(crate) fn brought(&self) -> Result<Vec<u32>, Memory>
         ensures brought { IfOk result (λ found. found.items ≡ brought_by self.now) }
         ensures seen { IsSeen T.meaning (look_of self.now) }
-        ensures there { All (λ n. n < length (store_of self.now.terms.origin self.now.history).commits) self.now.others }
+        ensures there { All (λ n.
+            n < length (store_of self.now.terms.origin self.now.history).commits) self.now.others }
     {
         let head = self.head();
         let others = self.others()?;
@@ -77,7 +84,8 @@ impl<T: Mrdt> Group<T> {
     fn head(&self) -> u32
         ensures head { result ≡ self.now.head }
         ensures seen { IsSeen T.meaning (look_of self.now) }
-        ensures there { All (λ n. n < length (store_of self.now.terms.origin self.now.history).commits) self.now.others }
+        ensures there { All (λ n.
+            n < length (store_of self.now.terms.origin self.now.history).commits) self.now.others }
         ensures few { length self.now.others ≤ 8 }
     {
         let seen = &self.seen;
@@ -87,7 +95,10 @@ impl<T: Mrdt> Group<T> {
     // The value of the head and what is brought together.
     fn value_of(&self, brought: &[u32]) -> Result<T, Memory>
         requires { brought.now ≡ brought_by self.now }
-        ensures { IfOk result (λ value. T.meaning.stands value (visible_at_all (store_of self.now.terms.origin self.now.history).commits (self.now.head ∷ brought.now))) }
+        ensures { IfOk result (λ value.
+            T.meaning.stands value
+            (visible_at_all (store_of self.now.terms.origin self.now.history).commits
+            (self.now.head ∷ brought.now))) }
     {
         let head = self.head();
         let parents = joined(self.nodes.alloc(), head, brought)?;
@@ -132,7 +143,8 @@ impl<T: Mrdt> Group<T> {
     // The clock of one of the commits.
     fn clock_of(&self, commit: u32) -> u64
         requires { Contains self.now.others commit }
-        ensures { result ≡ clock_of (store_of self.now.terms.origin self.now.history).commits commit }
+        ensures { result ≡ clock_of (store_of self.now.terms.origin self.now.history).commits
+            commit }
     {
         self.pair_of(commit).clock
     }
@@ -140,7 +152,8 @@ impl<T: Mrdt> Group<T> {
     // The greatest clock of the head that was seen and of some of the commits.
     fn greatest_clock(&self, commits: &[u32]) -> u64
         requires { All (Contains self.now.others) commits.now }
-        ensures { result ≡ greatest_clock (store_of self.now.terms.origin self.now.history).commits (self.now.head ∷ commits.now) }
+        ensures { result ≡ greatest_clock (store_of self.now.terms.origin self.now.history).commits
+            (self.now.head ∷ commits.now) }
     {
         let mut clock = self.seen.clock;
         for commit in commits {
@@ -158,7 +171,9 @@ impl<T: Mrdt> Group<T> {
     ) -> Result<PairStep<T>, PairPrepareRefused>
         requires brought { brought.items ≡ brought_by self.now }
         requires several { 2 ≤ length brought.items }
-        requires value { T.meaning.stands value (visible_at_all (store_of self.now.terms.origin self.now.history).commits (self.now.head ∷ brought.items)) }
+        requires value { T.meaning.stands value
+            (visible_at_all (store_of self.now.terms.origin self.now.history).commits
+            (self.now.head ∷ brought.items)) }
         ensures step { IfOk result (IsStepOfAll T.meaning self.now) }
         ensures refused { IfErr result (MergeAllRefusedAs T.meaning self.now) }
     {
@@ -182,7 +197,9 @@ impl<T: Mrdt> Group<T> {
     ) -> Result<Ready<T, T::Op, T::Reply>, PairPrepareRefused>
         requires brought { brought.items ≡ brought_by self.now }
         requires several { 2 ≤ length brought.items }
-        requires value { T.meaning.stands value (visible_at_all (store_of self.now.terms.origin self.now.history).commits (self.now.head ∷ brought.items)) }
+        requires value { T.meaning.stands value
+            (visible_at_all (store_of self.now.terms.origin self.now.history).commits
+            (self.now.head ∷ brought.items)) }
         ensures ready { IfOk result (IsJoinReady T.meaning (look_of self.now) brought.items) }
         ensures refused { IfErr result (MergeAllRefusedAs T.meaning self.now) }
     {
@@ -205,7 +222,11 @@ impl<T: Mrdt> Group<T> {
 }
 
 // What a merge into a commit brings of several others, in the order in which they are given.
-fn brought_of<T: Mrdt>(nodes: &Nodes<T>, head: u32, others: &[u32]) -> Result<Vec<u32>, Memory>
+pub(crate) fn brought_of<T: Mrdt>(
+    nodes: &Nodes<T>,
+    head: u32,
+    others: &[u32],
+) -> Result<Vec<u32>, Memory>
     requires head { head < length nodes.now.graph.commits }
     requires others { All (λ n. n < length nodes.now.graph.commits) others.now }
     ensures { IfOk result (λ found. found.items ≡ brought nodes.now.graph.commits head others.now) }

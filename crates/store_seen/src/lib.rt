@@ -6,9 +6,14 @@
 #![tactic(auto)]
 
 pub mod answers;
+pub mod arrival;
 pub mod group;
+mod move_list;
 pub mod pair;
+pub mod pairing;
+pub mod placing;
 pub mod prepared;
+pub mod receiving;
 pub mod seen;
 mod shared;
 mod spelled;
@@ -16,8 +21,9 @@ pub mod versions;
 
 pub use answers::{
     DropRefused, ForkRefused, Forked, Kind, LandRefused, Landed, LookRefused, PairPrepareRefused,
-    PairRefused, PlaceRefused, PrepareRefused,
+    PairRefused, PlaceRefused, PrepareRefused, ReceiveRefused, Received, RemakeRefused,
 };
+pub use arrival::{Arrival, WrittenArrival};
 pub use group::Group;
 pub use pair::{Pair, PairStep};
 pub use prepared::{Prepared, Written};

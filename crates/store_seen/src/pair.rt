@@ -36,7 +36,13 @@ impl<T: Mrdt> Model for Pair<T> {
     ghost use Rattle.std.specs.Arc.{arc_value};
     ghost use Rattle.store_seen.specs.Keeps.{IsPair};
 
-    ghost view = { λ p. record { history = p.seen.history; terms = p.seen.terms; branch = p.seen.branch; head = p.seen.head; other = p.other } };
+    ghost view = { λ p. record {
+      history = p.seen.history;
+      terms = p.seen.terms;
+      branch = p.seen.branch;
+      head = p.seen.head;
+      other = p.other;
+    } };
 
     ghost invariant = { λ p. IsPair T.meaning p.seen p.other p.clock (arc_value p.nodes) };
 }
@@ -88,7 +94,9 @@ impl<T: Mrdt> Pair<T> {
 
     // The base of the two commits.
     fn base(&self) -> Result<T, Memory>
-        ensures { IfOk result (IsBaseAt T.meaning (store_of self.now.terms.origin self.now.history).commits self.now.head self.now.other) }
+        ensures { IfOk result
+            (IsBaseAt T.meaning (store_of self.now.terms.origin self.now.history).commits
+            self.now.head self.now.other) }
     {
         let seen = &self.seen;
         let base = base(&self.nodes, &[seen.head], &[self.other])?;
@@ -98,7 +106,8 @@ impl<T: Mrdt> Pair<T> {
     // Makes the merge over this base ready, where neither commit reaches the other.
     pub(crate) fn prepare_over(&self, base: &T) -> Result<PairStep<T>, PairPrepareRefused>
         requires apart { IsApart self.now }
-        requires base { IsBaseAt T.meaning (store_of self.now.terms.origin self.now.history).commits self.now.head self.now.other base.now }
+        requires base { IsBaseAt T.meaning (store_of self.now.terms.origin self.now.history).commits
+            self.now.head self.now.other base.now }
         ensures step { IfOk result (IsStepOf T.meaning self.now) }
         ensures refused { IfErr result (MergeRefusedAs T.meaning self.now) }
     {
@@ -116,9 +125,14 @@ impl<T: Mrdt> Pair<T> {
     // The merge of the two commits over this base, of which neither reaches the other, unless its value's spelling is
     // too long.
     fn merged(&self, base: &T) -> Result<Ready<T, T::Op, T::Reply>, PairPrepareRefused>
-        requires above { reaches (graph_of (store_of self.now.terms.origin self.now.history).commits) self.now.head self.now.other ≡ false }
-        requires below { reaches (graph_of (store_of self.now.terms.origin self.now.history).commits) self.now.other self.now.head ≡ false }
-        requires base { IsBaseAt T.meaning (store_of self.now.terms.origin self.now.history).commits self.now.head self.now.other base.now }
+        requires above { reaches
+            (graph_of (store_of self.now.terms.origin self.now.history).commits)
+            self.now.head self.now.other ≡ false }
+        requires below { reaches
+            (graph_of (store_of self.now.terms.origin self.now.history).commits)
+            self.now.other self.now.head ≡ false }
+        requires base { IsBaseAt T.meaning (store_of self.now.terms.origin self.now.history).commits
+            self.now.head self.now.other base.now }
         ensures ready { IfOk result (IsMergeReady T.meaning (seen_of self.now) self.now.other) }
         ensures refused { IfErr result (MergeRefusedAs T.meaning self.now) }
     {
@@ -140,8 +154,12 @@ impl<T: Mrdt> Pair<T> {
 
     // The merge of the values of the two commits, over their base.
     fn merged_value(&self, base: &T) -> Result<T, Memory>
-        requires { IsBaseAt T.meaning (store_of self.now.terms.origin self.now.history).commits self.now.head self.now.other base.now }
-        ensures { IfOk result (λ value. T.meaning.stands value (visible_at_all (store_of self.now.terms.origin self.now.history).commits (self.now.head ∷ self.now.other ∷ []))) }
+        requires { IsBaseAt T.meaning (store_of self.now.terms.origin self.now.history).commits
+            self.now.head self.now.other base.now }
+        ensures { IfOk result (λ value.
+            T.meaning.stands value
+            (visible_at_all (store_of self.now.terms.origin self.now.history).commits
+            (self.now.head ∷ self.now.other ∷ []))) }
     {
         merges_lists::<T>();
         sees_alone::<T>();

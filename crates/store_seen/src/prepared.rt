@@ -108,7 +108,8 @@ impl<T: Mrdt> Prepared<T> {
     /// The commit that was seen, which the history has.
     pub fn head(&self) -> u32
         ensures head { result ≡ self.now.seen.head }
-        ensures within { self.now.seen.head < length (store_of self.now.seen.terms.origin self.now.seen.history).commits }
+        ensures within { self.now.seen.head
+            < length (store_of self.now.seen.terms.origin self.now.seen.history).commits }
     {
         self.head
     }

@@ -9,9 +9,9 @@ ghost use Rattle.store_seen.specs.Turns.{FromOn, PrepareRefusedAs};
 ghost use Rattle.store_seen.specs.Views.{Operation};
 
 use crate::answers::PrepareRefused;
+use crate::move_list::MoveList;
 use crate::prepared::{Prepared, Ready};
 use crate::spelled::Spelled;
-use branch_history::Move;
 use branch_names::Terms;
 use mrdt_model::{Memory, Mrdt, Time};
 use std::alloc::Global;
@@ -24,7 +24,7 @@ use std::sync::Arc;
 #[derive(Drop)]
 pub struct Seen<T: Mrdt> {
     pub(crate) alloc: Global,
-    pub(crate) history: Snapshot<Vec<Move<T::Op, T::Reply>>>,
+    pub(crate) history: Snapshot<MoveList<T::Op, T::Reply>>,
     pub(crate) terms: Terms,
     pub(crate) moves: u64,
     pub(crate) branch: u32,
@@ -42,16 +42,28 @@ impl<T: Mrdt> Model for Seen<T> {
 
     ghost use Rattle.store_seen.specs.Keeps.{IsLook};
 
-    ghost view = { λ s. record { history = s.history.value.items; terms = s.terms; branch = s.branch; head = s.head } };
+    ghost view = { λ s. record {
+      history = s.history.value.items;
+      terms = s.terms;
+      branch = s.branch;
+      head = s.head;
+    } };
 
-    ghost invariant = { λ s. IsLook T.meaning (record { history = s.history.value.items; terms = s.terms; branch = s.branch; head = s.head }) s.moves s.clock (arc_value s.value) };
+    ghost invariant = { λ s.
+        IsLook T.meaning (record {
+          history = s.history.value.items;
+          terms = s.terms;
+          branch = s.branch;
+          head = s.head;
+        }) s.moves s.clock (arc_value s.value) };
 }
 
 impl<T: Mrdt> Seen<T> {
     /// The branch's number, which the history has.
     pub fn branch(&self) -> u32
         ensures branch { result ≡ self.now.branch }
-        ensures within { self.now.branch < length (store_of self.now.terms.origin self.now.history).branches }
+        ensures within { self.now.branch
+            < length (store_of self.now.terms.origin self.now.history).branches }
     {
         self.branch
     }
@@ -72,7 +84,8 @@ impl<T: Mrdt> Seen<T> {
 
     /// The clock of that commit.
     pub fn clock(&self) -> u64
-        ensures { result ≡ clock_of (store_of self.now.terms.origin self.now.history).commits self.now.head }
+        ensures { result ≡ clock_of (store_of self.now.terms.origin self.now.history).commits
+            self.now.head }
     {
         self.clock
     }
@@ -87,8 +100,11 @@ impl<T: Mrdt> Seen<T> {
 
     /// The value at the head. It stands for the events that are visible there, and its spelling is theirs.
     pub fn value(&self) -> &T
-        ensures stands { T.meaning.stands result.now (visible (store_of self.now.terms.origin self.now.history).commits self.now.head) }
-        ensures spelling { T.meaning.state_spelling result.now ≡ T.meaning.spelling_of (visible (store_of self.now.terms.origin self.now.history).commits self.now.head) }
+        ensures stands { T.meaning.stands result.now
+            (visible (store_of self.now.terms.origin self.now.history).commits self.now.head) }
+        ensures spelling { T.meaning.state_spelling result.now
+            ≡ T.meaning.spelling_of
+            (visible (store_of self.now.terms.origin self.now.history).commits self.now.head) }
     {
         &self.value
     }
@@ -96,7 +112,8 @@ impl<T: Mrdt> Seen<T> {
     /// What the head answers to a query, now and however the history goes on.
     pub fn ask(&self, query: &T::Query) -> Result<T::Answer, Memory>
         ensures { IfOk result (λ answer. FromOn T.meaning self.now.terms self.now.history (λ later.
-            turn T.meaning self.now.terms later (machine.Ask self.now.head query.now) ≡ answers (machine.Answered answer))) }
+            turn T.meaning self.now.terms later (machine.Ask self.now.head query.now)
+            ≡ answers (machine.Answered answer))) }
     {
         self.value.answer(query)
     }
@@ -104,8 +121,15 @@ impl<T: Mrdt> Seen<T> {
     /// Makes an operation ready to land on the head. It is refused as the machine refuses to land it, now and
     /// however the history goes on: `Exhausted` before `ValueTooLarge`.
     pub fn prepare(&self, op: T::Op) -> Result<Prepared<T>, PrepareRefused>
-        ensures prepared { IfOk result (λ made. made ≡ record { seen = self.now; work = Operation op (T.meaning.reply_of (visible (store_of self.now.terms.origin self.now.history).commits self.now.head) op) }) }
-        ensures fits { OnOk result (operation_refusal T.meaning self.now.terms.limits (store_of self.now.terms.origin self.now.history).commits (self.now.terms.origin + self.now.branch) self.now.head op ≡ None) }
+        ensures prepared { IfOk result (λ made. made ≡ record {
+          seen = self.now;
+          work = Operation op
+              (T.meaning.reply_of (visible (store_of self.now.terms.origin self.now.history).commits
+              self.now.head) op);
+        }) }
+        ensures fits { OnOk result (operation_refusal T.meaning self.now.terms.limits
+            (store_of self.now.terms.origin self.now.history).commits
+            (self.now.terms.origin + self.now.branch) self.now.head op ≡ None) }
         ensures refused { IfErr result (PrepareRefusedAs T.meaning self.now op) }
     {
         if self.clock >= self.terms.limits.clock {

@@ -45,7 +45,9 @@ impl<T: Mrdt> Model for SharedNodes<T> {
 
     ghost view = { λ s. first_nodes s.count (arc_value s.nodes) };
 
-    ghost invariant = { λ s. (s.count ≤ length (arc_value s.nodes).graph.commits) × AreFoldsOf T.meaning (first_nodes s.count (arc_value s.nodes)) s.folds × FindsCommits (first_nodes s.count (arc_value s.nodes)).addresses (get bytes_eq s.index) };
+    ghost invariant = { λ s. (s.count ≤ length (arc_value s.nodes).graph.commits)
+        × AreFoldsOf T.meaning (first_nodes s.count (arc_value s.nodes)) s.folds
+        × FindsCommits (first_nodes s.count (arc_value s.nodes)).addresses (get bytes_eq s.index) };
 }
 
 impl<T: Mrdt> SharedNodes<T> {
@@ -135,7 +137,9 @@ impl<T: Mrdt> SharedNodes<T> {
     pub(crate) fn base(&mut self, left: u32, right: u32) -> Result<T, Memory>
         requires left { left < length self.old.graph.commits }
         requires right { right < length self.old.graph.commits }
-        ensures folded { IfOk result (IsFold T.meaning self.old (maximal_common self.old.graph.commits (left ∷ []) (right ∷ []))) }
+        ensures folded { IfOk result
+            (IsFold T.meaning self.old (maximal_common self.old.graph.commits (left ∷ [])
+            (right ∷ []))) }
         ensures same { self.new ≡ self.old }
     {
         let nodes = self.share()?;
@@ -199,8 +203,10 @@ fn note(
     address: [u8; 32],
     next: u32,
 ) -> Result<(), Memory>
-    ensures noted { OnOk result (Notes earlier address next (get bytes_eq index.old) (get bytes_eq index.new)) }
-    ensures kept { OnErr result ((other : List ℕ) → get bytes_eq index.new other ≡ get bytes_eq index.old other) }
+    ensures noted { OnOk result (Notes earlier address next (get bytes_eq index.old)
+        (get bytes_eq index.new)) }
+    ensures kept { OnErr result ((other : List ℕ)
+        → get bytes_eq index.new other ≡ get bytes_eq index.old other) }
 {
     if earlier.is_none() {
         let _ = index.insert(address, next)?;
@@ -218,7 +224,9 @@ fn base_by_folds<T: Mrdt>(
     requires left { left < length nodes.now.graph.commits }
     requires right { right < length nodes.now.graph.commits }
     requires folds { AreFoldsOf T.meaning nodes.now folds.old }
-    ensures folded { IfOk result (IsFold T.meaning nodes.now (maximal_common nodes.now.graph.commits (left ∷ []) (right ∷ []))) }
+    ensures folded { IfOk result
+        (IsFold T.meaning nodes.now (maximal_common nodes.now.graph.commits (left ∷ [])
+        (right ∷ []))) }
     ensures folds { AreFoldsOf T.meaning nodes.now folds.new }
 {
     match folds {
@@ -276,7 +284,9 @@ fn base_by<T: Mrdt, L: Ledger>(
     requires left { left < length nodes.now.graph.commits }
     requires right { right < length nodes.now.graph.commits }
     requires memo { IsMemoOf T.meaning nodes.now memo.old }
-    ensures folded { IfOk result (IsFold T.meaning nodes.now (maximal_common nodes.now.graph.commits (left ∷ []) (right ∷ []))) }
+    ensures folded { IfOk result
+        (IsFold T.meaning nodes.now (maximal_common nodes.now.graph.commits (left ∷ [])
+        (right ∷ []))) }
     ensures memo { IsMemoOf T.meaning nodes.now memo.new }
 {
     base_kept(nodes, &[left], &[right], memo, &mut Steps::<L>::none(blank))
@@ -309,7 +319,8 @@ fn cut<T: Mrdt>(nodes: &mut Nodes<T>, count: u32)
 // Takes all nodes off but so many of the first, where nobody shares them.
 fn cut_own<T: Mrdt>(nodes: &mut Arc<Nodes<T>>, count: u32)
     requires { count ≤ length (arc_value nodes.old).graph.commits }
-    ensures first { first_nodes count (arc_value nodes.new) ≡ first_nodes count (arc_value nodes.old) }
+    ensures first { first_nodes count (arc_value nodes.new)
+        ≡ first_nodes count (arc_value nodes.old) }
     ensures there { count ≤ length (arc_value nodes.new).graph.commits }
 {
     if let Some(own) = Arc::get_mut(nodes) {
@@ -328,9 +339,12 @@ fn push_behind<T: Mrdt>(
     requires count { count ≤ length (arc_value nodes.old).graph.commits }
     requires below { All (λ parent. parent < count) parents.now }
     ensures number { IfOk result (λ number. number ≡ count) }
-    ensures pushed { OnOk result (arc_value nodes.new ≡ with_node (first_nodes count (arc_value nodes.old)) parents.now value address) }
-    ensures full { (held : ℕ) → IsErrOf result (PushRefused.Full held) → (arc_value nodes.old).graph.limit ≤ count }
-    ensures kept { OnErr result (first_nodes count (arc_value nodes.new) ≡ first_nodes count (arc_value nodes.old)) }
+    ensures pushed { OnOk result (arc_value nodes.new
+        ≡ with_node (first_nodes count (arc_value nodes.old)) parents.now value address) }
+    ensures full { (held : ℕ) → IsErrOf result (PushRefused.Full held)
+        → (arc_value nodes.old).graph.limit ≤ count }
+    ensures kept { OnErr result (first_nodes count (arc_value nodes.new)
+        ≡ first_nodes count (arc_value nodes.old)) }
     ensures there { OnErr result (count ≤ length (arc_value nodes.new).graph.commits) }
 {
     match Arc::get_mut(nodes) {
@@ -357,8 +371,10 @@ fn put_longer<T: Mrdt, L: Ledger>(
     requires count { count ≤ length (arc_value nodes.old).graph.commits }
     requires below { All (λ parent. parent < count) parents.now }
     ensures number { IfOk result (λ number. number ≡ count) }
-    ensures pushed { OnOk result (arc_value nodes.new ≡ with_node (first_nodes count (arc_value nodes.old)) parents.now value address) }
-    ensures full { (held : ℕ) → IsErrOf result (PushRefused.Full held) → (arc_value nodes.old).graph.limit ≤ count }
+    ensures pushed { OnOk result (arc_value nodes.new
+        ≡ with_node (first_nodes count (arc_value nodes.old)) parents.now value address) }
+    ensures full { (held : ℕ) → IsErrOf result (PushRefused.Full held)
+        → (arc_value nodes.old).graph.limit ≤ count }
     ensures kept { OnErr result (arc_value nodes.new ≡ arc_value nodes.old) }
 {
     let first = share_first(nodes, count)?;

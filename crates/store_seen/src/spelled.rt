@@ -22,7 +22,11 @@ impl Model for Spelled {
 
     ghost Value = { SpelledView };
 
-    ghost view = { λ s. record { value = take s.op_at s.bytes.items; op = slice_range s.bytes.items s.op_at s.reply_at; reply = drop s.reply_at s.bytes.items } };
+    ghost view = { λ s. record {
+      value = take s.op_at s.bytes.items;
+      op = slice_range s.bytes.items s.op_at s.reply_at;
+      reply = drop s.reply_at s.bytes.items;
+    } };
 
     ghost invariant = { λ s. (s.op_at ≤ s.reply_at) × (s.reply_at ≤ length s.bytes.items) };
 }

@@ -1,28 +1,22 @@
 // The core's half in memory: a history, and the value of each of its commits.
-ghost use Rattle.std.specs.Prelude.{◌≡◌, ◌≢◌, ◌<◌, ◌≤◌, ℕ, All, false, List, [], ◌∷◌, ◌++◌, length, map, slice_get, IfOk, IfErr, IfSome, OnOk, OnErr, Some, None};
+ghost use Rattle.std.specs.Prelude.{◌≡◌, ◌≢◌, ◌<◌, ◌≤◌, ℕ, false, [], ◌∷◌, ◌++◌, length, slice_get, IfOk, IfErr, IfSome, OnOk, OnErr, Some, None};
 ghost use Rattle.std.specs.Option.{option_map};
 ghost use mathlib.Core.List.{IsPrefix};
 ghost use Rattle.branch_graph.specs.Graph.{reaches};
-ghost use Rattle.branch_names.specs.Heads.{branch_named, head_of, is_dropped, with_head, with_drop, IsKeptBranch};
+ghost use Rattle.branch_names.specs.Heads.{branch_named, head_of, is_dropped, with_head, IsKeptBranch};
 ghost use Rattle.branch_names.specs.declared.branch.Branch.{Branch};
-ghost use Rattle.branch_history.specs.Commits.{graph_of, visible_at_all};
+ghost use Rattle.branch_history.specs.Commits.{graph_of};
 ghost use Rattle.branch_history.specs.History.{store_of};
-ghost use Rattle.branch_history.specs.Machine.{turn, answers, commit_refusal, forward_refusal, drop_refusal};
+ghost use Rattle.branch_history.specs.Machine.{turn, answers, commit_refusal, forward_refusal};
 ghost use Rattle.branch_history.specs.Steps as machine;
 ghost use Rattle.branch_history.specs.Validity.{IsMove, IsValid};
 ghost use Rattle.store_seen.specs.Keeps.{IsReadyOperation, IsReadyMerge, IsReadyJoin, IsReadyForward, AreSpelled};
-ghost use Rattle.store_seen.specs.Answers.{place_answer, drop_answer};
-ghost use Rattle.store_seen.specs.Groups.{grouped_at, AreHeads, IsGrouped, GroupRefusedAs, IsStepOfAll, MergeAllRefusedAs};
 ghost use Rattle.store_seen.specs.Nodes.{AddsCommit, commit_at};
-ghost use Rattle.store_seen.specs.Pairs.{IsPaired, PairRefusedAs, paired_at, IsBaseAt, IsStepOf, MergeRefusedAs};
-ghost use Rattle.store_seen.specs.Turns.{at_head, outcome_of, Steps, addresses_after, Moves, LookRefusedAs, MayLand, LandsAs, LandRefusedAs, RefusedBy, DropRefusedBy, BranchAdded, PlaceAdded, Forks, ForkRefusedAs, StoodBefore, Undone, GoesBack};
+ghost use Rattle.store_seen.specs.Times.{IsOwn};
+ghost use Rattle.store_seen.specs.Turns.{at_head, outcome_of, addresses_after, Moves, LookRefusedAs, MayLand, LandsAs, LandRefusedAs, RefusedBy, BranchAdded, Forks, ForkRefusedAs, StoodBefore, Undone, GoesBack};
 
-use crate::answers::{
-    DropRefused, ForkRefused, Forked, Kind, LandRefused, Landed, LookRefused, PairPrepareRefused,
-    PairRefused, PlaceRefused,
-};
-use crate::group::Group;
-use crate::pair::{Pair, PairStep};
+use crate::answers::{ForkRefused, Forked, Kind, LandRefused, Landed, LookRefused};
+use crate::move_list::MoveList;
 use crate::prepared::{Prepared, Ready, same_reply};
 use crate::seen::Seen;
 use crate::shared::SharedNodes;
@@ -33,18 +27,17 @@ use mrdt_model::{Listing, Memory, Mrdt, Time};
 use std::alloc::Global;
 use std::marker::Model;
 use std::snapshot::Snapshot;
-use std::sync::Arc;
 
 /// A history of accepted moves, with what each commit of it has. Contracts see a `VersionsView`: the history and
 /// the terms, and the address of each commit's object.
 #[derive(Drop)]
 pub struct Versions<T: Mrdt> {
-    alloc: Global,
-    terms: Terms,
-    moves: Vec<Move<T::Op, T::Reply>>,
-    heads: Heads,
-    clocks: Vec<u64>,
-    nodes: SharedNodes<T>,
+    pub(crate) alloc: Global,
+    pub(crate) terms: Terms,
+    pub(crate) moves: MoveList<T::Op, T::Reply>,
+    pub(crate) heads: Heads,
+    pub(crate) clocks: Vec<u64>,
+    pub(crate) nodes: SharedNodes<T>,
 }
 
 impl<T: Mrdt> Model for Versions<T> {
@@ -55,9 +48,14 @@ impl<T: Mrdt> Model for Versions<T> {
 
     ghost use Rattle.store_seen.specs.Nodes.{IsCore};
 
-    ghost view = { λ v. record { core = record { history = v.moves.items; terms = v.terms }; addresses = v.nodes.addresses } };
+    ghost view = { λ v. record {
+      core = record { history = v.moves.items; terms = v.terms };
+      addresses = v.nodes.addresses;
+    } };
 
-    ghost invariant = { λ v. IsCore T.meaning v.terms v.moves.items v.heads v.nodes.graph v.clocks.items v.nodes.values };
+    ghost invariant = { λ v.
+        IsCore T.meaning v.terms v.moves.items v.heads v.nodes.graph v.clocks.items
+        v.nodes.values };
 }
 
 // Where a commit is to stand: on a branch, above its head, with the address of its object.
@@ -71,7 +69,11 @@ struct Place {
 impl<T: Mrdt> Versions<T> {
     /// The empty history, with `main` at commit 0, whose object has the address `root`.
     pub fn fresh(alloc: Global, terms: Terms, root: [u8; 32]) -> Result<Versions<T>, Memory>
-        ensures { IfOk result (λ versions. versions ≡ record { core = record { history = []; terms = terms }; addresses = root ∷ [] }) }
+        ensures { IfOk result (λ versions.
+            versions ≡ record {
+              core = record { history = []; terms = terms };
+              addresses = root ∷ [];
+            }) }
     {
         let heads = Heads::new(alloc, terms.limits.branches)?;
         let mut clocks = Vec::new(alloc);
@@ -81,7 +83,7 @@ impl<T: Mrdt> Versions<T> {
         Ok(Versions {
             alloc,
             terms,
-            moves: Vec::new(alloc),
+            moves: MoveList::new(alloc),
             heads,
             clocks,
             nodes,
@@ -93,27 +95,37 @@ impl<T: Mrdt> Versions<T> {
         ensures moves { result ≡ length self.now.core.history }
         ensures valid { IsValid T.meaning self.now.core.terms self.now.core.history }
     {
-        self.moves.len() as u64
+        self.moves.len()
+    }
+
+    /// The moves of the history, in order, which are lent.
+    pub fn history(&self) -> &[Move<T::Op, T::Reply>]
+        ensures { result.now ≡ self.now.core.history }
+    {
+        self.moves.as_slice()
     }
 
     /// The moves of the history, in order. It takes no memory.
     pub fn into_moves(self) -> Listing<Move<T::Op, T::Reply>>
         ensures { result ≡ self.core.history }
     {
-        Listing::from_vec(self.moves)
+        self.moves.into_listing()
     }
 
     /// How many commits the store holds, commit 0 counted. Each has an address.
     pub fn commits(&self) -> u32
-        ensures count { result ≡ length (store_of self.now.core.terms.origin self.now.core.history).commits }
-        ensures addressed { length self.now.addresses ≡ length (store_of self.now.core.terms.origin self.now.core.history).commits }
+        ensures count { result
+            ≡ length (store_of self.now.core.terms.origin self.now.core.history).commits }
+        ensures addressed { length self.now.addresses
+            ≡ length (store_of self.now.core.terms.origin self.now.core.history).commits }
     {
         self.nodes.count()
     }
 
     /// How many branches the store holds, `main` and those that were dropped counted.
     pub fn branches(&self) -> u32
-        ensures { result ≡ length (store_of self.now.core.terms.origin self.now.core.history).branches }
+        ensures { result
+            ≡ length (store_of self.now.core.terms.origin self.now.core.history).branches }
     {
         self.heads.count()
     }
@@ -129,9 +141,14 @@ impl<T: Mrdt> Versions<T> {
     /// other branch has the name of one that was not dropped.
     pub fn branch(&self, number: u32) -> Option<(Name, u32)>
         ensures named { IfSome result (λ found.
-            is_dropped (store_of self.now.core.terms.origin self.now.core.history).branches number ≡ false
-            → branch_named (store_of self.now.core.terms.origin self.now.core.history).branches found.0 ≡ Some number) }
-        ensures found { result ≡ option_map (λ (b : Branch). (b.name, b.head)) (slice_get (store_of self.now.core.terms.origin self.now.core.history).branches number) }
+            is_dropped (store_of self.now.core.terms.origin self.now.core.history).branches number
+            ≡ false
+            → branch_named (store_of self.now.core.terms.origin self.now.core.history).branches
+            found.0 ≡ Some number) }
+        ensures found { result ≡ option_map (λ (b : Branch).
+            (b.name, b.head))
+            (slice_get (store_of self.now.core.terms.origin self.now.core.history).branches
+            number) }
     {
         if number < self.heads.count() {
             Some((self.heads.name(number), self.heads.head(number)))
@@ -142,25 +159,35 @@ impl<T: Mrdt> Versions<T> {
 
     /// Whether a branch was dropped.
     pub fn is_dropped(&self, number: u32) -> bool
-        requires { number < length (store_of self.now.core.terms.origin self.now.core.history).branches }
-        ensures { result ≡ is_dropped (store_of self.now.core.terms.origin self.now.core.history).branches number }
+        requires { number
+            < length (store_of self.now.core.terms.origin self.now.core.history).branches }
+        ensures { result
+            ≡ is_dropped (store_of self.now.core.terms.origin self.now.core.history).branches
+            number }
     {
         self.heads.is_dropped(number)
     }
 
     /// The number of the branch with a name; `None` exactly where no branch has it, or it was dropped.
     pub fn find(&self, name: &Name) -> Option<u32>
-        ensures number { result ≡ branch_named (store_of self.now.core.terms.origin self.now.core.history).branches name.now }
-        ensures kept { IfSome result (IsKeptBranch (store_of self.now.core.terms.origin self.now.core.history).branches) }
+        ensures number { result
+            ≡ branch_named (store_of self.now.core.terms.origin self.now.core.history).branches
+            name.now }
+        ensures kept { IfSome result
+            (IsKeptBranch (store_of self.now.core.terms.origin self.now.core.history).branches) }
     {
         self.heads.find(name)
     }
 
     /// Whether a commit is another one or lies above it.
     pub fn reaches(&self, above: u32, below: u32) -> Result<bool, Memory>
-        requires above { above < length (store_of self.now.core.terms.origin self.now.core.history).commits }
-        requires below { below < length (store_of self.now.core.terms.origin self.now.core.history).commits }
-        ensures { IfOk result (λ is. is ≡ reaches (graph_of (store_of self.now.core.terms.origin self.now.core.history).commits) above below) }
+        requires above { above
+            < length (store_of self.now.core.terms.origin self.now.core.history).commits }
+        requires below { below
+            < length (store_of self.now.core.terms.origin self.now.core.history).commits }
+        ensures { IfOk result (λ is.
+            is ≡ reaches (graph_of
+            (store_of self.now.core.terms.origin self.now.core.history).commits) above below) }
     {
         let nodes = self.nodes.share()?;
         nodes.reaches(above, below)
@@ -168,9 +195,11 @@ impl<T: Mrdt> Versions<T> {
 
     /// The address of a commit's object.
     pub fn address(&self, number: u32) -> &[u8; 32]
-        requires { number < length (store_of self.now.core.terms.origin self.now.core.history).commits }
+        requires { number
+            < length (store_of self.now.core.terms.origin self.now.core.history).commits }
         ensures address { slice_get self.now.addresses number ≡ Some result.now }
-        ensures addressed { length self.now.addresses ≡ length (store_of self.now.core.terms.origin self.now.core.history).commits }
+        ensures addressed { length self.now.addresses
+            ≡ length (store_of self.now.core.terms.origin self.now.core.history).commits }
     {
         let _count = self.nodes.count();
         self.nodes.address(number)
@@ -185,8 +214,11 @@ impl<T: Mrdt> Versions<T> {
 
     /// Looks at the branch with a name. `UnknownBranch` comes exactly where no branch has it.
     pub fn look(&self, name: &Name) -> Result<Seen<T>, LookRefused>
-        ensures on { IfOk result (λ seen. (seen.history ≡ self.now.core.history) × (seen.terms ≡ self.now.core.terms)) }
-        ensures sees { IfOk result (λ seen. turn T.meaning self.now.core.terms self.now.core.history (machine.Look name.now) ≡ answers (machine.Sees seen.branch seen.head)) }
+        ensures on { IfOk result (λ seen. (seen.history ≡ self.now.core.history)
+            × (seen.terms ≡ self.now.core.terms)) }
+        ensures sees { IfOk result (λ seen.
+            turn T.meaning self.now.core.terms self.now.core.history (machine.Look name.now)
+            ≡ answers (machine.Sees seen.branch seen.head)) }
         ensures refused { IfErr result (LookRefusedAs T.meaning self.now.core name.now) }
     {
         let Some(branch) = self.heads.find(name) else {
@@ -197,213 +229,11 @@ impl<T: Mrdt> Versions<T> {
             alloc: self.alloc,
             history: Snapshot::of(&self.moves),
             terms: self.terms,
-            moves: self.moves.len() as u64,
+            moves: self.moves.len(),
             branch,
             head,
             clock: self.clocks[head as usize],
             value: self.nodes.value(head)?,
-        })
-    }
-
-    /// Pairs a look at this core, taken now or earlier, with the head that a branch has now. `UnknownBranch` comes
-    /// exactly where no branch has the name.
-    pub fn pair(&self, seen: &Seen<T>, from: &Name) -> Result<Pair<T>, PairRefused>
-        requires history { IsPrefix seen.now.history self.now.core.history }
-        requires terms { seen.now.terms ≡ self.now.core.terms }
-        ensures paired { IfOk result (IsPaired T.meaning self.now.core seen.now from.now) }
-        ensures refused { IfErr result (PairRefusedAs T.meaning self.now.core from.now) }
-    {
-        let Some(source) = self.heads.find(from) else {
-            return Err(PairRefused::UnknownBranch { name: *from });
-        };
-        let other = self.heads.head(source);
-        Ok(self.pair_at(seen, other)?)
-    }
-
-    /// Pairs a look at this core, taken now or earlier, with a commit.
-    pub fn pair_at(&self, seen: &Seen<T>, other: u32) -> Result<Pair<T>, Memory>
-        requires history { IsPrefix seen.now.history self.now.core.history }
-        requires terms { seen.now.terms ≡ self.now.core.terms }
-        requires there { other < length (store_of self.now.core.terms.origin self.now.core.history).commits }
-        ensures { IfOk result (λ pair. pair ≡ record { history = self.now.core.history; terms = self.now.core.terms; branch = seen.now.branch; head = seen.now.head; other = other }) }
-    {
-        let seen = self.seen_again(seen)?;
-        Ok(Pair {
-            seen,
-            other,
-            clock: self.clocks[other as usize],
-            nodes: self.nodes.share()?,
-        })
-    }
-
-    /// Makes the merge of a commit ready to land on a look at this core, taken now or earlier: what `pair_at` and then
-    /// `prepare` make, with the folds that are kept.
-    pub fn prepare_at(
-        &mut self,
-        seen: &Seen<T>,
-        other: u32,
-    ) -> Result<PairStep<T>, PairPrepareRefused>
-        requires history { IsPrefix seen.now.history self.old.core.history }
-        requires terms { seen.now.terms ≡ self.old.core.terms }
-        requires there { other < length (store_of self.old.core.terms.origin self.old.core.history).commits }
-        ensures step { IfOk result (IsStepOf T.meaning (paired_at self.old.core seen.now other)) }
-        ensures refused { IfErr result (MergeRefusedAs T.meaning (paired_at self.old.core seen.now other)) }
-        ensures same { self.new ≡ self.old }
-    {
-        let pair = self.pair_at(seen, other)?;
-        if let Some(step) = pair.unmerged()? {
-            return Ok(step);
-        }
-        let base = self.base_at(pair.seen.head, other)?;
-        pair.prepare_over(&base)
-    }
-
-    /// Groups a look at this core, taken now or earlier, with the heads that branches have now, of one to eight names.
-    /// `UnknownBranch` comes exactly where one of them is no branch's, and names the first such.
-    pub fn group(&self, seen: &Seen<T>, from: &[Name]) -> Result<Group<T>, PairRefused>
-        requires history { IsPrefix seen.now.history self.now.core.history }
-        requires terms { seen.now.terms ≡ self.now.core.terms }
-        requires some { 1 ≤ length from.now }
-        requires few { length from.now ≤ 8 }
-        ensures grouped { IfOk result (IsGrouped T.meaning self.now.core seen.now from.now) }
-        ensures refused { IfErr result (GroupRefusedAs T.meaning self.now.core from.now) }
-    {
-        let others = self.heads_of(from)?;
-        Ok(self.group_at(seen, &others)?)
-    }
-
-    // The heads of the branches with these names.
-    fn heads_of(&self, from: &[Name]) -> Result<Vec<u32>, PairRefused>
-        ensures heads { IfOk result (λ heads. AreHeads T.meaning self.now.core from.now heads.items) }
-        ensures there { IfOk result (λ heads. All (λ n. n < length (store_of self.now.core.terms.origin self.now.core.history).commits) heads.items) }
-        ensures counted { IfOk result (λ heads. length heads.items ≡ length from.now) }
-        ensures refused { IfErr result (GroupRefusedAs T.meaning self.now.core from.now) }
-    {
-        let mut heads = Vec::new(self.alloc);
-        for name in from {
-            let Some(source) = self.heads.find(name) else {
-                return Err(PairRefused::UnknownBranch { name: *name });
-            };
-            if heads.push(self.heads.head(source)).is_err() {
-                return Err(PairRefused::Memory);
-            }
-        }
-        Ok(heads)
-    }
-
-    /// Groups a look at this core, taken now or earlier, with one to eight commits.
-    pub fn group_at(&self, seen: &Seen<T>, others: &[u32]) -> Result<Group<T>, Memory>
-        requires history { IsPrefix seen.now.history self.now.core.history }
-        requires terms { seen.now.terms ≡ self.now.core.terms }
-        requires there { All (λ n. n < length (store_of self.now.core.terms.origin self.now.core.history).commits) others.now }
-        requires some { 1 ≤ length others.now }
-        requires few { length others.now ≤ 8 }
-        ensures { IfOk result (λ group. group ≡ grouped_at self.now.core seen.now others.now) }
-    {
-        let pairs = self.pairs_of(seen, others)?;
-        let seen = self.seen_again(seen)?;
-        let nodes = self.nodes.share()?;
-        Ok(Group { seen, pairs, nodes })
-    }
-
-    // The pairs of a look at this core, taken now or earlier, with each of several commits.
-    fn pairs_of(&self, seen: &Seen<T>, others: &[u32]) -> Result<Vec<Pair<T>>, Memory>
-        requires history { IsPrefix seen.now.history self.now.core.history }
-        requires terms { seen.now.terms ≡ self.now.core.terms }
-        requires there { All (λ n. n < length (store_of self.now.core.terms.origin self.now.core.history).commits) others.now }
-        ensures { IfOk result (λ pairs. pairs.items ≡ map (paired_at self.now.core seen.now) others.now) }
-    {
-        let mut pairs = Vec::new(self.alloc);
-        for other in others {
-            pairs.push(self.pair_at(seen, *other)?)?;
-        }
-        Ok(pairs)
-    }
-
-    /// Makes the merge of one to eight commits ready to land on a look at this core, taken now or earlier: what a
-    /// group of them prepares, with the folds that are kept.
-    pub fn prepare_all_at(
-        &mut self,
-        seen: &Seen<T>,
-        others: &[u32],
-    ) -> Result<PairStep<T>, PairPrepareRefused>
-        requires history { IsPrefix seen.now.history self.old.core.history }
-        requires terms { seen.now.terms ≡ self.old.core.terms }
-        requires there { All (λ n. n < length (store_of self.old.core.terms.origin self.old.core.history).commits) others.now }
-        requires some { 1 ≤ length others.now }
-        requires few { length others.now ≤ 8 }
-        ensures step { IfOk result (IsStepOfAll T.meaning (grouped_at self.old.core seen.now others.now)) }
-        ensures refused { IfErr result (MergeAllRefusedAs T.meaning (grouped_at self.old.core seen.now others.now)) }
-        ensures same { self.new ≡ self.old }
-    {
-        let group = self.group_at(seen, others)?;
-        let brought = group.brought()?;
-        match brought.as_slice() {
-            [] => Ok(PairStep::Same),
-            [one] => self.prepare_at(seen, *one),
-            _ => {
-                let value = self.value_at_all(seen.head(), &brought)?;
-                group.prepare_join(brought, value)
-            }
-        }
-    }
-
-    // The value of a head and several commits together.
-    fn value_at_all(&mut self, head: u32, commits: &[u32]) -> Result<T, Memory>
-        requires head { head < length (store_of self.old.core.terms.origin self.old.core.history).commits }
-        requires commits { All (λ n. n < length (store_of self.old.core.terms.origin self.old.core.history).commits) commits.now }
-        ensures value { IfOk result (λ value. T.meaning.stands value (visible_at_all (store_of self.old.core.terms.origin self.old.core.history).commits (head ∷ commits.now))) }
-        ensures same { self.new ≡ self.old }
-    {
-        let _count = self.nodes.count();
-        let parents = joined(self.alloc, head, commits)?;
-        let value = self.nodes.value_at_all(&parents)?;
-        Ok(value)
-    }
-
-    // The base of two commits.
-    fn base_at(&mut self, left: u32, right: u32) -> Result<T, Memory>
-        requires left { left < length (store_of self.old.core.terms.origin self.old.core.history).commits }
-        requires right { right < length (store_of self.old.core.terms.origin self.old.core.history).commits }
-        ensures base { IfOk result (IsBaseAt T.meaning (store_of self.old.core.terms.origin self.old.core.history).commits left right) }
-        ensures same { self.new ≡ self.old }
-    {
-        let _count = self.nodes.count();
-        let base = self.nodes.base(left, right)?;
-        Ok(base)
-    }
-
-    /// Keeps at most so many folds of bases from now on, for `prepare_at`. They are kept until `drop_folds`, or
-    /// until a commit is undone.
-    pub fn keep_folds(&mut self, limit: u32) -> Result<(), Memory>
-        requires { 0 < limit }
-        ensures { self.new ≡ self.old }
-    {
-        self.nodes.keep_folds(limit)
-    }
-
-    /// Keeps no folds any more. It takes no memory.
-    pub fn drop_folds(&mut self)
-        ensures { self.new ≡ self.old }
-    {
-        self.nodes.drop_folds();
-    }
-
-    // The branch and the commit of a look, at the history of now.
-    fn seen_again(&self, seen: &Seen<T>) -> Result<Seen<T>, Memory>
-        requires history { IsPrefix seen.now.history self.now.core.history }
-        requires terms { seen.now.terms ≡ self.now.core.terms }
-        ensures { IfOk result (λ again. again ≡ at_head self.now.core seen.now.branch seen.now.head) }
-    {
-        Ok(Seen {
-            alloc: self.alloc,
-            history: Snapshot::of(&self.moves),
-            terms: self.terms,
-            moves: self.moves.len() as u64,
-            branch: seen.branch,
-            head: seen.head,
-            clock: seen.clock,
-            value: Arc::try_clone(&seen.value)?,
         })
     }
 
@@ -412,7 +242,8 @@ impl<T: Mrdt> Versions<T> {
     pub fn fork(&mut self, new: Name, from: &Name) -> Result<Forked, ForkRefused>
         ensures forked { IfOk result (Forks T.meaning new from.now self.old.core self.new.core) }
         ensures addresses { self.new.addresses ≡ self.old.addresses }
-        ensures before { OnOk result ((head : ℕ) → StoodBefore self.new.core.terms self.new.core.history head) }
+        ensures before { OnOk result ((head : ℕ)
+            → StoodBefore self.new.core.terms self.new.core.history head) }
         ensures back { OnOk result (GoesBack self.new self.old) }
         ensures refused { IfErr result (ForkRefusedAs T.meaning new from.now self.old.core) }
         ensures kept { OnErr result (self.new ≡ self.old) }
@@ -427,7 +258,7 @@ impl<T: Mrdt> Versions<T> {
         if count >= self.terms.limits.branches {
             return Err(ForkRefused::FullBranches { count });
         }
-        let moves = self.moves.len() as u64;
+        let moves = self.moves.len();
         if moves >= self.terms.limits.moves {
             return Err(ForkRefused::FullMoves { count: moves });
         }
@@ -436,19 +267,25 @@ impl<T: Mrdt> Versions<T> {
 
     // Adds a branch from the head of another: it takes all memory first, and then nothing fails.
     fn add_branch(&mut self, new: Name, source: u32) -> Result<Forked, Memory>
-        requires moves { IsMove T.meaning self.old.core.terms self.old.core.history (Move.Fork new (length (store_of self.old.core.terms.origin self.old.core.history).branches) source) }
-        requires free { branch_named (store_of self.old.core.terms.origin self.old.core.history).branches new ≡ None }
-        requires room { length (store_of self.old.core.terms.origin self.old.core.history).branches < self.old.core.terms.limits.branches }
-        requires source { source < length (store_of self.old.core.terms.origin self.old.core.history).branches }
+        requires moves { IsMove T.meaning self.old.core.terms self.old.core.history
+            (Move.Fork new
+            (length (store_of self.old.core.terms.origin self.old.core.history).branches) source) }
+        requires free { branch_named
+            (store_of self.old.core.terms.origin self.old.core.history).branches new ≡ None }
+        requires room { length (store_of self.old.core.terms.origin self.old.core.history).branches
+            < self.old.core.terms.limits.branches }
+        requires source { source
+            < length (store_of self.old.core.terms.origin self.old.core.history).branches }
         ensures added { IfOk result (BranchAdded new source self.old.core self.new.core) }
         ensures addresses { self.new.addresses ≡ self.old.addresses }
-        ensures before { OnOk result ((head : ℕ) → StoodBefore self.new.core.terms self.new.core.history head) }
+        ensures before { OnOk result ((head : ℕ)
+            → StoodBefore self.new.core.terms self.new.core.history head) }
         ensures back { OnOk result (GoesBack self.new self.old) }
         ensures kept { OnErr result (self.new ≡ self.old) }
     {
         let _count = self.commits();
         let head = self.heads.head(source);
-        self.moves.reserve(1)?;
+        self.moves.reserve()?;
         let number = match self.heads.fork(new, head) {
             Ok(number) => number,
             Err(branch_names::ForkRefused::Memory) => return Err(Memory),
@@ -461,123 +298,10 @@ impl<T: Mrdt> Versions<T> {
             from: source,
         });
         Ok(Forked {
-            moves: self.moves.len() as u64,
+            moves: self.moves.len(),
             number,
             head,
         })
-    }
-
-    /// Places a new branch at a commit. It is refused exactly as the machine refuses it, and then nothing has changed:
-    /// `NameTaken` before `FullBranches` before `FullMoves`. What was placed can be undone, with any head.
-    pub fn place(&mut self, name: Name, commit: u32) -> Result<Forked, PlaceRefused>
-        requires there { commit < length (store_of self.old.core.terms.origin self.old.core.history).commits }
-        ensures steps { Steps T.meaning (machine.Place name commit) self.old self.new self.old.addresses (place_answer result) }
-        ensures before { OnOk result ((head : ℕ) → StoodBefore self.new.core.terms self.new.core.history head) }
-        ensures back { OnOk result (GoesBack self.new self.old) }
-    {
-        if let Some(number) = self.heads.find(&name) {
-            return Err(PlaceRefused::NameTaken { number });
-        }
-        let count = self.heads.count();
-        if count >= self.terms.limits.branches {
-            return Err(PlaceRefused::FullBranches { count });
-        }
-        let moves = self.moves.len() as u64;
-        if moves >= self.terms.limits.moves {
-            return Err(PlaceRefused::FullMoves { count: moves });
-        }
-        Ok(self.add_place(name, commit)?)
-    }
-
-    // Adds a branch at a commit: it takes all memory first, and then nothing fails.
-    fn add_place(&mut self, name: Name, commit: u32) -> Result<Forked, Memory>
-        requires moves { IsMove T.meaning self.old.core.terms self.old.core.history (Move.Place name (length (store_of self.old.core.terms.origin self.old.core.history).branches) commit) }
-        requires free { branch_named (store_of self.old.core.terms.origin self.old.core.history).branches name ≡ None }
-        requires room { length (store_of self.old.core.terms.origin self.old.core.history).branches < self.old.core.terms.limits.branches }
-        ensures added { IfOk result (PlaceAdded name commit self.old.core self.new.core) }
-        ensures addresses { self.new.addresses ≡ self.old.addresses }
-        ensures before { OnOk result ((head : ℕ) → StoodBefore self.new.core.terms self.new.core.history head) }
-        ensures back { OnOk result (GoesBack self.new self.old) }
-        ensures kept { OnErr result (self.new ≡ self.old) }
-    {
-        let _count = self.commits();
-        self.moves.reserve(1)?;
-        let number = match self.heads.fork(name, commit) {
-            Ok(number) => number,
-            Err(branch_names::ForkRefused::Memory) => return Err(Memory),
-            Err(branch_names::ForkRefused::Taken { .. }) => unreachable!(),
-            Err(branch_names::ForkRefused::Full { .. }) => unreachable!(),
-        };
-        self.moves.push_reserved(Move::Place {
-            name,
-            number,
-            commit,
-        });
-        Ok(Forked {
-            moves: self.moves.len() as u64,
-            number,
-            head: commit,
-        })
-    }
-
-    /// Drops the branch of a look at this core, taken now or earlier, from the head that was seen, and says how many
-    /// moves the history then has. It is refused exactly as the machine refuses it, and then nothing has changed:
-    /// `Dropped` before `KeepsMain` before `Stale` before `FullMoves`. What was dropped can be undone, with any head.
-    pub fn drop_branch(&mut self, seen: &Seen<T>) -> Result<u64, DropRefused>
-        requires history { IsPrefix seen.now.history self.old.core.history }
-        requires terms { seen.now.terms ≡ self.old.core.terms }
-        ensures steps { Steps T.meaning (machine.Drop seen.now.branch seen.now.head) self.old self.new self.old.addresses (drop_answer seen.now result) }
-        ensures before { OnOk result ((head : ℕ) → StoodBefore self.new.core.terms self.new.core.history head) }
-        ensures back { OnOk result (GoesBack self.new self.old) }
-    {
-        let (branch, head) = (seen.branch, seen.head);
-        self.may_drop(branch, head)?;
-        Ok(self.add_drop(branch)?)
-    }
-
-    // Drops a branch that may be dropped: it takes all memory first, and then nothing fails.
-    fn add_drop(&mut self, branch: u32) -> Result<u64, Memory>
-        requires moves { IsMove T.meaning self.old.core.terms self.old.core.history (Move.Drop branch) }
-        requires there { IsKeptBranch (store_of self.old.core.terms.origin self.old.core.history).branches branch }
-        requires other { branch ≢ 0 }
-        ensures moves { IfOk result (λ moves. moves ≡ length self.new.core.history) }
-        ensures dropped { OnOk result (self.new.core ≡ record self.old.core { history = self.old.core.history ++ Move.Drop branch ∷ [] }) }
-        ensures addresses { self.new.addresses ≡ self.old.addresses }
-        ensures before { OnOk result ((head : ℕ) → StoodBefore self.new.core.terms self.new.core.history head) }
-        ensures back { OnOk result (GoesBack self.new self.old) }
-        ensures kept { OnErr result (self.new ≡ self.old) }
-    {
-        let _count = self.commits();
-        self.moves.reserve(1)?;
-        put_drop(&mut self.heads, branch);
-        self.moves.push_reserved(Move::Drop { branch });
-        Ok(self.moves.len() as u64)
-    }
-
-    // Whether a branch may be dropped from the head that was seen.
-    fn may_drop(&self, branch: u32, head: u32) -> Result<(), DropRefused>
-        requires { branch < length (store_of self.now.core.terms.origin self.now.core.history).branches }
-        ensures free { OnOk result (drop_refusal self.now.core.terms self.now.core.history branch head ≡ None) }
-        ensures there { OnOk result (is_dropped (store_of self.now.core.terms.origin self.now.core.history).branches branch ≡ false) }
-        ensures other { OnOk result (branch ≢ 0) }
-        ensures left { OnOk result (length self.now.core.history < self.now.core.terms.limits.moves) }
-        ensures refused { IfErr result (DropRefusedBy (drop_refusal self.now.core.terms self.now.core.history branch head)) }
-    {
-        if self.heads.is_dropped(branch) {
-            return Err(DropRefused::Dropped { branch });
-        }
-        if branch == 0 {
-            return Err(DropRefused::KeepsMain);
-        }
-        let newest = self.heads.head(branch);
-        if head != newest {
-            return Err(DropRefused::Stale { newest });
-        }
-        let count = self.moves.len() as u64;
-        if count >= self.terms.limits.moves {
-            return Err(DropRefused::FullMoves { count });
-        }
-        Ok(())
     }
 
     /// Whether what was prepared on a look at this core, now or earlier, may land. It is refused exactly as the
@@ -610,12 +334,16 @@ impl<T: Mrdt> Versions<T> {
     ) -> Result<Landed<T::Reply>, LandRefused>
         requires history { IsPrefix prepared.seen.history self.old.core.history }
         requires terms { prepared.seen.terms ≡ self.old.core.terms }
-        ensures landed { IfOk result (λ landed. LandsAs T.meaning prepared self.old.core self.new.core landed.moves landed.kind) }
-        ensures addressed { OnOk result (self.new.addresses ≡ addresses_after prepared.work address self.old.addresses) }
-        ensures before { OnOk result (StoodBefore self.new.core.terms self.new.core.history prepared.seen.head) }
+        ensures landed { IfOk result (λ landed.
+            LandsAs T.meaning prepared self.old.core self.new.core landed.moves landed.kind) }
+        ensures addressed { OnOk result (self.new.addresses
+            ≡ addresses_after prepared.work address self.old.addresses) }
+        ensures before { OnOk result
+            (StoodBefore self.new.core.terms self.new.core.history prepared.seen.head) }
         ensures back { OnOk result (GoesBack self.new self.old) }
         ensures refused { IfErr result (LandRefusedAs T.meaning prepared self.old.core) }
-        ensures only { MayLand T.meaning prepared self.old.core → IfErr result (λ refusal. refusal ≡ LandRefused.Memory) }
+        ensures only { MayLand T.meaning prepared self.old.core
+            → IfErr result (λ refusal. refusal ≡ LandRefused.Memory) }
         ensures kept { OnErr result (self.new ≡ self.old) }
     {
         // The history is valid: a look at a field tells the proof so.
@@ -666,14 +394,22 @@ impl<T: Mrdt> Versions<T> {
         reply: T::Reply,
         spelled: Spelled,
     ) -> Result<Landed<T::Reply>, LandRefused>
-        requires there { place.branch < length (store_of self.old.core.terms.origin self.old.core.history).branches }
-        requires ready { IsReadyOperation T.meaning (at_head self.old.core place.branch place.head) time value op reply }
+        requires there { place.branch
+            < length (store_of self.old.core.terms.origin self.old.core.history).branches }
+        requires ready { IsReadyOperation T.meaning (at_head self.old.core place.branch place.head)
+            time value op reply }
         requires spelled { AreSpelled T.meaning value op reply spelled }
-        ensures landed { IfOk result (λ landed. Moves T.meaning self.old.core self.new.core (machine.Land place.branch place.head op) (Move.Operation place.branch op reply) (outcome_of landed.kind) landed.moves) }
-        ensures addressed { OnOk result (self.new.addresses ≡ self.old.addresses ++ place.address ∷ []) }
-        ensures before { OnOk result (StoodBefore self.new.core.terms self.new.core.history place.head) }
+        ensures landed { IfOk result (λ landed.
+            Moves T.meaning self.old.core self.new.core (machine.Land place.branch place.head op)
+            (Move.Operation place.branch op reply) (outcome_of landed.kind) landed.moves) }
+        ensures addressed { OnOk result (self.new.addresses
+            ≡ self.old.addresses ++ place.address ∷ []) }
+        ensures before { OnOk result
+            (StoodBefore self.new.core.terms self.new.core.history place.head) }
         ensures back { OnOk result (GoesBack self.new self.old) }
-        ensures refused { IfErr result (RefusedBy (commit_refusal self.old.core.terms self.old.core.history place.branch place.head)) }
+        ensures refused { IfErr result
+            (RefusedBy (commit_refusal self.old.core.terms self.old.core.history place.branch
+            place.head)) }
         ensures kept { OnErr result (self.new ≡ self.old) }
     {
         self.may_add_commit(place.branch, place.head)?;
@@ -685,7 +421,7 @@ impl<T: Mrdt> Versions<T> {
         };
         let commit = self.add_commit(made, &[place.head], &place, time.clock, value)?;
         Ok(Landed {
-            moves: self.moves.len() as u64,
+            moves: self.moves.len(),
             kind: Kind::Operation {
                 commit,
                 time,
@@ -702,13 +438,21 @@ impl<T: Mrdt> Versions<T> {
         clock: u64,
         value: T,
     ) -> Result<Landed<T::Reply>, LandRefused>
-        requires there { place.branch < length (store_of self.old.core.terms.origin self.old.core.history).branches }
-        requires ready { IsReadyMerge T.meaning (at_head self.old.core place.branch place.head) other clock value }
-        ensures landed { IfOk result (λ landed. Moves T.meaning self.old.core self.new.core (machine.Merge place.branch place.head (other ∷ [])) (Move.Merge place.branch other) (outcome_of landed.kind) landed.moves) }
-        ensures addressed { OnOk result (self.new.addresses ≡ self.old.addresses ++ place.address ∷ []) }
-        ensures before { OnOk result (StoodBefore self.new.core.terms self.new.core.history place.head) }
+        requires there { place.branch
+            < length (store_of self.old.core.terms.origin self.old.core.history).branches }
+        requires ready { IsReadyMerge T.meaning (at_head self.old.core place.branch place.head)
+            other clock value }
+        ensures landed { IfOk result (λ landed.
+            Moves T.meaning self.old.core self.new.core (machine.Merge place.branch place.head
+            (other ∷ [])) (Move.Merge place.branch other) (outcome_of landed.kind) landed.moves) }
+        ensures addressed { OnOk result (self.new.addresses
+            ≡ self.old.addresses ++ place.address ∷ []) }
+        ensures before { OnOk result
+            (StoodBefore self.new.core.terms self.new.core.history place.head) }
         ensures back { OnOk result (GoesBack self.new self.old) }
-        ensures refused { IfErr result (RefusedBy (commit_refusal self.old.core.terms self.old.core.history place.branch place.head)) }
+        ensures refused { IfErr result
+            (RefusedBy (commit_refusal self.old.core.terms self.old.core.history place.branch
+            place.head)) }
         ensures kept { OnErr result (self.new ≡ self.old) }
     {
         self.may_add_commit(place.branch, place.head)?;
@@ -718,7 +462,7 @@ impl<T: Mrdt> Versions<T> {
         };
         let commit = self.add_commit(made, &[place.head, other], &place, clock, value)?;
         Ok(Landed {
-            moves: self.moves.len() as u64,
+            moves: self.moves.len(),
             kind: Kind::Merged { commit },
         })
     }
@@ -731,13 +475,22 @@ impl<T: Mrdt> Versions<T> {
         clock: u64,
         value: T,
     ) -> Result<Landed<T::Reply>, LandRefused>
-        requires there { place.branch < length (store_of self.old.core.terms.origin self.old.core.history).branches }
-        requires ready { IsReadyJoin T.meaning (at_head self.old.core place.branch place.head) commits clock value }
-        ensures landed { IfOk result (λ landed. Moves T.meaning self.old.core self.new.core (machine.Merge place.branch place.head commits) (Move.Join place.branch commits) (outcome_of landed.kind) landed.moves) }
-        ensures addressed { OnOk result (self.new.addresses ≡ self.old.addresses ++ place.address ∷ []) }
-        ensures before { OnOk result (StoodBefore self.new.core.terms self.new.core.history place.head) }
+        requires there { place.branch
+            < length (store_of self.old.core.terms.origin self.old.core.history).branches }
+        requires ready { IsReadyJoin T.meaning (at_head self.old.core place.branch place.head)
+            commits clock value }
+        ensures landed { IfOk result (λ landed.
+            Moves T.meaning self.old.core self.new.core
+            (machine.Merge place.branch place.head commits) (Move.Join place.branch commits)
+            (outcome_of landed.kind) landed.moves) }
+        ensures addressed { OnOk result (self.new.addresses
+            ≡ self.old.addresses ++ place.address ∷ []) }
+        ensures before { OnOk result
+            (StoodBefore self.new.core.terms self.new.core.history place.head) }
         ensures back { OnOk result (GoesBack self.new self.old) }
-        ensures refused { IfErr result (RefusedBy (commit_refusal self.old.core.terms self.old.core.history place.branch place.head)) }
+        ensures refused { IfErr result
+            (RefusedBy (commit_refusal self.old.core.terms self.old.core.history place.branch
+            place.head)) }
         ensures kept { OnErr result (self.new ≡ self.old) }
     {
         self.may_add_commit(place.branch, place.head)?;
@@ -748,7 +501,7 @@ impl<T: Mrdt> Versions<T> {
         };
         let commit = self.add_commit(made, &parents, &place, clock, value)?;
         Ok(Landed {
-            moves: self.moves.len() as u64,
+            moves: self.moves.len(),
             kind: Kind::Joined { commit },
         })
     }
@@ -760,33 +513,45 @@ impl<T: Mrdt> Versions<T> {
         head: u32,
         commit: u32,
     ) -> Result<Landed<T::Reply>, LandRefused>
-        requires there { branch < length (store_of self.old.core.terms.origin self.old.core.history).branches }
+        requires there { branch
+            < length (store_of self.old.core.terms.origin self.old.core.history).branches }
         requires ready { IsReadyForward self.old.core.terms self.old.core.history head commit }
-        ensures landed { IfOk result (λ landed. Moves T.meaning self.old.core self.new.core (machine.Merge branch head (commit ∷ [])) (Move.Forward branch commit) (outcome_of landed.kind) landed.moves) }
+        ensures landed { IfOk result (λ landed.
+            Moves T.meaning self.old.core self.new.core (machine.Merge branch head (commit ∷ []))
+            (Move.Forward branch commit) (outcome_of landed.kind) landed.moves) }
         ensures addressed { OnOk result (self.new.addresses ≡ self.old.addresses) }
         ensures before { OnOk result (StoodBefore self.new.core.terms self.new.core.history head) }
         ensures back { OnOk result (GoesBack self.new self.old) }
-        ensures refused { IfErr result (RefusedBy (forward_refusal self.old.core.terms self.old.core.history branch head)) }
+        ensures refused { IfErr result
+            (RefusedBy (forward_refusal self.old.core.terms self.old.core.history branch head)) }
         ensures kept { OnErr result (self.new ≡ self.old) }
     {
         self.may_move(branch, head)?;
-        self.moves.reserve(1)?;
+        self.moves.reserve()?;
         self.moves.push_reserved(Move::Forward { branch, commit });
         put_head(&mut self.heads, branch, commit);
         Ok(Landed {
-            moves: self.moves.len() as u64,
+            moves: self.moves.len(),
             kind: Kind::Forward { commit },
         })
     }
 
     // Whether a branch may move from the head that was seen.
     fn may_move(&self, branch: u32, head: u32) -> Result<(), LandRefused>
-        requires { branch < length (store_of self.now.core.terms.origin self.now.core.history).branches }
-        ensures free { OnOk result (forward_refusal self.now.core.terms self.now.core.history branch head ≡ None) }
-        ensures there { OnOk result (is_dropped (store_of self.now.core.terms.origin self.now.core.history).branches branch ≡ false) }
-        ensures newest { OnOk result (head_of (store_of self.now.core.terms.origin self.now.core.history).branches branch ≡ head) }
-        ensures addressed { length self.now.addresses ≡ length (store_of self.now.core.terms.origin self.now.core.history).commits }
-        ensures refused { IfErr result (RefusedBy (forward_refusal self.now.core.terms self.now.core.history branch head)) }
+        requires { branch
+            < length (store_of self.now.core.terms.origin self.now.core.history).branches }
+        ensures free { OnOk result
+            (forward_refusal self.now.core.terms self.now.core.history branch head ≡ None) }
+        ensures there { OnOk result
+            (is_dropped (store_of self.now.core.terms.origin self.now.core.history).branches branch
+            ≡ false) }
+        ensures newest { OnOk result
+            (head_of (store_of self.now.core.terms.origin self.now.core.history).branches branch
+            ≡ head) }
+        ensures addressed { length self.now.addresses
+            ≡ length (store_of self.now.core.terms.origin self.now.core.history).commits }
+        ensures refused { IfErr result
+            (RefusedBy (forward_refusal self.now.core.terms self.now.core.history branch head)) }
         ensures decided { IfErr result (λ refusal. refusal ≢ LandRefused.Memory) }
         ensures valid { IsValid T.meaning self.now.core.terms self.now.core.history }
     {
@@ -797,12 +562,20 @@ impl<T: Mrdt> Versions<T> {
 
     // Whether a branch may move from the head that was seen to a new commit.
     fn may_add_commit(&self, branch: u32, head: u32) -> Result<(), LandRefused>
-        requires { branch < length (store_of self.now.core.terms.origin self.now.core.history).branches }
-        ensures free { OnOk result (commit_refusal self.now.core.terms self.now.core.history branch head ≡ None) }
-        ensures there { OnOk result (is_dropped (store_of self.now.core.terms.origin self.now.core.history).branches branch ≡ false) }
-        ensures newest { OnOk result (head_of (store_of self.now.core.terms.origin self.now.core.history).branches branch ≡ head) }
-        ensures addressed { length self.now.addresses ≡ length (store_of self.now.core.terms.origin self.now.core.history).commits }
-        ensures refused { IfErr result (RefusedBy (commit_refusal self.now.core.terms self.now.core.history branch head)) }
+        requires { branch
+            < length (store_of self.now.core.terms.origin self.now.core.history).branches }
+        ensures free { OnOk result
+            (commit_refusal self.now.core.terms self.now.core.history branch head ≡ None) }
+        ensures there { OnOk result
+            (is_dropped (store_of self.now.core.terms.origin self.now.core.history).branches branch
+            ≡ false) }
+        ensures newest { OnOk result
+            (head_of (store_of self.now.core.terms.origin self.now.core.history).branches branch
+            ≡ head) }
+        ensures addressed { length self.now.addresses
+            ≡ length (store_of self.now.core.terms.origin self.now.core.history).commits }
+        ensures refused { IfErr result
+            (RefusedBy (commit_refusal self.now.core.terms self.now.core.history branch head)) }
         ensures decided { IfErr result (λ refusal. refusal ≢ LandRefused.Memory) }
         ensures valid { IsValid T.meaning self.now.core.terms self.now.core.history }
     {
@@ -817,14 +590,22 @@ impl<T: Mrdt> Versions<T> {
 
     // Whether a branch was not dropped, and its newest head is the one that was seen.
     fn is_newest(&self, branch: u32, head: u32) -> Result<(), LandRefused>
-        requires { branch < length (store_of self.now.core.terms.origin self.now.core.history).branches }
-        ensures there { OnOk result (is_dropped (store_of self.now.core.terms.origin self.now.core.history).branches branch ≡ false) }
-        ensures newest { OnOk result (head_of (store_of self.now.core.terms.origin self.now.core.history).branches branch ≡ head) }
-        ensures forward { IfErr result (RefusedBy (forward_refusal self.now.core.terms self.now.core.history branch head)) }
-        ensures commit { IfErr result (RefusedBy (commit_refusal self.now.core.terms self.now.core.history branch head)) }
+        requires { branch
+            < length (store_of self.now.core.terms.origin self.now.core.history).branches }
+        ensures there { OnOk result
+            (is_dropped (store_of self.now.core.terms.origin self.now.core.history).branches branch
+            ≡ false) }
+        ensures newest { OnOk result
+            (head_of (store_of self.now.core.terms.origin self.now.core.history).branches branch
+            ≡ head) }
+        ensures forward { IfErr result
+            (RefusedBy (forward_refusal self.now.core.terms self.now.core.history branch head)) }
+        ensures commit { IfErr result
+            (RefusedBy (commit_refusal self.now.core.terms self.now.core.history branch head)) }
         ensures decided { IfErr result (λ refusal. refusal ≢ LandRefused.Memory) }
         ensures valid { IsValid T.meaning self.now.core.terms self.now.core.history }
-        ensures addressed { length self.now.addresses ≡ length (store_of self.now.core.terms.origin self.now.core.history).commits }
+        ensures addressed { length self.now.addresses
+            ≡ length (store_of self.now.core.terms.origin self.now.core.history).commits }
     {
         let _count = self.commits();
         if self.heads.is_dropped(branch) {
@@ -839,11 +620,14 @@ impl<T: Mrdt> Versions<T> {
 
     // Whether the history may have one move more.
     fn has_moves_left(&self) -> Result<(), LandRefused>
-        ensures left { OnOk result (length self.now.core.history < self.now.core.terms.limits.moves) }
-        ensures full { OnErr result (self.now.core.terms.limits.moves ≤ length self.now.core.history) }
-        ensures refused { IfErr result (λ refused. refused ≡ LandRefused.FullMoves (length self.now.core.history)) }
+        ensures left { OnOk result (length self.now.core.history
+            < self.now.core.terms.limits.moves) }
+        ensures full { OnErr result (self.now.core.terms.limits.moves
+            ≤ length self.now.core.history) }
+        ensures refused { IfErr result (λ refused.
+            refused ≡ LandRefused.FullMoves (length self.now.core.history)) }
     {
-        let count = self.moves.len() as u64;
+        let count = self.moves.len();
         if count >= self.terms.limits.moves {
             return Err(LandRefused::FullMoves { count });
         }
@@ -859,13 +643,18 @@ impl<T: Mrdt> Versions<T> {
         clock: u64,
         value: T,
     ) -> Result<u32, Memory>
-        requires { AddsCommit T.meaning self.old.core.terms self.old.core.history made place.now.branch parents.now clock value }
-        ensures number { IfOk result (λ number. number ≡ length (store_of self.old.core.terms.origin self.old.core.history).commits) }
-        ensures added { OnOk result (self.new.core ≡ record self.old.core { history = self.old.core.history ++ made ∷ [] }) }
-        ensures addressed { OnOk result (self.new.addresses ≡ self.old.addresses ++ place.now.address ∷ []) }
+        requires own { IsOwn made }
+        requires adds { AddsCommit T.meaning self.old.core.terms self.old.core.history made
+            place.now.branch parents.now clock value }
+        ensures number { IfOk result (λ number.
+            number ≡ length (store_of self.old.core.terms.origin self.old.core.history).commits) }
+        ensures added { OnOk result (self.new.core
+            ≡ record self.old.core { history = self.old.core.history ++ made ∷ [] }) }
+        ensures addressed { OnOk result (self.new.addresses
+            ≡ self.old.addresses ++ place.now.address ∷ []) }
         ensures kept { OnErr result (self.new ≡ self.old) }
     {
-        self.moves.reserve(1)?;
+        self.moves.reserve()?;
         self.clocks.reserve(1)?;
         let commit = self.nodes.push(value, parents, place.address)?;
         self.moves.push_reserved(made);
@@ -920,16 +709,6 @@ fn put_head(heads: &mut Heads, branch: u32, head: u32)
 {
     let newest = heads.head(branch);
     let _ = heads.move_from(branch, newest, head);
-}
-
-// Drops a branch that was not dropped and is not the first, wherever it stands.
-fn put_drop(heads: &mut Heads, branch: u32)
-    requires there { IsKeptBranch heads.old.branches branch }
-    requires other { branch ≢ 0 }
-    ensures { heads.new ≡ record heads.old { branches = with_drop heads.old.branches branch } }
-{
-    let newest = heads.head(branch);
-    let _ = heads.drop_branch(branch, newest);
 }
 
 // A head, and the commits that are joined to it.

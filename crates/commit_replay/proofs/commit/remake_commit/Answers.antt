@@ -5,13 +5,13 @@ use Rattle.branch_machine.specs.Fixed.{present, fix, fix_in}
 use Rattle.branch_machine.specs.Validity.{IsFullyValid}
 use Rattle.branch_files.specs.Next.{Does, AreFewIn}
 use Rattle.commit_replay.specs.Follows.{form_of}
-use Rattle.commit_replay.specs.Plans.{step_for}
-use Rattle.commit_replay.specs.Walk.{NotRemadeAs, Remade}
+use Rattle.commit_replay.specs.Walk.{NotRemadeAs, MadeAnew}
 use Rattle.commit_replay.proofs.Forms.{does-same}
 use Rattle.commit_replay.proofs.Parted.{not-parted, not-done, not-few}
 use Rattle.commit_replay.proofs.Versions.{not-own}
 use Rattle.commit_replay.proofs.Looked.{settled-moves}
-use Rattle.commit_replay.proofs.Steps.{why-unread, why-refused}
+use Rattle.commit_replay.proofs.Steps.{why-unread, why-not-made}
+use Rattle.commit_replay.proofs.Received.{not-anew}
 use Rattle.commit_replay.proofs.commit.remake_commit.Goals as goal
 
 pub returns-in-Err-clause-not : goal.returns-in-Err-clause-not
@@ -42,11 +42,13 @@ returns-in-Ok-false-clause-not g c =
     let laws = (g.met.T.Mrdt g.world.𝓛 g.world.𝓜 g.world.𝓡 ((λ s x. x), (λ x. x), (λ x. x), λ x. x)).laws in
     let valid = subst (IsFullyValid fixed) (settled-moves r.written r.pending c.requires.settled) c.moves-moves.ensures.valid in
     let parts = c.in-Ok.ensures.parts in
-    let not = subst (Remade fixed r c.remake.new.recorded (step_for r.terms r.written c.in-Ok-planned.plan) next bytes) c.in-Ok-false.field-0-test c.in-Ok-false.ensures.remade in
+    let not = subst (MadeAnew fixed r c.made_anew.new.recorded c.in-Ok-planned.plan c.in-Ok.parts next bytes) c.in-Ok-false.field-0-test c.in-Ok-false.ensures in
     let few : AreFewIn c.args.version parts.commit.parents = λ one. subst (λ (n : ℕ). n ≤ 2) (sym parts.counted) (c.are_few.ensures.0 c.if-not-are_few.false one) in
     not-own g.T.Mrdt.meaning r.terms address c.args.version r.written next bytes c.in-Ok.parts.value parts.commit parts.are few c.why_not.result
-    (why-refused fixed r.written next bytes laws g.met.A.Address.size valid c.requires.known c.requires.fits c.requires.may c.requires.long
-    c.in-Ok-planned.plan c.in-Ok.parts.value parts.commit c.in-Ok.parts.action c.in-Ok-planned.ensures.plan parts.are parts.does (c.in-Ok-planned.ensures.does r.terms address) not.1 c.why_not.result c.why_not.ensures)
+    (why-not-made fixed r.written next bytes laws g.met.A.Address.size valid c.requires.known c.requires.fits c.requires.may c.requires.long
+    c.in-Ok.parts.value parts.commit c.in-Ok.parts.action parts.are parts.does (c.in-Ok-planned.ensures.does r.terms address)
+    (not-anew g.T.Mrdt.meaning address r c.made_anew.new.recorded next bytes laws g.met.A.Address.size valid c.requires.known c.requires.fits c.requires.may c.requires.long
+    c.in-Ok.parts parts c.in-Ok.parts.action parts.does c.in-Ok-planned.plan c.in-Ok-planned.ensures.plan not) c.why_not.result c.why_not.ensures)
 
 pub returns-then-not-are_few-clause-not : goal.returns-then-not-are_few-clause-not
 returns-then-not-are_few-clause-not g c =

@@ -13,7 +13,7 @@ returns-in-Ok-Commit-clause-none c error value d parts =
 pub returns-in-Ok-Value-clause-none : goal.returns-in-Ok-Value-clause-none
 returns-in-Ok-Value-clause-none c error value d parts =
     c.behind.ensures.none error d parts.commit
-    (c.take_rest.ensures.all ∙ commit-behind c.new-cursor.result c.args.bytes.now c.new-cursor.ensures c.take.new.cursor _ c.in-Ok-Value.ensures.equal _ c.in-Ok-Value.field-0-is value d parts)
+    (c.take_rest-rest.ensures.all ∙ commit-behind c.new-cursor.result c.args.bytes.now c.new-cursor.ensures c.take.new.cursor _ c.in-Ok-Value.ensures.equal _ c.in-Ok-Value.field-0-is value d parts)
 
 pub returns-clause-none : goal.returns-clause-none
 returns-clause-none c error value d parts = none-first c.new-cursor.result c.args.bytes.now c.new-cursor.ensures (c.in-Err.ensures.outside (same-error c.in-Err.refused unread.NotCanonical error)) value d parts

@@ -14,7 +14,7 @@ returns-in-Operation g c =
     let room : length r.written < r.terms.limits.moves = omega (arith, now.moves, ap (λ l. l.limits.moves) now.terms, c.if-now.false) in
     IfOk-weaker c.may_operate.result _ _
     (λ may suits. may-by fixed r.written (entry.Operation c.in-Operation.branch c.in-Operation.address c.in-Operation.end) c.args.next.now may c.in-Operation.is room
-    (known-by (entry.Operation c.in-Operation.branch c.in-Operation.address c.in-Operation.end) (omega arith) (λ e. omega (arith, e))) (suits c.in-Operation.address)) c.may_operate.ensures
+    (known-by (entry.Operation c.in-Operation.branch c.in-Operation.address c.in-Operation.end) (omega arith)) (suits c.in-Operation.address)) c.may_operate.ensures
 
 pub returns-in-Merge : goal.returns-in-Merge
 returns-in-Merge g c =
@@ -24,4 +24,4 @@ returns-in-Merge g c =
     let room : length r.written < r.terms.limits.moves = omega (arith, now.moves, ap (λ l. l.limits.moves) now.terms, c.if-now.false) in
     IfOk-weaker c.may_merge.result _ _
     (λ may suits. may-by fixed r.written (entry.Merge c.in-Merge.branch c.in-Merge.from c.in-Merge.address c.in-Merge.end) c.args.next.now may c.in-Merge.is room
-    (known-by (entry.Merge c.in-Merge.branch c.in-Merge.from c.in-Merge.address c.in-Merge.end) (omega arith) (λ e. omega (arith, e))) (suits c.in-Merge.address)) c.may_merge.ensures
+    (known-by (entry.Merge c.in-Merge.branch c.in-Merge.from c.in-Merge.address c.in-Merge.end) (omega arith)) (suits c.in-Merge.address)) c.may_merge.ensures

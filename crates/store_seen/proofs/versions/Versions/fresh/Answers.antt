@@ -12,4 +12,4 @@ invariant_of-result g c =
     let pushed = c.in_ok-push-2.ensures in
     let graph = ap (λ n. n.graph) pushed.pushed ∙ ap (λ (n : NodesView g.row.T.Denot). let a : Ancestry = record { limit = n.graph.limit; commits = n.graph.commits ++ [] ∷ [] } in a) none in
     let values = ap (λ n. n.values) pushed.pushed ∙ ap (λ (n : NodesView g.row.T.Denot). n.values ++ c.initial.result ∷ []) none in
-    rw (c.new-3.ensures.items, clocks, values) (core-fresh g.T.Mrdt.meaning c.args.terms c.in_ok-heads.heads c.push-2.new.self.graph c.initial.result c.in_ok-heads.ensures.limit c.in_ok-heads.ensures.branches graph c.initial.ensures)
+    rw (c.new-3.ensures, clocks, values) (core-fresh g.T.Mrdt.meaning c.args.terms c.in_ok-heads.heads c.push-2.new.self.graph c.initial.result c.in_ok-heads.ensures.limit c.in_ok-heads.ensures.branches graph c.initial.ensures)

@@ -5,8 +5,8 @@ use Rattle.store_seen.proofs.Backs.{stood-before, goes-back}
 use Rattle.store_seen.proofs.Landings.{join-adds, join-turn}
 use Rattle.store_seen.proofs.versions.Versions.land_join.Goals as goal
 
-pub add_commit-requires-after_bounds : goal.add_commit-requires-after_bounds
-add_commit-requires-after_bounds g c κs within =
+pub add_commit-requires-clause-adds : goal.add_commit-requires-clause-adds
+add_commit-requires-clause-adds g c κs within =
     let laws = (g.met.T.Mrdt g.world.𝓛 g.world.𝓜 g.world.𝓡 ((λ s x. x), (λ x. x), (λ x. x), λ x. x)).laws in
     let valid = c.may_add_commit.ensures.valid in
     let parents = c.deref.ensures.value ∙ c.in_ok-parents.ensures ∙ ap (λ l. c.args.place.head ∷ l) c.as_slice.ensures in

@@ -5,8 +5,8 @@ use Rattle.store_seen.proofs.Backs.{stood-before, goes-back}
 use Rattle.store_seen.proofs.Landings.{merge-adds, merge-turn}
 use Rattle.store_seen.proofs.versions.Versions.land_merge.Goals as goal
 
-pub add_commit-requires-after_bounds : goal.add_commit-requires-after_bounds
-add_commit-requires-after_bounds g c κs within =
+pub add_commit-requires-clause-adds : goal.add_commit-requires-clause-adds
+add_commit-requires-clause-adds g c κs within =
     let laws = (g.met.T.Mrdt g.world.𝓛 g.world.𝓜 g.world.𝓡 ((λ s x. x), (λ x. x), (λ x. x), λ x. x)).laws in
     let valid = c.may_add_commit.ensures.valid in
     merge-adds g.T.Mrdt.meaning laws c.args.self.now.core valid c.args.place.branch c.requires.there c.args.other c.args.clock c.args.value c.args.place.head c.requires.ready c.in_ok-may_add_commit.ensures.free

@@ -1,0 +1,77 @@
+-- What is staged are the two objects of the item.
+use Rattle.std.proofs.Common.{◌≡◌, List, [], ◌∷◌, ◌++◌, ℕ, None, ap, sym, ◌∙◌, subst, append-nil}
+use Rattle.std.proofs.lemmas.Result.{IfOk-weaker, IfErr-weaker, on_ok_weaker}
+use Rattle.branch_wire.specs.Objects.{value_object}
+use Rattle.branch_wire.specs.StoredObjects.{collision, fresh}
+use Rattle.branch_machine.specs.Fixed.{fix}
+use Rattle.object_store.specs.Commits.{commit_pair}
+use Rattle.object_store.specs.Refusals.{RefusesToStage}
+use Rattle.recorded_history.specs.Asks.{fields_in}
+use Rattle.recorded_history.proofs.Told.{item-value, item-address, staged-pair, staged-address}
+use Rattle.recorded_history.proofs.arriving.stage_item.Goals as goal
+
+pub stage-requires : goal.stage-requires
+stage-requires g c =
+    let laws = (g.met.T.Mrdt g.world.𝓛 g.world.𝓜 g.world.𝓡 ((λ s x. x), (λ x. x), (λ x. x), λ x. x)).laws in
+    let a = c.args.made.now in
+    let fixed = fix g.T.Mrdt.meaning a.terms g.A.Address.address in
+    let size = g.met.A.Address.size in
+    let f = fields_in c.args.fields in
+    let valued = item-value fixed laws size a.history c.requires.valid c.args.value.now f a.step c.written.result c.requires.item c.written.ensures ∙ ap value_object (sym c.value_of-spelling.ensures) in
+    record { known = item-address fixed laws size a.history c.requires.valid c.args.value.now f c.requires.known a.step c.written.result c.requires.item c.written.ensures ∙ ap fixed.address valued }
+
+pub returns-clause-added : goal.returns-clause-added
+returns-clause-added g c =
+    let laws = (g.met.T.Mrdt g.world.𝓛 g.world.𝓜 g.world.𝓡 ((λ s x. x), (λ x. x), (λ x. x), λ x. x)).laws in
+    let a = c.args.made.now in
+    let fixed = fix g.T.Mrdt.meaning a.terms g.A.Address.address in
+    let size = g.met.A.Address.size in
+    let f = fields_in c.args.fields in
+    let valued = item-value fixed laws size a.history c.requires.valid c.args.value.now f a.step c.written.result c.requires.item c.written.ensures ∙ ap value_object (sym c.value_of-spelling.ensures) in
+    let addressed = item-address fixed laws size a.history c.requires.valid c.args.value.now f c.requires.known a.step c.written.result c.requires.item c.written.ensures in
+    let pair = staged-pair fixed.address c.args.value.now c.value_of-spelling.result.now f valued addressed in
+    let o = c.args.objects.now in
+    let both_objects = commit_pair fixed.address c.value_of-spelling.result.now f.parents f.branch f.clock f.action in
+    let whole = ap (λ s. o.stored ++ s) c.requires.staged ∙ append-nil o.stored in
+    on_ok_weaker c.stage.result (λ is. is ∙ ap (λ s. s ++ fresh (o.stored ++ o.staged) both_objects) c.requires.staged ∙ ap (λ s. fresh s both_objects) whole ∙ ap (fresh o.stored) pair) c.stage.ensures.added
+
+pub returns-clause-address : goal.returns-clause-address
+returns-clause-address g c =
+    let laws = (g.met.T.Mrdt g.world.𝓛 g.world.𝓜 g.world.𝓡 ((λ s x. x), (λ x. x), (λ x. x), λ x. x)).laws in
+    let a = c.args.made.now in
+    let fixed = fix g.T.Mrdt.meaning a.terms g.A.Address.address in
+    let size = g.met.A.Address.size in
+    let f = fields_in c.args.fields in
+    let valued = item-value fixed laws size a.history c.requires.valid c.args.value.now f a.step c.written.result c.requires.item c.written.ensures ∙ ap value_object (sym c.value_of-spelling.ensures) in
+    let addressed = item-address fixed laws size a.history c.requires.valid c.args.value.now f c.requires.known a.step c.written.result c.requires.item c.written.ensures in
+    IfOk-weaker c.stage.result _ _ (λ _ is. is ∙ staged-address fixed.address c.args.value.now c.value_of-spelling.result.now f valued addressed) c.stage.ensures.address
+
+pub returns-clause-free : goal.returns-clause-free
+returns-clause-free g c =
+    let laws = (g.met.T.Mrdt g.world.𝓛 g.world.𝓜 g.world.𝓡 ((λ s x. x), (λ x. x), (λ x. x), λ x. x)).laws in
+    let a = c.args.made.now in
+    let fixed = fix g.T.Mrdt.meaning a.terms g.A.Address.address in
+    let size = g.met.A.Address.size in
+    let f = fields_in c.args.fields in
+    let valued = item-value fixed laws size a.history c.requires.valid c.args.value.now f a.step c.written.result c.requires.item c.written.ensures ∙ ap value_object (sym c.value_of-spelling.ensures) in
+    let addressed = item-address fixed laws size a.history c.requires.valid c.args.value.now f c.requires.known a.step c.written.result c.requires.item c.written.ensures in
+    let pair = staged-pair fixed.address c.args.value.now c.value_of-spelling.result.now f valued addressed in
+    let o = c.args.objects.now in
+    let both_objects = commit_pair fixed.address c.value_of-spelling.result.now f.parents f.branch f.clock f.action in
+    let whole = ap (λ s. o.stored ++ s) c.requires.staged ∙ append-nil o.stored in
+    on_ok_weaker c.stage.result (λ is. sym (ap (λ s. collision fixed.address s both_objects) whole ∙ ap (collision fixed.address o.stored) pair) ∙ is) c.stage.ensures.free
+
+pub returns-clause-collides : goal.returns-clause-collides
+returns-clause-collides g c =
+    let laws = (g.met.T.Mrdt g.world.𝓛 g.world.𝓜 g.world.𝓡 ((λ s x. x), (λ x. x), (λ x. x), λ x. x)).laws in
+    let a = c.args.made.now in
+    let fixed = fix g.T.Mrdt.meaning a.terms g.A.Address.address in
+    let size = g.met.A.Address.size in
+    let f = fields_in c.args.fields in
+    let valued = item-value fixed laws size a.history c.requires.valid c.args.value.now f a.step c.written.result c.requires.item c.written.ensures ∙ ap value_object (sym c.value_of-spelling.ensures) in
+    let addressed = item-address fixed laws size a.history c.requires.valid c.args.value.now f c.requires.known a.step c.written.result c.requires.item c.written.ensures in
+    let pair = staged-pair fixed.address c.args.value.now c.value_of-spelling.result.now f valued addressed in
+    let o = c.args.objects.now in
+    let both_objects = commit_pair fixed.address c.value_of-spelling.result.now f.parents f.branch f.clock f.action in
+    let whole = ap (λ s. o.stored ++ s) c.requires.staged ∙ append-nil o.stored in
+    IfErr-weaker c.stage.result _ _ (λ e is. subst (λ p. RefusesToStage fixed.address o.stored p e) pair (subst (λ s. RefusesToStage fixed.address s both_objects e) whole is)) c.stage.ensures.collides
