@@ -1,5 +1,5 @@
 // Moves made again, one after the other, on a new store.
-ghost use Rattle.std.specs.Prelude.{◌≡◌, ◌≢◌, ◌<◌, ◌∷◌, [], length, IfOk, IfErr, OnOk, Result, Ok, Err, false};
+ghost use Rattle.std.specs.Prelude.{◌≡◌, ◌≢◌, ◌<◌, ◌∷◌, [], length, IfOk, IfErr, OnOk, Result, Ok, Err, Some, false};
 ghost use Rattle.std.specs.Option.{ForSome};
 ghost use Rattle.branch_io.specs.Causes.{HasCauseOf};
 ghost use Rattle.branch_disk.specs.Disk.{Files, LeavesOnly};
@@ -282,6 +282,8 @@ pub fn make_again<T: Mrdt, D: Disk + Drop, A: Address>(
     ensures moments_err { let fixed = fix T.meaning terms A.address in
         ((c : Files) → D.may_leave disk c → IsEmpty c)
         → IfErr result (λ e. LeavesOnly D.moment D.left_since disk e.1 (NoneOrSome fixed moves)) }
+    ensures kept { IfErr result (λ e. (f : Files) → D.contents disk ≡ Some f → ¬ IsEmpty f
+        → LeavesOnly D.moment D.left_since disk e.1 (D.may_leave disk)) }
     ensures no_cause { IfOk result (λ r. D.faults r.1 ≡ D.faults disk) }
     ensures cause { IfErr result (λ e. HasCauseOf {T = Unit {0}} MakeRefused.DiskFault
         (D.faults disk) (D.faults e.1) (Err e.0)) }

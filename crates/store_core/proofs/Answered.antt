@@ -1,5 +1,5 @@
 -- What a call answered and left, from what was made and put on the disk.
-use Rattle.std.proofs.Common.{◌≡◌, ℕ, ◌≤◌, ◌^◌, Bool, true, false, List, [], ◌∷◌, ◌++◌, length, refl, sym, ◌∙◌, ap, subst, inl, Option}
+use Rattle.std.proofs.Common.{◌≡◌, ℕ, ◌≤◌, ◌^◌, Bool, true, false, List, [], ◌∷◌, ◌++◌, length, refl, sym, ◌∙◌, ap, subst, inl}
 use Rattle.branch_io.specs.Causes.{Rose}
 use Rattle.branch_disk.specs.Disk.{Files, LeavesOnly}
 use Rattle.branch_disk.specs.Moments.{started, weakened, now_too}
@@ -8,7 +8,6 @@ use Rattle.mrdt_model.specs.Laws.{Meaning}
 use Rattle.branch_history.specs.declared.moves.Move.{Move}
 use Rattle.branch_history.specs.Steps.{Step, Outcome, Turn, Refusal}
 use Rattle.branch_machine.specs.Fixed.{fix}
-use Rattle.branch_machine.specs.Machine.{full_turn}
 use Rattle.branch_machine.specs.Validity.{IsFullyValid}
 use Rattle.machine_answers.specs.Answers.{Answer, Made, Refused, Fault, Failed, Short, Takes}
 use Rattle.heads_journal.specs.declared.record.Record.{Record}

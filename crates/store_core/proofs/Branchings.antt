@@ -42,10 +42,10 @@ module _ {S O R Q A : Type 0} (fixed : Fixed S O R Q A) (history : List (Move O 
   Known made = IsKnown (record_of fixed history made)
 
   known-place : (name : List ℕ) (number n : ℕ) → Known (move.Place name number n)
-  known-place name number n = record { within = omega arith; made_here = λ e. absurd (cc e) }
+  known-place name number n = record { within = omega arith }
 
   known-drop : (r : ℕ) → Known (move.Drop r)
-  known-drop r = record { within = omega arith; made_here = λ e. absurd (cc e) }
+  known-drop r = record { within = omega arith }
 
   place-such : (name : List ℕ) (n : ℕ) (taken : Option ℕ) → MakesSuch Known (place_turn {A = A} fixed.terms history name n taken)
   place-such name n (Some number) = makes-none {A = A} Known (machine.Refused (machine.NameTaken number))

@@ -8,7 +8,9 @@ pub mod Kept
 pub mod Landings
 pub mod Branchings
 pub mod Answered
+pub mod Arrivals
 pub mod Causes
 pub mod Opened
 pub mod Beginnings
 pub mod Sure
+pub mod Bundled

@@ -10,7 +10,7 @@ use Rattle.branch_history.specs.Steps as machine
 use Rattle.branch_machine.specs.Fixed.{Fixed, fix}
 use Rattle.branch_machine.specs.Machine.{full_turn}
 use Rattle.branch_machine.specs.Validity.{IsFullyValid}
-use Rattle.machine_answers.specs.Answers.{Answer, Made, Still, Refused, Fault, Failed, Short, Takes}
+use Rattle.machine_answers.specs.Answers.{Answer, Made, Still, Refused, Fault, Failed, Short}
 use Rattle.store_seen.specs.declared.answers.Forked.{Forked}
 use Rattle.store_seen.specs.Answers.{placed, dropped}
 use Rattle.store_seen.specs.Views.{SeenView}
@@ -18,7 +18,7 @@ use Rattle.store_core.specs.declared.answers.PlaceRefused.{PlaceRefused}
 use Rattle.store_core.specs.declared.answers.PlaceRefused.TheVariants as place_refusal
 use Rattle.store_core.specs.declared.answers.DropRefused.{DropRefused}
 use Rattle.store_core.specs.declared.answers.DropRefused.TheVariants as drop_refusal
-use Rattle.store_core.specs.Contents.{LeavesExactly, LeavesTorn}
+use Rattle.store_core.specs.Contents.{LeavesExactly, MayBeTorn}
 use Rattle.store_core.specs.Images.{AllStand, WithOrWithout}
 use Rattle.store_core.specs.Views.{StoreView}
 
@@ -73,10 +73,10 @@ StandsAs fixed answer history made images = Unit {0}
 
 -- what a disk tells behind an answer: exactly the longer history, or behind a fault what it told but for the place of the move
 abbrev pub TellsAs : {D S O R Q A : Type 0} → Meaning S O R Q A → (List ℕ → List ℕ) → (D → Option Files)
-    → Answer A R → StoreView (Move O R) D → StoreView (Move O R) D → Step O Q → Type 0
-TellsAs meaning address contents (Made outcome moves) old new step = LeavesExactly meaning address contents old new
-TellsAs meaning address contents Fault old new step = LeavesTorn meaning address contents old new step
-TellsAs meaning address contents answer old new step = Unit {0}
+    → Answer A R → StoreView (Move O R) D → StoreView (Move O R) D → List (Move O R) → Type 0
+TellsAs meaning address contents (Made outcome moves) old new made = LeavesExactly meaning address contents old new
+TellsAs meaning address contents Fault old new made = MayBeTorn (fix meaning old.terms address) old.history made (contents old.disk) (contents new.disk)
+TellsAs meaning address contents answer old new made = Unit {0}
 
 -- the count of faults rises at a fault, and else it stays
 abbrev pub FaultsAs : {A R : Type 0} → Answer A R → ℕ → ℕ → Type 0
@@ -87,13 +87,18 @@ FaultsAs Fault before now = (before ≤ now) × Rose before now
 FaultsAs (Failed moves) before now = now ≡ before
 FaultsAs Short before now = now ≡ before
 
--- What an answer to a step leaves of a store and its disk. At every moment an image stands for the history before, or for that with the move.
-pub record Leaves {D S O R Q A : Type 0} (disk : Ghosts D) (meaning : Meaning S O R Q A) (address : List ℕ → List ℕ)
-    (step : Step O Q) (old new : StoreView (Move O R) D) (answer : Answer A R) : Type 0 where
+-- What an answer leaves of a store and its disk, where the machine makes these moves. At every moment an image stands for the history before, or for that with the move.
+pub record LeavesBy {D S O R Q A : Type 0} (disk : Ghosts D) (meaning : Meaning S O R Q A) (address : List ℕ → List ℕ)
+    (made : List (Move O R)) (old new : StoreView (Move O R) D) (answer : Answer A R) : Type 0 where
   pub worked : old.failed ≡ had_failed answer
   pub keeps : Keeps answer old new
-  pub stands : StandsAs (fix meaning old.terms address) answer old.history (turn_of meaning address old step).made (disk.may_leave new.disk)
+  pub stands : StandsAs (fix meaning old.terms address) answer old.history made (disk.may_leave new.disk)
   pub moments : old.failed ≡ false → LeavesOnly disk.moment disk.left_since old.disk new.disk
-      (WithOrWithout (fix meaning old.terms address) old.history (turn_of meaning address old step).made)
-  pub tells : TellsAs meaning address disk.contents answer old new step
+      (WithOrWithout (fix meaning old.terms address) old.history made)
+  pub tells : TellsAs meaning address disk.contents answer old new made
   pub faults : FaultsAs answer (disk.faults old.disk) (disk.faults new.disk)
+
+-- the same of an answer to a step
+abbrev pub Leaves : {D S O R Q A : Type 0} → Ghosts D → Meaning S O R Q A → (List ℕ → List ℕ) → Step O Q
+    → StoreView (Move O R) D → StoreView (Move O R) D → Answer A R → Type 0
+Leaves disk meaning address step old new answer = LeavesBy disk meaning address (turn_of meaning address old step).made old new answer

@@ -8,3 +8,5 @@ pub mod Inits
 pub mod Refusals
 pub mod Opens
 pub mod Answers
+pub mod Bundling
+pub mod Receiving

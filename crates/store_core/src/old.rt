@@ -17,10 +17,11 @@ use crate::answers::{OldRefused, OpenRefused};
 use crate::reading::read_in;
 use branch_address::Address;
 use branch_disk::{Disk, Part};
+use branch_files::forms::reads_old_as_first_kind;
 use branch_history::Move;
 use branch_names::Terms;
 use commit_replay::first_text;
-use commit_replay::laws::{reads_as_no_store, reads_as_store};
+use commit_replay::laws::{reads_as_none_of_kind, reads_as_store};
 use heads_journal::{ReadAllRefused, read_all};
 use mrdt_model::{Listing, Mrdt};
 use std::alloc::Global;
@@ -57,7 +58,8 @@ pub fn read_old<T: Mrdt, D: Disk, A: Address>(
     ensures cause { let before = D.faults disk.old in
         HasCauseOf OpenRefused.DiskFault before (D.faults disk.new) result }
 {
-    match read_in::<T, D, A>(alloc, disk, OLD) {
+    reads_old_as_first_kind::<T>();
+    match read_in::<T, D, A>(alloc, disk, OLD, 0) {
         Ok((_journal, recorded)) => {
             let terms = recorded.terms();
             Ok((terms, recorded.into_moves()))
@@ -155,7 +157,8 @@ pub fn is_old<T: Mrdt, D: Disk, A: Address>(alloc: Global, disk: &mut D) -> Resu
     ensures cause { let before = D.faults disk.old in
         HasCauseOf OldRefused.DiskFault before (D.faults disk.new) result }
 {
-    reads_as_no_store::<T>();
+    reads_as_none_of_kind::<T>();
+    reads_old_as_first_kind::<T>();
     reads_as_store::<T>();
     match has_old_header(alloc, disk) {
         Ok(true) => begins_as_old::<T, D, A>(alloc, disk),

@@ -4,6 +4,7 @@ ghost use Rattle.std.specs.Option.{option_map};
 ghost use Rattle.branch_disk.specs.Disk.{Files, LeavesOnly};
 ghost use Rattle.branch_renewal.specs.Renewed.{renewed as renewed_as, renewed_moves};
 ghost use Rattle.mrdt_old_doc.specs.OldDocument.{renewed_op};
+ghost use Rattle.store_core.specs.Inits.{IsEmpty};
 ghost use Rattle.store_upgrade.specs.Upgrades.{Upgraded, UpgradeRefusedAs, HasCauseOfEither};
 
 use crate::answers::UpgradeRefused;
@@ -102,6 +103,8 @@ pub fn upgrade<D: Disk + Drop, A: Address>(
     ensures same { D.contents first.new ≡ D.contents first.old }
     ensures any_moment { let images = D.may_leave first.old in
         LeavesOnly D.moment D.left_since first.old first.new images }
+    ensures kept { IfErr result (λ e. (f : Files) → D.contents second ≡ Some f → ¬ IsEmpty f
+        → LeavesOnly D.moment D.left_since second e.1 (D.may_leave second)) }
     ensures no_cause { IfOk result (λ r.
         (D.faults first.new ≡ D.faults first.old) × (D.faults r.1 ≡ D.faults second)) }
     ensures cause { let before = D.faults first.old in

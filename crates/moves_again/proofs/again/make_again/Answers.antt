@@ -1,9 +1,9 @@
 -- A store is begun, its moves are made, and its disk is handed back.
 use Rattle.std.proofs.Common.{◌≡◌, ◌∙◌, ap, sym, subst, refl, length}
-use Rattle.std.specs.Prelude.{Ok, Err, IfOk, IfErr, OnOk, Result}
+use Rattle.std.specs.Prelude.{Ok, Err, Some, IfOk, IfErr, OnOk, Result}
 use Rattle.std.specs.Option.{ForSome}
 use Rattle.branch_io.specs.Causes.{HasCauseOf}
-use Rattle.branch_disk.specs.Disk.{LeavesOnly}
+use Rattle.branch_disk.specs.Disk.{Files, LeavesOnly}
 use Rattle.branch_disk.specs.Moments.{weakened}
 use Rattle.branch_history.specs.History.{store_of}
 use Rattle.branch_machine.specs.Fixed.{fix}
@@ -100,3 +100,13 @@ returns-clause-cause g c =
     (λ made r. HasCauseOf move_refusal.DiskFault (d.faults c.in-Ok.core.disk) (d.faults new.disk) made → IfErr r (λ e. HasCauseOf {T = Unit {0}} make_refusal.DiskFault (d.faults c.args.disk) (d.faults e.1) (Err e.0)))
     (λ cause. tt)
     (λ e cause. cause-goes-on _ _ _ _ c.in-Ok.ensures.no_cause (cause-stopped _ _ _ e cause)) c.make_all-made.ensures.cause
+
+pub returns-in-Err-clause-kept : goal.returns-in-Err-clause-kept
+returns-in-Err-clause-kept g c = c.in-Err.ensures.kept
+
+pub returns-clause-kept : goal.returns-clause-kept
+returns-clause-kept g c =
+    let d = g.D.Disk in let new = c.make_all-made.new.core in
+    by-result (length (store_of new.terms.origin new.history).commits) (length new.history) new.disk c.make_all-made.result c.finish.result c.finish.ensures.ok c.finish.ensures.err
+    (λ made r. IfErr r (λ e. (f : Files) → d.contents c.args.disk ≡ Some f → ¬ IsEmpty f → LeavesOnly d.moment d.left_since c.args.disk e.1 (d.may_leave c.args.disk)))
+    tt (λ e. λ f told some. absurd (some (c.in-Ok.ensures.empty f told)))

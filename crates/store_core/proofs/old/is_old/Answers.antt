@@ -1,5 +1,6 @@
 -- The header and the first objects are the first rule of reading.
-use Rattle.std.proofs.Common.{◌∙◌}
+use Rattle.std.proofs.Common.{◌∙◌, refl}
+use Rattle.branch_files.specs.Reading.{NotAStore}
 use Rattle.store_core.specs.Opens.{old_form}
 use Rattle.store_core.proofs.Opened.{ok-more}
 use Rattle.store_core.proofs.old.is_old.Goals as goal
@@ -20,4 +21,5 @@ returns-in-Ok-true-clause-other g c =
 
 pub returns-in-Ok-false-clause-other : goal.returns-in-Ok-false-clause-other
 returns-in-Ok-false-clause-other g c = λ _ f told.
-    c.reads_as_no_store.ensures old_form g.A.Address.address f (c.in-Ok-false.ensures.none c.in-Ok-false.field-0-test f told)
+    (c.reads_old_as_first_kind.ensures old_form refl g.A.Address.address f NotAStore).1
+    (c.reads_as_none_of_kind.ensures old_form 0 g.A.Address.address f (c.in-Ok-false.ensures.none c.in-Ok-false.field-0-test f told))

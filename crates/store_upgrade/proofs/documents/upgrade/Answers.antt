@@ -3,6 +3,7 @@ use Rattle.std.proofs.Common.{◌≡◌, ◌∙◌, List, [], ap, sym, subst, re
 use Rattle.std.proofs.Crossing.{crosses}
 use denote.Param.Send.{sendable}
 use Rattle.branch_disk.specs.Disk.{LeavesOnly}
+use Rattle.branch_disk.specs.Moments.{started}
 use Rattle.branch_history.specs.declared.moves.Move.{Move}
 use Rattle.branch_doc.specs.Forms.{DocOp, DocReply}
 use Rattle.mrdt_old_doc.specs.OldDocument.{old_document, renewed_op}
@@ -71,3 +72,14 @@ returns-in-Err-make_again-clause-cause g c =
     let faults = g.D.Disk.faults in
     subst (λ (e : UpgradeRefused). HasCauseOfEither (faults c.args.first.now) (faults c.read_old.new.disk) (faults c.args.second) (faults c.in-Err-make_again.second) e) (sym c.from-in-Err-make_again.ensures)
     (cause-second _ _ _ _ (c.in-Ok.ensures.cause.others (λ is. absurd (cc))) c.in-Err-make_again.refused c.in-Err-make_again.ensures.cause)
+
+pub returns-in-Err-clause-kept : goal.returns-in-Err-clause-kept
+returns-in-Err-clause-kept g c = λ f told some.
+    let d = g.D.Disk in started d.moment d.left_since c.args.second (d.may_leave c.args.second) (g.met.D.Disk.only_now c.args.second)
+
+pub returns-in_default-clause-kept : goal.returns-in_default-clause-kept
+returns-in_default-clause-kept g c = λ f told some.
+    let d = g.D.Disk in started d.moment d.left_since c.args.second (d.may_leave c.args.second) (g.met.D.Disk.only_now c.args.second)
+
+pub returns-in-Err-make_again-clause-kept : goal.returns-in-Err-make_again-clause-kept
+returns-in-Err-make_again-clause-kept g c = c.in-Err-make_again.ensures.kept
