@@ -1,0 +1,145 @@
+-- Objects that are copied one behind the other, each once.
+use Rattle.std.proofs.Common.{◌≡◌, ℕ, ◌+◌, ◌<◌, Bool, true, false, cond, Some, None, slice_get, ◌||◌, List, [], ◌∷◌, ◌++◌, length, map, take, zero, suc, get_or, refl, sym, ◌∙◌, ap, arith, append_assoc, append-nil}
+use Rattle.std.specs.Borrow.{Bor}
+use Rattle.std.specs.List.{list_any, flat_map, concat}
+use Rattle.std.proofs.lemmas.List.{map-append, length-take}
+use Rattle.std.proofs.lemmas.List.Concat.{flat_map-append}
+use Rattle.branch_machine.specs.Objects.{Pair, both, commit_text, value_text}
+use Rattle.branch_machine.proofs.Stored.{fresh-append}
+use Rattle.branch_wire.specs.StoredObjects.{Stored, file_of, fresh, same}
+use Rattle.object_store.proofs.Written.{file-both}
+use Rattle.branch_compact.specs.Compact.{at_places}
+use Rattle.store_compact.specs.declared.copying.Placed.{Placed}
+use Rattle.store_compact.specs.Copied.{lent, objects_in, placed_after, placed_of}
+
+-- an object is known where an equal one is
+pub any-lent : (x : List ℕ) (keys : List (Bor (List ℕ))) → list_any (λ (k : Bor (List ℕ)). same x k.now) keys ≡ list_any (same x) (lent keys)
+any-lent x [] = refl
+any-lent x (k ∷ keys) = ap (λ (b : Bool). same x k.now || b) (any-lent x keys)
+
+-- what an object adds that is known, or is not
+pub insert-lent : (x : Bor (List ℕ)) (keys new : List (Bor (List ℕ))) → new ≡ cond (list_any (λ (k : Bor (List ℕ)). same x.now k.now) keys) keys (keys ++ x ∷ [])
+    → lent new ≡ lent keys ++ fresh (lent keys) (x.now ∷ [])
+insert-lent x keys new is =
+    ap lent is ∙ at (list_any (λ (k : Bor (List ℕ)). same x.now k.now) keys) ∙ ap (λ (b : Bool). lent keys ++ cond b [] (x.now ∷ [])) (any-lent x.now keys)
+  where
+    at : (b : Bool) → lent (cond b keys (keys ++ x ∷ [])) ≡ lent keys ++ cond b [] (x.now ∷ [])
+    at true = sym (append-nil (lent keys))
+    at false = map-append (λ (object : Bor (List ℕ)). object.now) keys (x ∷ [])
+
+pub copied-new : (x : List ℕ) (keys : List (Bor (List ℕ))) → list_any (λ (k : Bor (List ℕ)). same x k.now) keys ≡ false → concat (fresh (lent keys) (x ∷ [])) ≡ x
+copied-new x keys is = ap (λ (b : Bool). concat (cond b [] (x ∷ []))) (sym (any-lent x keys) ∙ is) ∙ append-nil x
+
+pub copied-known : (x : List ℕ) (keys : List (Bor (List ℕ))) → list_any (λ (k : Bor (List ℕ)). same x k.now) keys ≡ true → concat (fresh (lent keys) (x ∷ [])) ≡ []
+copied-known x keys is = ap (λ (b : Bool). concat (cond b [] (x ∷ []))) (sym (any-lent x keys) ∙ is)
+
+-- the objects with one more
+pub objects-more : (pairs : List Pair) (p : Pair) → objects_in (pairs ++ p ∷ []) ≡ objects_in pairs ++ fresh (objects_in pairs) (both p)
+objects-more pairs p =
+    ap (fresh []) (flat_map-append both pairs (p ∷ [])) ∙ fresh-append [] (flat_map both pairs) (flat_map both (p ∷ []))
+    ∙ ap (λ (l : Stored). objects_in pairs ++ fresh (objects_in pairs) l) (append-nil (both p))
+
+placed_after-more : (address : List ℕ → List ℕ) (before pairs : List Pair) (p : Pair)
+    → placed_after address before (pairs ++ p ∷ []) ≡ placed_after address before pairs ++ record { address = address p.commit; end = length (file_of (objects_in ((before ++ pairs) ++ p ∷ []))) } ∷ []
+placed_after-more address before [] p = ap (λ (l : List Pair). record { address = address p.commit; end = length (file_of (objects_in (l ++ p ∷ []))) } ∷ []) (sym (append-nil before))
+placed_after-more address before (q ∷ pairs) p =
+    ap (λ (l : List Placed). record { address = address q.commit; end = length (file_of (objects_in (before ++ q ∷ []))) } ∷ l)
+    (placed_after-more address (before ++ q ∷ []) pairs p
+    ∙ ap (λ (l : List Pair). placed_after address (before ++ q ∷ []) pairs ++ record { address = address p.commit; end = length (file_of (objects_in (l ++ p ∷ []))) } ∷ []) (append_assoc before (q ∷ []) pairs))
+
+pub placed-more : (address : List ℕ → List ℕ) (pairs : List Pair) (p : Pair)
+    → placed_of address (pairs ++ p ∷ []) ≡ placed_of address pairs ++ record { address = address p.commit; end = length (file_of (objects_in (pairs ++ p ∷ []))) } ∷ []
+placed-more address pairs p = placed_after-more address [] pairs p
+
+-- where one of them stands
+placed_after-at : (address : List ℕ → List ℕ) (before pairs : List Pair) (k : ℕ) (d : Placed) → k < length pairs
+    → get_or (placed_after address before pairs) k d ≡ record { address = address (commit_text pairs k); end = length (file_of (objects_in (before ++ take (suc k) pairs))) }
+placed_after-at address before [] k d lt = absurd (omega (arith, lt))
+placed_after-at address before (p ∷ ps) zero d lt = refl
+placed_after-at address before (p ∷ ps) (suc k) d lt =
+    placed_after-at address (before ++ p ∷ []) ps k d (omega (arith, lt))
+    ∙ ap (λ (l : List Pair). record { address = address (commit_text ps k); end = length (file_of (objects_in l)) }) (append_assoc before (p ∷ []) (take (suc k) ps))
+
+pub placed-at : (address : List ℕ → List ℕ) (pairs : List Pair) (k : ℕ) (d : Placed) → k < length pairs
+    → get_or (placed_of address pairs) k d ≡ record { address = address (commit_text pairs k); end = length (file_of (objects_in (take (suc k) pairs))) }
+placed-at address pairs k d lt = placed_after-at address [] pairs k d lt
+
+pub length-placed : (address : List ℕ → List ℕ) (before pairs : List Pair) → length (placed_after address before pairs) ≡ length pairs
+length-placed address before [] = refl
+length-placed address before (p ∷ ps) = ap suc (length-placed address (before ++ p ∷ []) ps)
+
+-- those at the places that are kept, with one more
+pub at_places-more : {X : Type 0} (keep : ℕ → Bool) (n : ℕ) (xs : List X) (x : X) → at_places keep n (xs ++ x ∷ []) ≡ at_places keep n xs ++ cond (keep (n + length xs)) (x ∷ []) []
+at_places-more {X} keep n [] x = let at : n ≡ n + 0 = omega arith in ap (λ (k : ℕ). cond (keep k) (x ∷ []) []) at
+at_places-more {X} keep n (y ∷ ys) x =
+    let at : suc n + length ys ≡ n + length (y ∷ ys) = omega arith in
+    either (keep n) (at_places-more keep (suc n) ys x) ∙ ap (λ (k : ℕ). at_places keep n (y ∷ ys) ++ cond (keep k) (x ∷ []) []) at
+  where
+    either : (b : Bool) → at_places keep (suc n) (ys ++ x ∷ []) ≡ at_places keep (suc n) ys ++ cond (keep (suc n + length ys)) (x ∷ []) []
+        → cond b (y ∷ at_places keep (suc n) (ys ++ x ∷ [])) (at_places keep (suc n) (ys ++ x ∷ [])) ≡ cond b (y ∷ at_places keep (suc n) ys) (at_places keep (suc n) ys) ++ cond (keep (suc n + length ys)) (x ∷ []) []
+    either true rest = ap (λ (l : List X). y ∷ l) rest
+    either false rest = rest
+
+-- the objects of the next commit
+take-pair : (pairs : List Pair) (k : ℕ) → k < length pairs → take (suc k) pairs ≡ take k pairs ++ record { value = value_text pairs k; commit = commit_text pairs k } ∷ []
+take-pair [] k lt = absurd (omega (arith, lt))
+take-pair (p ∷ ps) zero lt = refl
+take-pair (p ∷ ps) (suc k) lt = ap (λ (l : List Pair). p ∷ l) (take-pair ps k (omega (arith, lt)))
+
+module _ (keep : ℕ → Bool) (pairs : List Pair) (k : ℕ) (lt : k < length pairs) where
+  abbrev pub kept_to : ℕ → List Pair
+  kept_to n = at_places keep 0 (take n pairs)
+
+  abbrev next : Pair
+  next = record { value = value_text pairs k; commit = commit_text pairs k }
+
+  with-next : kept_to (k + 1) ≡ kept_to k ++ cond (keep k) (next ∷ []) []
+  with-next =
+      let one : k + 1 ≡ suc k = omega arith in
+      let count : 0 + length (take k pairs) ≡ k = omega (arith, length-take k pairs, lt) in
+      ap kept_to one ∙ ap (at_places keep 0) (take-pair pairs k lt) ∙ at_places-more keep 0 (take k pairs) next
+      ∙ ap (λ (n : ℕ). kept_to k ++ cond (keep n) (next ∷ []) []) count
+
+  next-kept : keep k ≡ true → kept_to (k + 1) ≡ kept_to k ++ next ∷ []
+  next-kept is = with-next ∙ ap (λ (b : Bool). kept_to k ++ cond b (next ∷ []) []) is
+
+  pub next-gone : keep k ≡ false → kept_to (k + 1) ≡ kept_to k
+  next-gone is = with-next ∙ ap (λ (b : Bool). kept_to k ++ cond b (next ∷ []) []) is ∙ append-nil (kept_to k)
+
+  module _ (is : keep k ≡ true) (old new : Stored) (was : old ≡ objects_in (kept_to k)) (grown : new ≡ old ++ fresh old (value_text pairs k ∷ commit_text pairs k ∷ [])) where
+    pub known-next : new ≡ objects_in (kept_to (k + 1))
+    known-next =
+        grown ∙ ap (λ (l : Stored). l ++ fresh l (value_text pairs k ∷ commit_text pairs k ∷ [])) was ∙ sym (objects-more (kept_to k) next)
+        ∙ sym (ap objects_in (next-kept is))
+
+    pub placed-next : (address : List ℕ → List ℕ) (before after : List Placed) → before ≡ placed_of address (kept_to k)
+        → after ≡ before ++ record { address = address (commit_text pairs k); end = length (file_of new) } ∷ [] → after ≡ placed_of address (kept_to (k + 1))
+    placed-next address before after stood stands =
+        stands ∙ ap (λ (l : List Placed). l ++ record { address = address (commit_text pairs k); end = length (file_of new) } ∷ []) stood
+        ∙ ap (λ (l : Stored). placed_of address (kept_to k) ++ record { address = address (commit_text pairs k); end = length (file_of l) } ∷ []) (known-next ∙ ap objects_in (next-kept is))
+        ∙ sym (placed-more address (kept_to k) next) ∙ sym (ap (placed_of address) (next-kept is))
+
+-- an object behind another, in the list and in the file
+pub both-known : (first second third : Stored) (value commit : List ℕ) → second ≡ first ++ fresh first (value ∷ []) → third ≡ second ++ fresh second (commit ∷ [])
+    → third ≡ first ++ fresh first (value ∷ commit ∷ [])
+both-known first second third value commit one two =
+    two ∙ ap (λ (l : Stored). l ++ fresh l (commit ∷ [])) one ∙ append_assoc first (fresh first (value ∷ [])) (fresh (first ++ fresh first (value ∷ [])) (commit ∷ []))
+    ∙ ap (λ (l : Stored). first ++ l) (sym (fresh-append first (value ∷ []) (commit ∷ [])))
+
+pub whole-more : (old new more : Stored) (text longer : List ℕ) → text ≡ file_of old → longer ≡ text ++ concat more → new ≡ old ++ more → longer ≡ file_of new
+whole-more old new more text longer was is grown = is ∙ ap (λ (l : List ℕ). l ++ concat more) was ∙ sym (file-both old more) ∙ sym (ap file_of grown)
+
+-- what is there is found
+pub not-none : {X : Type 0} (xs : List X) (k : ℕ) → k < length xs → None ≡ slice_get xs k → ⊥
+not-none [] k lt is = omega (arith, lt)
+not-none (x ∷ xs) zero lt is = cc
+not-none (x ∷ xs) (suc k) lt is = not-none xs k (omega (arith, lt)) is
+
+pub address-at : (address : List ℕ → List ℕ) (pairs : List Pair) (k : ℕ) (a : List ℕ) → Some a ≡ slice_get (map (λ (p : Pair). address p.commit) pairs) k → a ≡ address (commit_text pairs k)
+address-at address [] k a is = absurd (cc)
+address-at address (p ∷ ps) zero a is = let same : a ≡ address p.commit = cc in same
+address-at address (p ∷ ps) (suc k) a is = address-at address ps k a is
+
+pub placed-same : (a b : List ℕ) (e f : ℕ) (before after : List Placed) → after ≡ before ++ record { address = a; end = e } ∷ [] → a ≡ b → e ≡ f → after ≡ before ++ record { address = b; end = f } ∷ []
+placed-same a b e f before after is one two =
+    is ∙ ap (λ (l : List ℕ). before ++ record { address = l; end = e } ∷ []) one ∙ ap (λ (n : ℕ). before ++ record { address = b; end = n } ∷ []) two

@@ -1,0 +1,6 @@
+mod Writes
+mod Copies
+mod Spells
+mod Gathered
+mod Known
+mod Standing

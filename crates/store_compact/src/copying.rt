@@ -1,0 +1,131 @@
+// The objects of the live commits, copied.
+ghost use Rattle.std.specs.Prelude.{◌≡◌, ◌<◌, ◌++◌, ◌∷◌, [], length, IfOk, OnOk};
+ghost use Rattle.std.specs.List.{concat};
+ghost use Rattle.branch_machine.specs.Fixed.{fix};
+ghost use Rattle.branch_machine.specs.Objects.{commit_text, pairs_of, value_text};
+ghost use Rattle.branch_history.specs.History.{store_of};
+ghost use Rattle.branch_wire.specs.StoredObjects.{file_of, fresh, header};
+ghost use Rattle.branch_compact.specs.Compact.{at_places};
+ghost use Rattle.branch_compact.specs.Marks.{is_marked};
+ghost use Rattle.store_compact.specs.Copied.{lent, objects_in, placed_of};
+
+use branch_address::Address;
+use branch_wire::{VERSION, put_u32};
+use indexmap::IndexSet;
+use mrdt_model::{Memory, Mrdt};
+use recorded_history::Recorded;
+use std::alloc::Global;
+
+const LETTERS: &[u8] = b"MRDTOBJS";
+
+// The address of a commit, and where the objects end behind it.
+#[derive(Clone, Copy, Debug, PartialEq, Eq)]
+pub(crate) struct Placed {
+    pub(crate) address: [u8; 32],
+    pub(crate) end: u64,
+}
+
+// The file of the objects of some commits, and where each of them stands.
+#[derive(Drop)]
+pub(crate) struct Copies {
+    pub(crate) text: Vec<u8>,
+    pub(crate) placed: Vec<Placed>,
+}
+
+// The header of the file.
+fn header_text(alloc: Global) -> Result<Vec<u8>, Memory>
+    ensures { IfOk result (λ text. text.items ≡ header) }
+{
+    let mut text = Vec::from_slice(alloc, LETTERS)?;
+    put_u32(VERSION, &mut text)?;
+    put_u32(0, &mut text)?;
+    Ok(text)
+}
+
+// Copies an object behind those of the file, if no equal one is there.
+fn copy_object<'a>(
+    object: &'a [u8],
+    known: &mut IndexSet<&'a [u8]>,
+    text: &mut Vec<u8>,
+) -> Result<(), Memory>
+    ensures known { OnOk result (lent known.new.keys
+        ≡ lent known.old.keys ++ fresh (lent known.old.keys) (object.now ∷ [])) }
+    ensures copied { OnOk result (text.new.items
+        ≡ text.old.items ++ concat (fresh (lent known.old.keys) (object.now ∷ []))) }
+{
+    if known.insert(object)? {
+        text.extend_from_slice(object)?;
+    }
+    Ok(())
+}
+
+// Copies both objects of a commit, each if no equal one is there, and notes where it stands.
+fn copy_commit<'a, T: Mrdt, A: Address>(
+    recorded: &'a Recorded<T, A>,
+    number: u32,
+    known: &mut IndexSet<&'a [u8]>,
+    copies: &mut Copies,
+) -> Result<(), Memory>
+    requires settled { recorded.now.pending ≡ [] }
+    requires there { number
+        < length (store_of recorded.now.terms.origin recorded.now.written).commits }
+    requires whole { copies.old.text.items ≡ file_of (lent known.old.keys) }
+    ensures known { let fixed = fix T.meaning recorded.now.terms A.address in
+        let pairs = pairs_of fixed
+        (store_of recorded.now.terms.origin recorded.now.written).commits in
+        OnOk result (lent known.new.keys ≡ lent known.old.keys
+        ++ fresh (lent known.old.keys)
+        (value_text pairs number ∷ commit_text pairs number ∷ [])) }
+    ensures whole { OnOk result (copies.new.text.items ≡ file_of (lent known.new.keys)) }
+    ensures placed { let fixed = fix T.meaning recorded.now.terms A.address in
+        let pairs = pairs_of fixed
+        (store_of recorded.now.terms.origin recorded.now.written).commits in
+        OnOk result (copies.new.placed.items ≡ copies.old.placed.items ++ record {
+          address = A.address (commit_text pairs number);
+          end = length (file_of (lent known.new.keys));
+        } ∷ []) }
+{
+    let Some((value, commit)) = recorded.item(number) else {
+        unreachable!()
+    };
+    let Some(address) = recorded.address(number) else {
+        unreachable!()
+    };
+    copy_object(value, known, &mut copies.text)?;
+    copy_object(commit, known, &mut copies.text)?;
+    let end = copies.text.len() as u64;
+    copies.placed.push(Placed { address, end })?;
+    Ok(())
+}
+
+// Copies the objects of the commits that are marked, each once.
+pub(crate) fn copy_marked<T: Mrdt, A: Address>(
+    alloc: Global,
+    recorded: &Recorded<T, A>,
+    marks: &[bool],
+) -> Result<Copies, Memory>
+    requires settled { recorded.now.pending ≡ [] }
+    requires count { length marks.now
+        ≡ length (store_of recorded.now.terms.origin recorded.now.written).commits }
+    ensures text { let fixed = fix T.meaning recorded.now.terms A.address in
+        let pairs = pairs_of fixed
+        (store_of recorded.now.terms.origin recorded.now.written).commits in
+        IfOk result (λ copies. copies.text.items
+        ≡ file_of (objects_in (at_places (is_marked marks.now) 0 pairs))) }
+    ensures placed { let fixed = fix T.meaning recorded.now.terms A.address in
+        let pairs = pairs_of fixed
+        (store_of recorded.now.terms.origin recorded.now.written).commits in
+        IfOk result (λ copies. copies.placed.items
+        ≡ placed_of A.address (at_places (is_marked marks.now) 0 pairs)) }
+{
+    let mut known = IndexSet::new(alloc);
+    let text = header_text(alloc)?;
+    let placed = Vec::new(alloc);
+    let mut copies = Copies { text, placed };
+    for number in 0..recorded.commits() {
+        if marks[number as usize] {
+            copy_commit(recorded, number, &mut known, &mut copies)?;
+        }
+    }
+    Ok(copies)
+}
