@@ -1,0 +1,5 @@
+pub mod Turns
+pub mod Loops
+pub mod Ends
+pub mod Places
+pub mod Items

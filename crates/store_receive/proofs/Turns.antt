@@ -1,0 +1,100 @@
+-- Turns of items, one after the other.
+use Rattle.std.proofs.Common.{◌≡◌, ◌⊎◌, inl, inr, ℕ, ◌+◌, ◌<◌, suc, arith, zero, List, [], ◌∷◌, ◌++◌, length, get_or, map, refl, ap, sym, ◌∙◌, subst, append_assoc, append-nil}
+use Rattle.std.specs.List.{AllByRecursion}
+use Rattle.std.proofs.lemmas.Grind.{flat_map-append}
+use Rattle.branch_history.specs.declared.moves.Move.{Move}
+use Rattle.branch_history.specs.Steps.{Refusal, Outcome, Sees, Forked, Landed, Merged, Joined, Forwarded, Same, New, Here, DroppedAt, Answered, Refused, Turn}
+use Rattle.branch_machine.specs.Fixed.{Fixed}
+use Rattle.branch_machine.specs.Objects.{Pair}
+use Rattle.branch_machine.specs.Validity.{IsFullyValid, Receives}
+use Rattle.branch_bundle_laws.specs.Receiving.{IsTaken, made_by, ReceivesAll, EndsRefused}
+use Rattle.branch_bundle_laws.proofs.Turns.{received-as}
+use Rattle.branch_bundle_laws.proofs.Folds.{turn-old}
+use Rattle.branch_bundle.specs.declared.bundle.Item.{Item}
+use Rattle.branch_bundle.specs.Held.{pair_of, numbered}
+
+module _ {S O R Q A : Type 0} (fixed : Fixed S O R Q A) where
+  -- one item more: it is taken and the last, or it is not taken
+  pub received-more : (moves : List (Move O R)) (items : List Pair) (turns : List (Turn O R A)) → ReceivesAll fixed moves items turns → AllByRecursion IsTaken turns
+      → (item : Pair) (rest : List Pair) (t : Turn O R A) → Receives fixed (moves ++ made_by turns) item t → (IsTaken t × (rest ≡ [])) ⊎ (¬ IsTaken t)
+      → ReceivesAll fixed moves (items ++ item ∷ rest) (turns ++ t ∷ [])
+  received-more moves [] turns none taken item rest t first how =
+      let at : moves ++ made_by turns ≡ moves = ap (λ (l : List (Turn O R A)). moves ++ made_by l) none ∙ append-nil moves in
+      let here : Receives fixed moves item t = subst (λ (h : List (Move O R)). Receives fixed h item t) at first in
+      subst (λ (l : List (Turn O R A)). ReceivesAll fixed moves (item ∷ rest) (l ++ t ∷ [])) (sym none) (here, last [] refl how)
+    where
+      last : (ts : List (Turn O R A)) → ts ≡ [] → (IsTaken t × (rest ≡ [])) ⊎ (¬ IsTaken t) → (IsTaken t × ReceivesAll fixed (moves ++ t.made) rest ts) ⊎ (¬ IsTaken t × (ts ≡ []))
+      last ts none (inl (is, end)) = inl (is, subst (λ (l : List Pair). ReceivesAll fixed (moves ++ t.made) l ts) (sym end) none)
+      last ts none (inr not) = inr (not, none)
+  received-more moves (i ∷ items) [] none taken item rest t first how = absurd none
+  received-more moves (i ∷ items) (u ∷ us) (one, inl (is, more)) taken item rest t first how = (
+    one,
+    inl (
+      is,
+      received-more (moves ++ u.made) items us more taken.1 item rest t
+          (subst (λ (h : List (Move O R)). Receives fixed h item t) (sym (append_assoc moves u.made (made_by us))) first) how,
+    ),
+  )
+  received-more moves (i ∷ items) (u ∷ us) (one, inr (not, none)) taken item rest t first how = absurd (not taken.0)
+
+  -- there is a turn of each item
+  pub received-length : (moves : List (Move O R)) (items : List Pair) (turns : List (Turn O R A)) → ReceivesAll fixed moves items turns → AllByRecursion IsTaken turns → length turns ≡ length items
+  received-length moves [] turns none taken = ap length none
+  received-length moves (i ∷ items) [] none taken = absurd none
+  received-length moves (i ∷ items) (u ∷ us) (one, inl (is, more)) taken = ap suc (received-length (moves ++ u.made) items us more taken.1)
+  received-length moves (i ∷ items) (u ∷ us) (one, inr (not, none)) taken = absurd (not taken.0)
+
+  -- a turn that makes a move takes its item
+  pub makes-taken : (moves : List (Move O R)) (item : Pair) (t : Turn O R A) (m : Move O R) → Receives fixed moves item t → t.made ≡ m ∷ [] → IsTaken t
+  makes-taken moves item t m receives made = by-outcome t.outcome refl
+    where
+      unmade : ((n : ℕ) → ¬ (t.outcome ≡ New n)) → IsTaken t
+      unmade none =
+          let no_move : t.made ≡ [] = turn-old fixed moves item t none (received-as fixed moves item t receives) in
+          let clash : m ∷ [] ≡ [] = sym made ∙ no_move in
+          absurd (cc clash)
+
+      other : (o : Outcome A R) → t.outcome ≡ o → ((n : ℕ) → ¬ (o ≡ New n)) → IsTaken t
+      other o is never = unmade (λ n new. never n (sym is ∙ new))
+
+      by-outcome : (o : Outcome A R) → t.outcome ≡ o → IsTaken t
+      by-outcome (New n) is = (n, inr is)
+      by-outcome (Here n) is = (n, inl is)
+      by-outcome (Sees a b) is = other (Sees a b) is (λ n e. cc e)
+      by-outcome (Forked a b) is = other (Forked a b) is (λ n e. cc e)
+      by-outcome (Landed a b c) is = other (Landed a b c) is (λ n e. cc e)
+      by-outcome (Merged a) is = other (Merged a) is (λ n e. cc e)
+      by-outcome (Joined a) is = other (Joined a) is (λ n e. cc e)
+      by-outcome (Forwarded a) is = other (Forwarded a) is (λ n e. cc e)
+      by-outcome Same is = other Same is (λ n e. cc e)
+      by-outcome (DroppedAt a b) is = other (DroppedAt a b) is (λ n e. cc e)
+      by-outcome (Answered a) is = other (Answered a) is (λ n e. cc e)
+      by-outcome (Refused r) is = other (Refused r) is (λ n e. cc e)
+
+module _ {O R A : Type 0} where
+  pub taken-more : (turns : List (Turn O R A)) (t : Turn O R A) → AllByRecursion IsTaken turns → IsTaken t → AllByRecursion IsTaken (turns ++ t ∷ [])
+  taken-more [] t all is = (is, tt)
+  taken-more (u ∷ us) t all is = (all.0, taken-more us t all.1 is)
+
+  pub made-more : (turns : List (Turn O R A)) (t : Turn O R A) → made_by (turns ++ t ∷ []) ≡ made_by turns ++ t.made
+  made-more turns t = flat_map-append (λ (u : Turn O R A). u.made) turns (t ∷ []) ∙ ap (λ (l : List (Move O R)). made_by turns ++ l) (append-nil t.made)
+
+  pub ends-more : (turns : List (Turn O R A)) (t : Turn O R A) (r : Refusal) → t.outcome ≡ Refused r → EndsRefused (turns ++ t ∷ []) r
+  ends-more [] t r is = is
+  ends-more (u ∷ []) t r is = is
+  ends-more (u ∷ v ∷ us) t r is = ends-more (v ∷ us) t r is
+
+  -- what is refused is not taken
+  pub refused-not-taken : (t : Turn O R A) (r : Refusal) → t.outcome ≡ Refused r → ¬ IsTaken t
+  refused-not-taken t r is (n, inl here) = let clash : Refused r ≡ Here n = sym is ∙ here in cc clash
+  refused-not-taken t r is (n, inr new) = let clash : Refused r ≡ New n = sym is ∙ new in cc clash
+
+-- the number of an item of a list that is numbered
+pub number-at : (items : List Item) (n k : ℕ) (other : Item) → items ≡ numbered n (map pair_of items) → k < length items → (get_or items k other).number ≡ n + k
+number-at [] n k other is inside = absurd (omega (arith, inside))
+number-at (x ∷ xs) n zero other is inside =
+    let first : x ≡ record { number = n; value = x.value; commit = x.commit } = cc is in
+    ap (λ (i : Item). i.number) first ∙ omega arith
+number-at (x ∷ xs) n (suc k) other is inside =
+    let rest : xs ≡ numbered (n + 1) (map pair_of xs) = cc is in
+    number-at xs (n + 1) k other rest (omega (arith, inside)) ∙ omega arith

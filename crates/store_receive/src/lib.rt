@@ -1,0 +1,9 @@
+//! Receiving a bundle: the commits that another store sent are taken one after the other, and then a branch is placed at
+//! the bundle's tip.
+#![tactic(auto)]
+
+pub mod answers;
+mod receiving;
+
+pub use answers::{NotReceived, Placed};
+pub use receiving::receive_bytes;
