@@ -6,15 +6,16 @@ use lib.ListN.{get_elem?}
 use Rattle.atomic_table.proofs.Lists.{at_set, at_snoc, at_longer, set_else}
 use Rattle.branch_front.specs.declared.seat_view.SeatView.{SeatView}
 use Rattle.branch_front.specs.declared.rule.Counts.{Counts}
-use Rattle.branch_front.specs.Lists.{total}
+use Rattle.branch_front.specs.Lists.{total, times, once_within}
 use Rattle.branch_front.specs.SeatViews.{spent, opening_view}
 use Rattle.branch_front.specs.Rules.{Fits, Seated, CountsOneHistory}
 use Rattle.branch_front.proofs.Prefixes.{prefix_none, prefix_trans}
+use Rattle.branch_front.proofs.Claims.{once-none}
 
 off : false ≡ true → ⊥
 off e = true≢false (sym e)
 
-there : {V : Type 0} (views : List V) (i : ℕ) (v w : V) → get_elem? views i ≡ some v → get_elem? (set views i w) i ≡ some w
+pub there : {V : Type 0} (views : List V) (i : ℕ) (v w : V) → get_elem? views i ≡ some v → get_elem? (set views i w) i ≡ some w
 there [] i v w e = absurd (some-ne-none v (sym e))
 there (x ∷ xs) zero v w e = refl
 there (x ∷ xs) (suc i) v w e = there xs i v w e
@@ -30,6 +31,7 @@ module _ {M : Type 0} (begun : ℕ) where
     moves = prefix_trans v.moves writer.moves later.moves fits.moves grows.moves;
     faults = omega (arith, fits.faults, grows.faults);
     mine = fits.mine;
+    counted = fits.counted;
     idle = fits.idle;
     heard = prefix_trans v.heard writer.moves later.moves fits.heard grows.moves;
     heard_faults = omega (arith, fits.heard_faults, grows.faults);
@@ -40,6 +42,7 @@ module _ {M : Type 0} (begun : ℕ) where
     moves = prefix_none writer.moves;
     faults = omega arith;
     mine = omega arith;
+    counted = refl;
     idle = λ _. refl;
     heard = prefix_none writer.moves;
     heard_faults = omega arith;
@@ -101,6 +104,7 @@ pub record AsWriter {M : Type 0} (counts : Counts) (words : List ℕ) (views : L
   pub word : words ≡ (counts.begun + length writer.moves) ∷ []
   pub parts : total (λ v. v.parts) views ≡ counts.parts
   pub receipts : total (λ v. v.receipts) views ≡ length writer.moves
+  pub claims : (n : ℕ) → total (λ v. times n (v.mine ++ v.others)) views ≡ once_within counts.begun (counts.begun + length writer.moves) n
 
 -- a view that writes is the writer's
 pub as_writer : {M : Type 0} (counts : Counts) (words : List ℕ) (views : List (SeatView M)) (id : ℕ) (v : SeatView M)
@@ -110,7 +114,7 @@ as_writer {M} counts words views id v rule at writes =
     let same : rule.writer ≡ v = some-injective rule.writer v (sym rule.seated.here ∙ (ap (get_elem? views) (sym here) ∙ at)) in
     subst (λ (u : SeatView M). AsWriter counts words views id u) same
     (subst (λ (seat : ℕ). AsWriter counts words views seat rule.writer) (sym here)
-    record { seated = rule.seated; word = rule.word; parts = rule.parts; receipts = rule.receipts })
+    record { seated = rule.seated; word = rule.word; parts = rule.parts; receipts = rule.receipts; claims = rule.claims })
 
 pub begins : {M : Type 0} (counts : Counts) → CountsOneHistory {M = M} counts (counts.begun ∷ []) (opening_view counts.parts ∷ [])
 begins {M} counts = record {
@@ -120,6 +124,7 @@ begins {M} counts = record {
   word = ap (λ (n : ℕ). n ∷ []) (omega arith);
   parts = omega arith;
   receipts = refl;
+  claims = λ n. sym (once-none counts.begun (counts.begun + length (opening_view {M = M} counts.parts).moves) n (omega arith));
 }
   where
     writer : SeatView M
@@ -131,5 +136,5 @@ begins {M} counts = record {
 
     one : (by : ℕ) (v : SeatView M) → get_elem? (opening_view counts.parts ∷ []) by ≡ some v → Fits counts.begun (opening_view counts.parts) v
     one zero v e = subst (Fits counts.begun (opening_view counts.parts)) (some-injective (opening_view counts.parts) v e)
-        record { moves = prefix_none []; faults = omega arith; mine = omega arith; idle = λ _. refl; heard = prefix_none []; heard_faults = omega arith }
+        record { moves = prefix_none []; faults = omega arith; mine = omega arith; counted = refl; idle = λ _. refl; heard = prefix_none []; heard_faults = omega arith }
     one (suc by) v e = absurd (some-ne-none v (sym e))

@@ -12,12 +12,14 @@ pub record Opening : Type 0 where
   pub parts : ℕ
 
 -- of which front it is; the entries that its holder has seen, from the first that came after the front was made; the rising
--- lengths of the history at which its own entries landed; the disk's faults as last seen; its share of the front's parts;
--- and the number of entries that landed by it and by the passes that were joined to it
+-- lengths of the history at which its own entries landed, and those at which the entries of passes did that were joined to it;
+-- the disk's faults as last seen; its share of the front's parts; and the number of entries that landed by it and by the passes
+-- that were joined to it. It claims its own entries and the others
 pub record View (M : Type 0) : Type 0 where
   pub table : TableId
   pub moves : List M
   pub mine : List ℕ
+  pub others : List ℕ
   pub faults : ℕ
   pub parts : ℕ
   pub receipts : ℕ
@@ -25,11 +27,11 @@ pub record View (M : Type 0) : Type 0 where
 module _ {M : Type 0} where
   -- the writer holds nothing for a caller
   abbrev pub IsIdle : View M → Type 0
-  IsIdle writer = (writer.mine ≡ []) × (writer.parts ≡ 0) × (writer.receipts ≡ 0)
+  IsIdle writer = (writer.mine ≡ []) × (writer.others ≡ []) × (writer.parts ≡ 0) × (writer.receipts ≡ 0)
 
   -- what a contract sees of a view
   abbrev pub view_of : TableId → SeatView M → View M
-  view_of table v = record { table = table; moves = v.moves; mine = v.mine; faults = v.faults; parts = v.parts; receipts = v.receipts }
+  view_of table v = record { table = table; moves = v.moves; mine = v.mine; others = v.others; faults = v.faults; parts = v.parts; receipts = v.receipts }
 
   -- the one view of a badge
   abbrev pub only_view : List (SeatView M) → SeatView M

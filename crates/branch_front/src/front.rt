@@ -22,7 +22,11 @@ impl<M> Model for Front<M> {
 
     ghost Value = { Opening };
 
-    ghost view = { λ f. record { table = f.table.shared.table_id; begun = f.table.shared.key.begun; parts = f.table.shared.key.parts } };
+    ghost view = { λ f. record {
+      table = f.table.shared.table_id;
+      begun = f.table.shared.key.begun;
+      parts = f.table.shared.key.parts;
+    } };
 
     ghost invariant = { λ f. f.table.shared.table_id.words ≡ 1 };
 }
@@ -30,8 +34,20 @@ impl<M> Model for Front<M> {
 impl<M> Front<M> {
     /// A word that begins at the length `moves`, and its writer, which holds all `parts`.
     pub fn new(alloc: Global, moves: u64, parts: u64) -> Result<(Front<M>, Writer<M>), Memory>
-        ensures front { IfOk result (λ r. r.0 ≡ record { table = r.0.table; begun = moves; parts = parts }) }
-        ensures writer { IfOk result (λ r. r.1 ≡ record { table = r.0.table; moves = []; mine = []; faults = 0; parts = parts; receipts = 0 }) }
+        ensures front { IfOk result (λ r. r.0 ≡ record {
+          table = r.0.table;
+          begun = moves;
+          parts = parts;
+        }) }
+        ensures writer { IfOk result (λ r. r.1 ≡ record {
+          table = r.0.table;
+          moves = [];
+          mine = [];
+          others = [];
+          faults = 0;
+          parts = parts;
+          receipts = 0;
+        }) }
     {
         let (front, seat) = Front::open(alloc, moves, parts)?;
         Ok((front, Writer { seat }))
@@ -39,7 +55,11 @@ impl<M> Front<M> {
 
     // The front, and the seat of its writer.
     fn open(alloc: Global, begun: u64, parts: u64) -> Result<(Front<M>, At<M>), Memory>
-        ensures front { IfOk result (λ r. r.0 ≡ record { table = r.1.table_id; begun = begun; parts = parts }) }
+        ensures front { IfOk result (λ r. r.0 ≡ record {
+          table = r.1.table_id;
+          begun = begun;
+          parts = parts;
+        }) }
         ensures seat { IfOk result (λ r. r.1.me ≡ (opening_view parts, [])) }
     {
         let (table, seat) = Table::of_words(alloc, &[begun], &Counts { begun, parts })?;

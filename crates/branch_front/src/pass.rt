@@ -1,7 +1,8 @@
 // The passes of callers.
-ghost use Rattle.std.specs.Prelude.{◌≡◌, ◌+◌, ◌-◌, ◌<◌, false, [], ◌∷◌, max};
+ghost use Rattle.std.specs.Prelude.{◌≡◌, ◌+◌, ◌-◌, ◌<◌, false, [], ◌∷◌, ◌++◌, length, max};
+ghost use Rattle.std.specs.List.{AllByRecursion};
 ghost use mathlib.Core.List.{IsPrefix};
-ghost use Rattle.branch_front.specs.Lists.{longer};
+ghost use Rattle.branch_front.specs.Lists.{longer, AreApart, AreDistinct};
 ghost use Rattle.branch_front.specs.Views.{IsAt, view_of, only_view};
 
 use crate::front::Front;
@@ -50,7 +51,12 @@ impl<M> Pass<M> {
         requires table { self.old.table ≡ front.now.table }
         requires parts { parts < self.old.parts }
         ensures this { self.new ≡ record self.old { parts = self.old.parts - parts } }
-        ensures new { result ≡ record self.old { mine = []; parts = parts; receipts = 0 } }
+        ensures new { result ≡ record self.old {
+          mine = [];
+          others = [];
+          parts = parts;
+          receipts = 0;
+        } }
     {
         let mut seat = seat_of(&mut self.badge);
         let new = front.split_off(&mut seat, parts);
@@ -61,11 +67,13 @@ impl<M> Pass<M> {
         }
     }
 
-    /// Takes in a pass that ends, with its parts and receipts, and has then seen what either had.
+    /// Takes in a pass that ends, with its parts and receipts, and has then seen what either had. What the other claims it
+    /// claims as entries of others.
     pub fn join(&mut self, front: &Front<M>, other: Pass<M>)
         requires tables { (self.old.table ≡ front.now.table) × (other.table ≡ front.now.table) }
         ensures pass { self.new ≡ record self.old {
           moves = longer self.old.moves other.moves;
+          others = self.old.others ++ (other.mine ++ other.others);
           faults = max self.old.faults other.faults;
           parts = self.old.parts + other.parts;
           receipts = self.old.receipts + other.receipts;
@@ -74,10 +82,43 @@ impl<M> Pass<M> {
         // The longer of the two lists begins with both.
         ensures this { IsPrefix self.old.moves self.new.moves }
         ensures that { IsPrefix other.moves self.new.moves }
+
+        // No entry is claimed twice, and none was claimed by both.
+        ensures once { AreDistinct (self.new.mine ++ self.new.others) }
+        ensures apart { AreApart (self.old.mine ++ self.old.others) (other.mine ++ other.others) }
     {
         let receipts = other.receipts;
         let mut seat = seat_of(&mut self.badge);
         front.put_together(&mut seat, other.into_seat());
+        self.badge = seat.into_badge();
+        self.receipts += receipts;
+    }
+
+    /// Takes in a pass that ends, whose own entries become its own too. They landed behind what it has seen.
+    pub fn adopt(&mut self, front: &Front<M>, other: Pass<M>)
+        requires tables { (self.old.table ≡ front.now.table) × (other.table ≡ front.now.table) }
+        requires behind { AllByRecursion (λ n. front.now.begun + length self.old.moves < n)
+            other.mine }
+        ensures pass { self.new ≡ record self.old {
+          moves = longer self.old.moves other.moves;
+          mine = self.old.mine ++ other.mine;
+          others = self.old.others ++ other.others;
+          faults = max self.old.faults other.faults;
+          parts = self.old.parts + other.parts;
+          receipts = self.old.receipts + other.receipts;
+        } }
+
+        // The longer of the two lists begins with both.
+        ensures this { IsPrefix self.old.moves self.new.moves }
+        ensures that { IsPrefix other.moves self.new.moves }
+
+        // No entry is claimed twice, and none was claimed by both.
+        ensures once { AreDistinct (self.new.mine ++ self.new.others) }
+        ensures apart { AreApart (self.old.mine ++ self.old.others) (other.mine ++ other.others) }
+    {
+        let receipts = other.receipts;
+        let mut seat = seat_of(&mut self.badge);
+        front.adopt(&mut seat, other.into_seat());
         self.badge = seat.into_badge();
         self.receipts += receipts;
     }

@@ -32,7 +32,8 @@ impl<M, E: Told<M>, K: Keyed> Play<(), SeatView<M>> for Adds<E, K> {
     ghost use Rattle.std.specs.Prelude.{◌≡◌};
     ghost use Rattle.branch_front.specs.Rules.{Added};
 
-    ghost then = { λ step old found new. (new.1 ≡ old.1) × Added E.entry K.begun old.0 found new.0 };
+    ghost then = { λ step old found new. (new.1 ≡ old.1)
+        × Added E.entry K.begun old.0 found new.0 };
 }
 
 /// The writer looks, and its faults become those told.
@@ -44,7 +45,8 @@ impl<M, E: Told<M>, K: Keyed> Play<(), SeatView<M>> for WriterLooks<E, K> {
     ghost use Rattle.std.specs.Prelude.{◌≡◌};
     ghost use Rattle.branch_front.specs.Rules.{WriterLooked};
 
-    ghost then = { λ step old found new. (new.1 ≡ old.1) × WriterLooked K.begun K.parts E.faults old.0 found new.0 };
+    ghost then = { λ step old found new. (new.1 ≡ old.1)
+        × WriterLooked K.begun K.parts E.faults old.0 found new.0 };
 }
 
 /// A caller looks.
@@ -92,13 +94,24 @@ impl<M> Join<SeatView<M>> for IntoWriter {
     ghost spent = { spent };
 }
 
-/// A caller's view goes into another caller's.
+/// A caller's view goes into another caller's, which keeps its own entries apart from the other's.
 pub(crate) struct IntoCaller;
 
 impl<M> Join<SeatView<M>> for IntoCaller {
     ghost use Rattle.branch_front.specs.SeatViews.{together, spent};
 
     ghost both = { together };
+
+    ghost spent = { spent };
+}
+
+/// A caller's view goes into another caller's, and its own entries become the other's own.
+pub(crate) struct IntoOwner;
+
+impl<M> Join<SeatView<M>> for IntoOwner {
+    ghost use Rattle.branch_front.specs.SeatViews.{adopted, spent};
+
+    ghost both = { adopted };
 
     ghost spent = { spent };
 }

@@ -9,6 +9,8 @@ pub(crate) struct SeatView<M> {
     pub(crate) moves: LinkedList<M>,
     /// The lengths of the history at which its own entries landed.
     pub(crate) mine: LinkedList<u64>,
+    /// Those at which the entries of the views landed that were joined to it.
+    pub(crate) others: LinkedList<u64>,
     /// The disk's faults as last seen.
     pub(crate) faults: u64,
     /// Its share of the front's parts.

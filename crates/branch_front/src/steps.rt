@@ -1,12 +1,16 @@
 // The four kinds of atomic step at a front's word: the writer's adding of 1, a load, a split, and a join with the load that follows it.
-ghost use Rattle.std.specs.Prelude.{◌≡◌, ◌+◌, ◌<◌, ◌≤◌, ◌^◌, length, true, false};
+ghost use Rattle.std.specs.Prelude.{◌≡◌, ◌+◌, ◌<◌, ◌≤◌, ◌^◌, ◌++◌, length, true, false};
+ghost use Rattle.std.specs.List.{AllByRecursion};
 ghost use mathlib.Core.List.{IsPrefix};
-ghost use Rattle.branch_front.specs.SeatViews.{idle_writer, taken_over, less_parts, newcomer, with_caller, together};
+ghost use Rattle.branch_front.specs.SeatViews.{idle_writer, taken_over, less_parts, newcomer, with_caller, together, adopted};
+ghost use Rattle.branch_front.specs.Lists.{AreApart, AreDistinct};
 ghost use Rattle.branch_front.specs.Rules.{Added, WriterLooked};
 ghost use Rattle.branch_front.specs.Views.{IsAt};
 
 use crate::front::Front;
-use crate::rule::{Adds, CallerLooks, IntoCaller, IntoWriter, OffCaller, OffWriter, WriterLooks};
+use crate::rule::{
+    Adds, CallerLooks, IntoCaller, IntoOwner, IntoWriter, OffCaller, OffWriter, WriterLooks,
+};
 use crate::seat_view::SeatView;
 use crate::told::{Keyed, Numbered, Told};
 use atomic_table::Seat;
@@ -46,7 +50,8 @@ impl<M> Front<M> {
         requires writer { seat.old.me.0.writes ≡ true }
         requires rise { seat.old.me.0.faults ≤ E.faults }
         ensures seat { IsAt self.now.table seat.new }
-        ensures looked { WriterLooked self.now.begun self.now.parts E.faults seat.old.me.0 result seat.new.me.0 }
+        ensures looked { WriterLooked self.now.begun self.now.parts E.faults seat.old.me.0 result
+            seat.new.me.0 }
     {
         self.look_as::<E, Brand>(seat)
     }
@@ -57,7 +62,8 @@ impl<M> Front<M> {
         requires writer { seat.old.me.0.writes ≡ true }
         requires rise { seat.old.me.0.faults ≤ E.faults }
         ensures seat { IsAt self.now.table seat.new }
-        ensures looked { WriterLooked self.now.begun self.now.parts E.faults seat.old.me.0 result seat.new.me.0 }
+        ensures looked { WriterLooked self.now.begun self.now.parts E.faults seat.old.me.0 result
+            seat.new.me.0 }
     {
         self.table.shared.load::<WriterLooks<E, K>>(seat, 0)
     }
@@ -104,7 +110,8 @@ impl<M> Front<M> {
         requires roles { (seat.old.me.0.writes ≡ true) × (other.me.0.writes ≡ false) }
         requires rise { seat.old.me.0.faults ≤ E.faults }
         ensures seat { IsAt self.now.table seat.new }
-        ensures looked { WriterLooked self.now.begun self.now.parts E.faults (with_caller seat.old.me.0 other.me.0) result seat.new.me.0 }
+        ensures looked { WriterLooked self.now.begun self.now.parts E.faults
+            (with_caller seat.old.me.0 other.me.0) result seat.new.me.0 }
     {
         self.table.shared.join_seat::<IntoWriter>(seat, other);
         self.look::<E>(seat)
@@ -118,9 +125,31 @@ impl<M> Front<M> {
         ensures caller { seat.new.me.0 ≡ together seat.old.me.0 other.me.0 }
         ensures this { IsPrefix seat.old.me.0.moves seat.new.me.0.moves }
         ensures that { IsPrefix other.me.0.moves seat.new.me.0.moves }
+        ensures once { AreDistinct (seat.new.me.0.mine ++ seat.new.me.0.others) }
+        ensures apart { AreApart (seat.old.me.0.mine ++ seat.old.me.0.others)
+            (other.me.0.mine ++ other.me.0.others) }
         ensures receipts { seat.new.me.0.receipts < 2 ^ 64 }
     {
         self.table.shared.join_seat::<IntoCaller>(seat, other);
+        self.table.shared.load::<CallerLooks>(seat, 0);
+    }
+
+    /// The same, where the other's own entries, which came behind what the caller has seen, become the caller's own.
+    pub(crate) fn adopt(&self, seat: &mut At<M>, other: At<M>)
+        requires seats { IsAt self.now.table seat.old × IsAt self.now.table other }
+        requires roles { (seat.old.me.0.writes ≡ false) × (other.me.0.writes ≡ false) }
+        requires behind { AllByRecursion
+            (λ n. self.now.begun + length seat.old.me.0.moves < n) other.me.0.mine }
+        ensures seat { IsAt self.now.table seat.new }
+        ensures caller { seat.new.me.0 ≡ adopted seat.old.me.0 other.me.0 }
+        ensures this { IsPrefix seat.old.me.0.moves seat.new.me.0.moves }
+        ensures that { IsPrefix other.me.0.moves seat.new.me.0.moves }
+        ensures once { AreDistinct (seat.new.me.0.mine ++ seat.new.me.0.others) }
+        ensures apart { AreApart (seat.old.me.0.mine ++ seat.old.me.0.others)
+            (other.me.0.mine ++ other.me.0.others) }
+        ensures receipts { seat.new.me.0.receipts < 2 ^ 64 }
+    {
+        self.table.shared.join_seat::<IntoOwner>(seat, other);
         self.table.shared.load::<CallerLooks>(seat, 0);
     }
 }

@@ -1,7 +1,7 @@
 // The writer, which lies beside the history under one lock.
 ghost use Rattle.std.specs.Prelude.{◌≡◌, ◌+◌, ◌<◌, ◌≤◌, ◌^◌, [], ◌∷◌, ◌++◌, length};
 ghost use mathlib.Core.List.{IsPrefix};
-ghost use Rattle.branch_front.specs.Lists.{RisesWithin};
+ghost use Rattle.branch_front.specs.Lists.{RisesWithin, AreAllWithin, AreSomeWithin};
 ghost use Rattle.branch_front.specs.Views.{IsIdle};
 
 use crate::front::Front;
@@ -33,7 +33,12 @@ impl<M> Writer<M> {
         requires table { self.old.table ≡ front.now.table }
         requires none { self.old.receipts ≡ 0 }
         ensures pass { result ≡ self.old }
-        ensures writer { self.new ≡ record self.old { mine = []; parts = 0; receipts = 0 } }
+        ensures writer { self.new ≡ record self.old {
+          mine = [];
+          others = [];
+          parts = 0;
+          receipts = 0;
+        } }
     {
         let seat = front.give_over(&mut self.seat);
         Pass {
@@ -55,6 +60,9 @@ impl<M> Writer<M> {
         ensures seen { IsPrefix pass.old.moves self.old.moves }
         ensures faults { pass.old.faults ≤ self.old.faults }
         ensures mine { RisesWithin front.now.begun pass.new.mine result }
+
+        // It claims entries that came, each once.
+        ensures claims { AreSomeWithin front.now.begun (pass.new.mine ++ pass.new.others) result }
     {
         let length = front.take_in::<E>(&mut self.seat, seat_of(&mut pass.badge));
         pass.badge = front.give_over(&mut self.seat).into_badge();
@@ -71,7 +79,10 @@ impl<M> Writer<M> {
         requires rise { self.old.faults ≤ E.faults }
         requires room { front.now.begun + length self.old.moves + 1 < 2 ^ 64 }
         ensures length { result ≡ front.now.begun + length self.new.moves }
-        ensures writer { self.new ≡ record self.old { moves = self.old.moves ++ E.entry; faults = E.faults } }
+        ensures writer { self.new ≡ record self.old {
+          moves = self.old.moves ++ E.entry;
+          faults = E.faults;
+        } }
         ensures pass { pass.new ≡ record pass.old {
           moves = self.new.moves;
           mine = pass.old.mine ++ result ∷ [];
@@ -83,6 +94,9 @@ impl<M> Writer<M> {
         ensures seen { IsPrefix pass.old.moves self.old.moves }
         ensures faults { pass.old.faults ≤ self.old.faults }
         ensures mine { RisesWithin front.now.begun pass.new.mine result }
+
+        // It claims entries that came, each once.
+        ensures claims { AreSomeWithin front.now.begun (pass.new.mine ++ pass.new.others) result }
     {
         front.take_in::<E>(&mut self.seat, seat_of(&mut pass.badge));
         let length = front.add::<E>(&mut self.seat) + 1;
@@ -100,18 +114,26 @@ impl<M> Writer<M> {
         front.look::<E>(&mut self.seat);
     }
 
-    /// The last pass ends, and the writer with it. Answers the pass's receipts. Where it holds all parts, these are all
-    /// entries that came since the front was made.
+    /// The last pass ends, and the writer with it. Answers the pass's receipts, one for each entry that it claims. Where it
+    /// holds all parts, it claims each entry that came since the front was made, once.
     pub fn close(self, front: &Front<M>, last: Pass<M>) -> u64
         requires tables { (self.table ≡ front.now.table) × (last.table ≡ front.now.table) }
         requires idle { IsIdle self }
         ensures receipts { result ≡ last.receipts }
+        ensures counted { result ≡ length (last.mine ++ last.others) }
         ensures all { last.parts ≡ front.now.parts → result ≡ length self.moves }
+        ensures every { last.parts ≡ front.now.parts
+            → AreAllWithin front.now.begun (last.mine ++ last.others)
+            (front.now.begun + length self.moves) }
 
         // What the pass had seen is a beginning of the history.
         ensures seen { IsPrefix last.moves self.moves }
         ensures faults { last.faults ≤ self.faults }
         ensures mine { RisesWithin front.now.begun last.mine (front.now.begun + length self.moves) }
+
+        // It claims entries that came, each once.
+        ensures claims { AreSomeWithin front.now.begun (last.mine ++ last.others)
+            (front.now.begun + length self.moves) }
     {
         let Writer { mut seat } = self;
         let receipts = last.receipts();

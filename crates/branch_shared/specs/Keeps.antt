@@ -18,7 +18,7 @@ front_of table begun parts = record { table = table; begun = length begun; parts
 
 -- the first writer of a front, which holds all parts and knows of so many faults
 abbrev pub first_writer : {M : Type 0} → TableId → ℕ → ℕ → View M
-first_writer table parts faults = record { table = table; moves = []; mine = []; faults = faults; parts = parts; receipts = 0 }
+first_writer table parts faults = record { table = table; moves = []; mine = []; others = []; faults = faults; parts = parts; receipts = 0 }
 
 -- a move that drops no branch
 abbrev pub IsNoDrop : {O R : Type 0} → Move O R → Type 0

@@ -50,5 +50,7 @@ abbrev pub least_terms : Terms
 least_terms = record {
   limits = least_limits;
   origin = 0;
+  kind = 0;
+  small = le_intro 1 255 refl;
   in_range = le_intro 1 4294967295 refl;
 }

@@ -24,11 +24,13 @@ use Rattle.store_core.specs.declared.answers.ForkRefused.TheVariants as fork_ref
 use Rattle.store_core.specs.Turns.{step_made}
 use Rattle.branch_names.specs.declared.terms.Terms.{Terms}
 
--- the history that its holder has seen; the lengths at which its own moves landed; the disk's faults since the core was
--- opened, as last seen; its share of the parts; and the number of moves that it and the passes that left into it landed
+-- the history that its holder has seen; the lengths at which its own moves landed, and those at which the moves of the passes
+-- did that left into it; the disk's faults since the core was opened, as last seen; its share of the parts; and the number of
+-- moves that it and the passes that left into it landed. It claims its own moves and the others
 pub record PassView (M : Type 0) : Type 0 where
   pub moves : List M
   pub mine : List ℕ
+  pub others : List ℕ
   pub faults : ℕ
   pub parts : ℕ
   pub receipts : ℕ

@@ -25,6 +25,7 @@ impl<T: Mrdt, N: Named<T::Op, T::Reply>> Model for Pass<T, N> {
     ghost view = { λ p. record {
       moves = N.begun ++ p.pass.moves;
       mine = p.pass.mine;
+      others = p.pass.others;
       faults = p.pass.faults;
       parts = p.pass.parts;
       receipts = p.pass.receipts;

@@ -1,7 +1,7 @@
 // A store that threads share.
-ghost use Rattle.std.specs.Prelude.{ℕ, ◌≡◌, ◌≢◌, ◌+◌, ◌-◌, ◌<◌, ◌≤◌, true, false, [], length, max, Err, IfOk, IfErr, OnErr};
+ghost use Rattle.std.specs.Prelude.{ℕ, ◌≡◌, ◌≢◌, ◌+◌, ◌-◌, ◌<◌, ◌≤◌, ◌++◌, true, false, [], length, max, Err, IfOk, IfErr, OnErr};
 ghost use mathlib.Core.List.{IsPrefix};
-ghost use Rattle.branch_front.specs.Lists.{longer};
+ghost use Rattle.branch_front.specs.Lists.{longer, AreAllWithin, AreApart, AreDistinct, AreSomeWithin};
 ghost use Rattle.branch_history.specs.Machine.{turn, answers};
 ghost use Rattle.branch_history.specs.Steps as machine;
 ghost use Rattle.branch_machine.specs.Fixed.{fix};
@@ -81,6 +81,7 @@ impl<T: Mrdt, D: Disk + Drop, A: Address, N: Named<T::Op, T::Reply>> Shared<T, D
         ensures { result.1 ≡ record {
           moves = blank.core.history;
           mine = [];
+          others = [];
           faults = faults_since D.faults blank.core;
           parts = blank.parts;
           receipts = 0;
@@ -116,7 +117,12 @@ impl<T: Mrdt, D: Disk + Drop, A: Address, N: Named<T::Op, T::Reply>> Shared<T, D
     pub fn enter(&self, from: &mut Pass<T, N>, parts: u64) -> Pass<T, N>
         requires parts { (0 < parts) × (parts < from.old.parts) }
         ensures from { from.new ≡ record from.old { parts = from.old.parts - parts } }
-        ensures entered { result ≡ record from.old { mine = []; parts = parts; receipts = 0 } }
+        ensures entered { result ≡ record from.old {
+          mine = [];
+          others = [];
+          parts = parts;
+          receipts = 0;
+        } }
         ensures begun { IsPrefix N.begun result.moves }
     {
         Pass {
@@ -283,12 +289,13 @@ impl<T: Mrdt, D: Disk + Drop, A: Address, N: Named<T::Op, T::Reply>> Shared<T, D
         self.kept.lock(rt).drop_branch(&self.front, pass, seen)
     }
 
-    /// A pass ends in another, which has then seen what either had. Answers how many moves the pass, and those that left
-    /// into it, landed.
+    /// A pass ends in another, which has then seen what either had, and claims what either did. Answers how many moves the
+    /// pass, and those that left into it, landed.
     pub fn leave(&self, pass: Pass<T, N>, into: &mut Pass<T, N>) -> u64
         ensures receipts { result ≡ pass.receipts }
         ensures into { into.new ≡ record into.old {
           moves = longer into.old.moves pass.moves;
+          others = into.old.others ++ (pass.mine ++ pass.others);
           faults = max into.old.faults pass.faults;
           parts = into.old.parts + pass.parts;
           receipts = into.old.receipts + pass.receipts;
@@ -297,6 +304,10 @@ impl<T: Mrdt, D: Disk + Drop, A: Address, N: Named<T::Op, T::Reply>> Shared<T, D
         // The longer of the two lists begins with both.
         ensures this { IsPrefix into.old.moves into.new.moves }
         ensures that { IsPrefix pass.moves into.new.moves }
+
+        // No move is claimed twice, and none was claimed by both.
+        ensures once { AreDistinct (into.new.mine ++ into.new.others) }
+        ensures apart { AreApart (into.old.mine ++ into.old.others) (pass.mine ++ pass.others) }
     {
         let Pass { pass, of: _ } = pass;
         let receipts = pass.receipts();
@@ -326,8 +337,8 @@ impl<T: Mrdt, D: Disk + Drop, A: Address, N: Named<T::Op, T::Reply>> Shared<T, D
     }
 
     /// The core, how many moves landed since the store was shared, and how many of them the last pass, and those that
-    /// left into it, landed: all, where it holds all parts. None of these moves drops a branch, but in a store whose name
-    /// says that it drops some.
+    /// left into it, landed: all, where it holds all parts, and then it claims each of them, once. None of these moves drops
+    /// a branch, but in a store whose name says that it drops some.
     pub fn close_with(self, last: Pass<T, N>) -> Closed<T, D, A>
         ensures history { IsPrefix last.moves result.core.history }
         ensures begun { IsPrefix N.begun result.core.history }
@@ -338,6 +349,13 @@ impl<T: Mrdt, D: Disk + Drop, A: Address, N: Named<T::Op, T::Reply>> Shared<T, D
         ensures landed { length N.begun + result.landed ≡ length result.core.history }
         ensures receipts { result.receipts ≡ last.receipts }
         ensures all { last.parts ≡ N.parts → result.receipts ≡ result.landed }
+        ensures counted { result.receipts ≡ length (last.mine ++ last.others) }
+        ensures every { last.parts ≡ N.parts → AreAllWithin (length N.begun)
+            (last.mine ++ last.others) (length result.core.history) }
+
+        // It claims moves that landed, each once.
+        ensures claims { AreSomeWithin (length N.begun) (last.mine ++ last.others)
+            (length result.core.history) }
     {
         let Shared {
             alloc: _,

@@ -1,4 +1,7 @@
-use Rattle.std.proofs.Common.{sym, ap, ◌∙◌, arith}
+use Rattle.std.proofs.Common.{◌++◌, sym, ap, ◌∙◌, subst, arith}
+use Rattle.branch_front.specs.declared.seat_view.SeatView.{SeatView}
+use Rattle.branch_front.specs.Lists.{AreDistinct}
+use Rattle.branch_front.proofs.Claims.{apart-sum, times-together}
 use Rattle.branch_front.proofs.EachStep.{into_caller, caller_looks}
 use Rattle.branch_front.proofs.front.Front.put_together.Goals as goal
 
@@ -12,3 +15,10 @@ pub load-requires : goal.load-requires
 load-requires g c =
     let one = c.self.invariant in
     (c.join_seat.ensures.0 ∙ (c.requires.seats.0.0 ∙ sym (ap (λ o. o.table) c.self.view_is)), omega arith, caller_looks _ _ _ _)
+
+pub returns-clause-apart : goal.returns-clause-apart
+returns-clause-apart g c =
+    let v = c.args.seat.now.me.0 in
+    let w = c.args.other.me.0 in
+    let once : AreDistinct _ = subst (λ (u : SeatView _). AreDistinct (u.mine ++ u.others)) (ap (λ m. m.0) c.join_seat.ensures.2) c.load.ensures.2.1.claims in
+    apart-sum (v.mine ++ v.others) (w.mine ++ w.others) (λ n. let all = once n in let sum = times-together n v.mine v.others w.mine w.others in omega arith)
