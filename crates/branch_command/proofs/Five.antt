@@ -41,7 +41,8 @@ positive_low (d ∷ ds) e =
     let more = after_ge (0 * 10 + digit_value d) ds in
     omega (arith, is, more, nonzero)
 
-number_low_high : (most n : ℕ) (word : List ℕ) → Some n ≡ number_of most word → (1 ≤ n) × (n ≤ most)
+-- what a word says is positive, and at most the greatest number
+pub number_low_high : (most n : ℕ) (word : List ℕ) → Some n ≡ number_of most word → (1 ≤ n) × (n ≤ most)
 number_low_high most n word e = go (is_positive word && nat_le (digits_value 10 word) most) refl e
   where
     go : (b : Bool) → (is_positive word && nat_le (digits_value 10 word) most) ≡ b

@@ -1,5 +1,10 @@
 pub mod Adding
+pub mod Addresses
 pub mod Digits
 pub mod Five
 pub mod Heard
+pub mod Names
+pub mod Spelled
 pub mod Sure
+pub mod Origins
+pub mod Sendings

@@ -1,4 +1,6 @@
 pub mod Commands
 pub mod Numbers
 pub mod Work
+pub mod Terms
+pub mod Bundles
 pub mod Program

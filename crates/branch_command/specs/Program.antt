@@ -2,7 +2,7 @@
 use Rattle.std.specs.Prelude.{true, false, codes, Some, List, [], ◌∷◌, ◌++◌, map}
 use Rattle.clap.specs.Walk.{Rule, Text}
 use Rattle.clap.specs.Simple.{App, Shape, new_rule, new_shape}
-use Rattle.clap.specs.declared.builder.action.ArgAction.TheVariants.{Version}
+use Rattle.clap.specs.declared.builder.action.ArgAction.TheVariants.{Append, Version}
 
 -- an option `--name N`, which is given at most once
 abbrev pub limit_rule : Text → Rule
@@ -20,6 +20,10 @@ topic_rule = record (new_rule (codes "command")) { value_names = 1 }
 abbrev pub wanted_rule : Text → Rule
 wanted_rule name = record (new_rule name) { required = true; value_names = 1 }
 
+-- words that a command takes, of which there may be none
+abbrev pub several_rule : Text → Rule
+several_rule name = record (new_rule name) { action = Some Append; value_names = 1 }
+
 -- a command of this name, which takes these and `--version`
 abbrev pub leaf : Text → List Rule → Shape
 leaf name rules = record (new_shape name) { rules = rules ++ version_rule ∷ [] }
@@ -30,16 +34,19 @@ work_names = codes "steps" ∷ codes "number" ∷ []
 abbrev pub client_names : List Text
 client_names = codes "count" ∷ work_names
 
-abbrev pub limit_names : List Text
-limit_names = codes "max-clock" ∷ codes "max-commits" ∷ codes "max-branches" ∷ codes "max-value" ∷ codes "max-moves" ∷ []
+-- the options of `init`
+abbrev pub init_names : List Text
+init_names = codes "max-clock" ∷ codes "max-commits" ∷ codes "max-branches" ∷ codes "max-value" ∷ codes "max-moves" ∷ codes "origin" ∷ []
 
--- `init [--max-clock N] ..`, `script`, `check`, `generate STEPS NUMBER`, `clients COUNT STEPS NUMBER`, `upgrade` and `help [COMMAND]`, one of
--- which is wanted; no program's name in front
-unfoldable pub program : App
-program = record {
+-- the words of `send`
+abbrev pub send_rules : List Rule
+send_rules = wanted_rule (codes "branch") ∷ several_rule (codes "address") ∷ []
+
+-- the program without its commands, of which one is wanted; no program's name in front
+abbrev pub bare_program : App
+bare_program = record {
   top = record (new_shape (codes "bucketplum")) {
     rules = version_rule ∷ [];
-    is_leaf = false;
     no_binary_name = true;
     disable_help_subcommand = true;
     disable_version_flag = true;
@@ -47,8 +54,23 @@ program = record {
     has_version = true;
     subcommand_required = true;
   };
-  subs = leaf (codes "init") (map limit_rule limit_names)
+  subs = [];
+}
+
+-- with the commands on one store: `init [--max-clock N] ..`, `script`, `check`, `generate STEPS NUMBER`,
+-- `clients COUNT STEPS NUMBER`, `upgrade` and `compact`
+abbrev pub store_program : App
+store_program = record {
+  top = record bare_program.top { is_leaf = false };
+  subs = leaf (codes "init") (map limit_rule init_names)
       ∷ leaf (codes "script") [] ∷ leaf (codes "check") []
       ∷ leaf (codes "generate") (map wanted_rule work_names) ∷ leaf (codes "clients") (map wanted_rule client_names)
-      ∷ leaf (codes "upgrade") [] ∷ leaf (codes "help") (topic_rule ∷ []) ∷ [];
+      ∷ leaf (codes "upgrade") [] ∷ leaf (codes "compact") [] ∷ [];
+}
+
+-- and with those on bundles, `address BRANCH`, `send BRANCH [ADDRESS ..]` and `receive NAME`, and `help [COMMAND]`
+unfoldable pub program : App
+program = record store_program {
+  subs = store_program.subs ++ (leaf (codes "address") (wanted_rule (codes "branch") ∷ []) ∷ leaf (codes "send") send_rules
+      ∷ leaf (codes "receive") (wanted_rule (codes "name") ∷ []) ∷ leaf (codes "help") (topic_rule ∷ []) ∷ []);
 }

@@ -10,21 +10,39 @@ ghost use Rattle.branch_command.specs.Commands.{Said, Help, Means, Answers, is_r
 ghost use Rattle.branch_command.specs.declared.command.CommandRefused.TheVariants.{Usage};
 ghost use Rattle.clap.specs.declared.error.kind.ErrorKind.TheVariants.{OutOfMemory};
 
-use crate::limits::read_limits;
+use crate::bundles::{read_name, read_sending};
 use crate::table::program;
+use crate::terms::read_terms;
 use crate::work::{read_clients, read_work};
-use branch_names::Limits;
+use branch_names::{Name, Terms};
 use clap::error::ErrorKind;
 use clap::{ArgMatches, Error as Answer};
+use mrdt_model::Listing;
 use std::alloc::{AllocError, Global};
 use std::convert::AsStr;
 use thiserror::Error;
 
+/// The branch that a command is for, by its name.
+#[derive(Clone, Copy)]
+pub struct Named {
+    /// Its name.
+    pub name: Name,
+}
+
+/// What is to be sent.
+#[derive(Drop)]
+pub struct Sending {
+    /// The branch.
+    pub branch: Name,
+    /// The addresses of commits that the receiver has; these, and all below them, are left out.
+    pub here: Listing<[u8; 32]>,
+}
+
 /// What the words of a command line ask for.
-#[derive(Debug, Drop)]
+#[derive(Drop)]
 pub enum Command {
-    /// Make a store under these limits.
-    Init(Limits),
+    /// Make a store of these terms.
+    Init(Terms),
     /// Run the lines of standard input.
     Script,
     /// Open the store and report.
@@ -45,8 +63,16 @@ pub enum Command {
         /// The number from which they are.
         number: u64,
     },
-    /// Make of a store of version 1 one of today's version, on the second disk.
+    /// Make of a store of version 1 one of today's version, on the other disk.
     Upgrade,
+    /// Make the store of the compact history on the other disk, and switch to it.
+    Compact,
+    /// Tell the address of the head of a branch.
+    Address(Named),
+    /// Write a bundle of a branch.
+    Send(Sending),
+    /// Receive a bundle as a new branch.
+    Receive(Named),
     /// Tell this text, of help or of the version.
     Tell(String),
 }
@@ -118,8 +144,8 @@ fn command_named(
     ensures { Answers (said_by name.now (rows_of (found_of given.now))) result }
 {
     match name {
-        "init" => match read_limits(given) {
-            Some(limits) => Ok(Command::Init(limits)),
+        "init" => match read_terms(given) {
+            Some(terms) => Ok(Command::Init(terms)),
             None => Err(CommandRefused::Usage),
         },
         "script" => Ok(Command::Script),
@@ -137,6 +163,19 @@ fn command_named(
             None => Err(CommandRefused::Usage),
         },
         "upgrade" => Ok(Command::Upgrade),
+        "compact" => Ok(Command::Compact),
+        "address" => match read_name(given, "branch") {
+            Some(name) => Ok(Command::Address(Named { name })),
+            None => Err(CommandRefused::Usage),
+        },
+        "send" => match read_sending(alloc, given) {
+            Ok((branch, here)) => Ok(Command::Send(Sending { branch, here })),
+            Err(refused) => Err(refused),
+        },
+        "receive" => match read_name(given, "name") {
+            Some(name) => Ok(Command::Receive(Named { name })),
+            None => Err(CommandRefused::Usage),
+        },
         "help" => tell_help(alloc, given.get_str("command")),
         _ => Err(CommandRefused::Usage),
     }

@@ -3,7 +3,7 @@ ghost use Rattle.std.specs.Prelude.{◌≡◌, IfOk, false, codes, ◌∷◌, []
 ghost use Rattle.clap.specs.declared.builder.command.Command.TheViews.{out-Command as fields_of};
 ghost use Rattle.clap.specs.Walk.{rule_of};
 ghost use Rattle.clap.specs.Simple.{app_of, shape_of};
-ghost use Rattle.branch_command.specs.Program.{limit_rule, version_rule, topic_rule, wanted_rule, leaf, limit_names, work_names, client_names, program};
+ghost use Rattle.branch_command.specs.Program.{limit_rule, version_rule, topic_rule, wanted_rule, several_rule, leaf, init_names, work_names, client_names, send_rules, bare_program, store_program, program};
 
 use clap::{Arg, ArgAction, Command};
 use std::alloc::{AllocError, Global};
@@ -44,6 +44,16 @@ fn wanted<'a>(alloc: Global, name: &'a str, shown: &'a str, help: &'a str) -> Ar
         .help(help)
 }
 
+// Words that a command takes, of which there may be none.
+fn several<'a>(alloc: Global, name: &'a str, shown: &'a str, help: &'a str) -> Arg<'a>
+    ensures { (rule_of result ≡ several_rule name.entry.now) × (result.global ≡ false) }
+{
+    Arg::new(alloc, name)
+        .action(ArgAction::Append)
+        .value_name(shown)
+        .help(help)
+}
+
 // A command without options of its own.
 fn plain<'a>(alloc: Global, name: &'a str, about: &'a str) -> Result<Command<'a>, AllocError>
     ensures { IfOk result (λ c. (shape_of c ≡ leaf name.entry.now [])
@@ -65,7 +75,7 @@ fn help<'a>(alloc: Global) -> Result<Command<'a>, AllocError>
 
 // `init`, and its options.
 fn init<'a>(alloc: Global) -> Result<Command<'a>, AllocError>
-    ensures { IfOk result (λ c. (shape_of c ≡ leaf (codes "init") (map limit_rule limit_names))
+    ensures { IfOk result (λ c. (shape_of c ≡ leaf (codes "init") (map limit_rule init_names))
         × ((fields_of c).has_globals ≡ false)) }
 {
     let clock = limit(
@@ -93,6 +103,11 @@ fn init<'a>(alloc: Global) -> Result<Command<'a>, AllocError>
         "max-moves",
         "Most head moves, 1 to 281474976710656 [default: 1099511627776]",
     );
+    let origin = limit(
+        alloc,
+        "origin",
+        "Origin of the first branch, 0 to 4294967295; the others have the next ones [default: 0]",
+    );
     Command::new(alloc, "init")
         .about("Make a store")
         .arg(clock)?
@@ -100,6 +115,7 @@ fn init<'a>(alloc: Global) -> Result<Command<'a>, AllocError>
         .arg(branches)?
         .arg(value)?
         .arg(moves)?
+        .arg(origin)?
         .arg(version(alloc))
 }
 
@@ -158,9 +174,74 @@ fn clients<'a>(alloc: Global) -> Result<Command<'a>, AllocError>
         .arg(version(alloc))
 }
 
-/// The program, whose words have no program's name in front.
-pub(crate) fn program<'a>(alloc: Global) -> Result<Command<'a>, AllocError>
-    ensures { IfOk result (λ c. app_of c ≡ program) }
+// `address BRANCH`.
+fn address<'a>(alloc: Global) -> Result<Command<'a>, AllocError>
+    ensures { IfOk result (λ c. (shape_of c
+        ≡ leaf (codes "address") (wanted_rule (codes "branch") ∷ []))
+        × ((fields_of c).has_globals ≡ false)) }
+{
+    let branch = wanted(alloc, "branch", "BRANCH", "The branch");
+    Command::new(alloc, "address")
+        .about("Print the address of the head of a branch, in 64 hexadecimal digits")
+        .arg(branch)?
+        .arg(version(alloc))
+}
+
+// `send BRANCH [ADDRESS ..]`.
+fn send<'a>(alloc: Global) -> Result<Command<'a>, AllocError>
+    ensures { IfOk result (λ c. (shape_of c ≡ leaf (codes "send") send_rules)
+        × ((fields_of c).has_globals ≡ false)) }
+{
+    let branch = wanted(alloc, "branch", "BRANCH", "The branch that is sent");
+    let address = several(
+        alloc,
+        "address",
+        "ADDRESS",
+        "Addresses of commits that the receiver has, in 64 lower-case hexadecimal digits",
+    );
+    Command::new(alloc, "send")
+        .about(
+            "Write to standard output a bundle of the commits of a branch, less those that the receiver has",
+        )
+        .arg(branch)?
+        .arg(address)?
+        .arg(version(alloc))
+}
+
+// `receive NAME`.
+fn receive<'a>(alloc: Global) -> Result<Command<'a>, AllocError>
+    ensures { IfOk result (λ c. (shape_of c ≡ leaf (codes "receive")
+        (wanted_rule (codes "name") ∷ []))
+        × ((fields_of c).has_globals ≡ false)) }
+{
+    let name = wanted(alloc, "name", "NAME", "The name of the new branch");
+    Command::new(alloc, "receive")
+        .about(
+            "Take the commits of a bundle from standard input, and make a branch at the one that was sent",
+        )
+        .arg(name)?
+        .arg(version(alloc))
+}
+
+// The program without its commands. Its words have no program's name in front.
+fn bare<'a>(alloc: Global) -> Result<Command<'a>, AllocError>
+    ensures { IfOk result (λ c. app_of c ≡ bare_program) }
+{
+    Command::new(alloc, "bucketplum")
+        .bin_name("bucketplum PATH")?
+        .about("A branch store of mergeable data types, in the files PATH.objects and PATH.heads")
+        .version("0.1.0")
+        .propagate_version(true)
+        .disable_version_flag(true)
+        .disable_help_subcommand(true)
+        .no_binary_name(true)
+        .subcommand_required(true)
+        .arg(version(alloc))
+}
+
+// The program with the commands on one store.
+fn on_store<'a>(alloc: Global) -> Result<Command<'a>, AllocError>
+    ensures { IfOk result (λ c. app_of c ≡ store_program) }
 {
     let init = init(alloc)?;
     let script = plain(alloc, "script", "Run the lines of standard input as steps")?;
@@ -172,22 +253,32 @@ pub(crate) fn program<'a>(alloc: Global) -> Result<Command<'a>, AllocError>
         "upgrade",
         "Make of a store of version 1 one of version 2, in the files PATH.second.objects and PATH.second.heads",
     )?;
-    let help = help(alloc)?;
-    Command::new(alloc, "bucketplum")
-        .bin_name("bucketplum PATH")?
-        .about("A branch store of mergeable data types, in the files PATH.objects and PATH.heads")
-        .version("0.1.0")
-        .propagate_version(true)
-        .disable_version_flag(true)
-        .disable_help_subcommand(true)
-        .no_binary_name(true)
-        .subcommand_required(true)
-        .arg(version(alloc))?
+    let compact = plain(
+        alloc,
+        "compact",
+        "Leave out the commits that no branch reaches: write the store without them into the other two files, and switch to these",
+    )?;
+    bare(alloc)?
         .subcommand(init)?
         .subcommand(script)?
         .subcommand(check)?
         .subcommand(generate)?
         .subcommand(clients)?
         .subcommand(upgrade)?
+        .subcommand(compact)
+}
+
+/// The program.
+pub(crate) fn program<'a>(alloc: Global) -> Result<Command<'a>, AllocError>
+    ensures { IfOk result (λ c. app_of c ≡ program) }
+{
+    let address = address(alloc)?;
+    let send = send(alloc)?;
+    let receive = receive(alloc)?;
+    let help = help(alloc)?;
+    on_store(alloc)?
+        .subcommand(address)?
+        .subcommand(send)?
+        .subcommand(receive)?
         .subcommand(help)
 }

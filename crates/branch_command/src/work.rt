@@ -7,8 +7,8 @@ ghost use Rattle.branch_command.specs.Work.{whole_number_of, given_number, given
 use crate::limits::read_number;
 use clap::ArgMatches;
 
-// The number from 0 up to `most` that a word says in decimal digits, without a sign or a leading zero.
-fn read_whole_number(word: &str, most: u64) -> Option<u64>
+/// The number from 0 up to `most` that a word says in decimal digits, without a sign or a leading zero.
+pub(crate) fn read_whole_number(word: &str, most: u64) -> Option<u64>
     ensures { result ≡ whole_number_of most word.now }
 {
     if word == "0" {

@@ -1,5 +1,5 @@
 -- Plain forms and a document's own, there and back.
-use Rattle.std.proofs.Common.{◌≡◌, ℕ, Option, None, Some, List, refl}
+use Rattle.std.proofs.Common.{◌≡◌, ◌∙◌, ◌↔◌, ◌⊎◌, inl, inr, ℕ, Bool, true, false, Option, None, Some, List, refl, sym, ap}
 use Rattle.live_set.specs.declared.kept.Kept.{Kept}
 use Rattle.mrdt_both.specs.declared.both.Side.TheVariants.{First, Second}
 use Rattle.mrdt_counter.specs.declared.counter.CounterOp.{CounterOp}
@@ -39,15 +39,15 @@ use Rattle.mrdt_map.specs.declared.map.MapAnswer.TheVariants.{OnValue, OnKeys}
 use Rattle.branch_doc.specs.declared.plain.Kind.{Kind}
 use Rattle.branch_doc.specs.declared.plain.Kind.TheVariants as kind
 use Rattle.branch_doc.specs.declared.plain.PlainOp.{PlainOp}
-use Rattle.branch_doc.specs.declared.plain.PlainOp.TheVariants.{CounterAdd, CounterReset, FlagEnable, FlagDisable, LwwSet, MultiSet, SetAdd, SetRemove, SetClear, LogAppend, QueueEnqueue, QueueDequeue}
+use Rattle.branch_doc.specs.declared.plain.PlainOp.TheVariants.{CounterAdd, CounterReset, FlagEnable, FlagDisable, LwwSet, MultiSet, SetAdd, SetRemove, SetClear, LogAppend, QueueEnqueue, QueueDequeue, SequenceInsert, SequenceDelete}
 use Rattle.branch_doc.specs.declared.plain.PlainQuery.{PlainQuery}
-use Rattle.branch_doc.specs.declared.plain.PlainQuery.TheVariants.{CounterValue, FlagIsOn, LwwGet, MultiValues, SetContains, SetMembers, SetSize, LogRead, LogLength, QueuePeek, QueueItems, QueueLength, Keys}
+use Rattle.branch_doc.specs.declared.plain.PlainQuery.TheVariants.{CounterValue, FlagIsOn, LwwGet, MultiValues, SetContains, SetMembers, SetSize, LogRead, LogLength, QueuePeek, QueueItems, QueueLength, SequenceRead, SequenceLength, Keys}
 use Rattle.branch_doc.specs.declared.plain.PlainReply.{PlainReply}
 use Rattle.branch_doc.specs.declared.plain.PlainReply.TheVariants as reply
 use Rattle.branch_doc.specs.declared.plain.PlainAnswer.{PlainAnswer}
 use Rattle.branch_doc.specs.declared.plain.PlainAnswer.TheVariants as answer
 use Rattle.branch_doc.specs.Sides.{at_counters, at_flags, at_last_writes, at_multis, at_sets, at_logs, at_queues}
-use Rattle.branch_doc.specs.Forms.{DocOp, DocQuery, DocReply, DocAnswer, on, doc_op, doc_query, plain_reply, plain_answer}
+use Rattle.branch_doc.specs.Forms.{DocOp, DocQuery, DocReply, DocAnswer, on, doc_has, op_kind, query_kind, doc_op, doc_query, plain_reply, plain_answer}
 
 -- the plain form of an operation
 abbrev counter_form : List ℕ → CounterOp → PlainOp
@@ -85,7 +85,12 @@ op_form (Second (Second (Second (Second (First o))))) = set_form o.key o.operati
 op_form (Second (Second (Second (Second (Second (First o)))))) = log_form o.key o.operation
 op_form (Second (Second (Second (Second (Second (Second o)))))) = queue_form o.key o.operation
 
-pub op-there : (p : PlainOp) → op_form (doc_op p) ≡ p
+-- that of the operation of a plain form, or this one where there is none
+abbrev op_form_or : PlainOp → Option DocOp → PlainOp
+op_form_or p None = p
+op_form_or p (Some d) = op_form d
+
+op-there : (p : PlainOp) → op_form_or p (doc_op p) ≡ p
 op-there (CounterAdd key amount) = refl
 op-there (CounterReset key) = refl
 op-there (FlagEnable key) = refl
@@ -98,34 +103,39 @@ op-there (SetClear key) = refl
 op-there (LogAppend key payload) = refl
 op-there (QueueEnqueue key payload) = refl
 op-there (QueueDequeue key) = refl
+op-there (SequenceInsert key place payload) = refl
+op-there (SequenceDelete key place) = refl
 
-counter-back : (key : List ℕ) (o : CounterOp) → doc_op (counter_form key o) ≡ at_counters (on key o)
+pub op-named : (p : PlainOp) (d : DocOp) → doc_op p ≡ Some d → op_form d ≡ p
+op-named p d is = sym (ap (op_form_or p) is) ∙ op-there p
+
+counter-back : (key : List ℕ) (o : CounterOp) → doc_op (counter_form key o) ≡ Some (at_counters (on key o))
 counter-back key (counter_op.Add amount) = refl
 counter-back key counter_op.Reset = refl
 
-flag-back : (key : List ℕ) (o : FlagOp) → doc_op (flag_form key o) ≡ at_flags (on key o)
+flag-back : (key : List ℕ) (o : FlagOp) → doc_op (flag_form key o) ≡ Some (at_flags (on key o))
 flag-back key flag_op.Enable = refl
 flag-back key flag_op.Disable = refl
 
-lww-back : (key : List ℕ) (o : RegisterOp) → doc_op (lww_form key o) ≡ at_last_writes (on key o)
+lww-back : (key : List ℕ) (o : RegisterOp) → doc_op (lww_form key o) ≡ Some (at_last_writes (on key o))
 lww-back key (register_op.Set payload) = refl
 
-multi-back : (key : List ℕ) (o : RegisterOp) → doc_op (multi_form key o) ≡ at_multis (on key o)
+multi-back : (key : List ℕ) (o : RegisterOp) → doc_op (multi_form key o) ≡ Some (at_multis (on key o))
 multi-back key (register_op.Set payload) = refl
 
-set-back : (key : List ℕ) (o : SetOp) → doc_op (set_form key o) ≡ at_sets (on key o)
+set-back : (key : List ℕ) (o : SetOp) → doc_op (set_form key o) ≡ Some (at_sets (on key o))
 set-back key (set_op.Add element) = refl
 set-back key (set_op.Remove element) = refl
 set-back key set_op.Clear = refl
 
-log-back : (key : List ℕ) (o : LogOp) → doc_op (log_form key o) ≡ at_logs (on key o)
+log-back : (key : List ℕ) (o : LogOp) → doc_op (log_form key o) ≡ Some (at_logs (on key o))
 log-back key (log_op.Append payload) = refl
 
-queue-back : (key : List ℕ) (o : QueueOp) → doc_op (queue_form key o) ≡ at_queues (on key o)
+queue-back : (key : List ℕ) (o : QueueOp) → doc_op (queue_form key o) ≡ Some (at_queues (on key o))
 queue-back key (queue_op.Enqueue payload) = refl
 queue-back key queue_op.Dequeue = refl
 
-pub op-back : (d : DocOp) → doc_op (op_form d) ≡ d
+pub op-back : (d : DocOp) → doc_op (op_form d) ≡ Some d
 op-back (First o) = counter-back o.key o.operation
 op-back (Second (First o)) = flag-back o.key o.operation
 op-back (Second (Second (First o))) = lww-back o.key o.operation
@@ -174,7 +184,12 @@ query_form (Second (Second (Second (Second (First q))))) = map_form kind.Set set
 query_form (Second (Second (Second (Second (Second (First q)))))) = map_form kind.Log log_query_form q
 query_form (Second (Second (Second (Second (Second (Second q)))))) = map_form kind.Queue queue_query_form q
 
-keys-there : (k : Kind) → query_form (doc_query (Keys k)) ≡ Keys k
+-- that of the query of a plain form, or this one where there is none
+abbrev query_form_or : PlainQuery → Option DocQuery → PlainQuery
+query_form_or p None = p
+query_form_or p (Some d) = query_form d
+
+keys-there : (k : Kind) → query_form_or (Keys k) (doc_query (Keys k)) ≡ Keys k
 keys-there kind.Counter = refl
 keys-there kind.Flag = refl
 keys-there kind.Lww = refl
@@ -182,8 +197,9 @@ keys-there kind.Multi = refl
 keys-there kind.Set = refl
 keys-there kind.Log = refl
 keys-there kind.Queue = refl
+keys-there kind.Sequence = refl
 
-pub query-there : (p : PlainQuery) → query_form (doc_query p) ≡ p
+query-there : (p : PlainQuery) → query_form_or p (doc_query p) ≡ p
 query-there (CounterValue key) = refl
 query-there (FlagIsOn key) = refl
 query-there (LwwGet key) = refl
@@ -196,9 +212,14 @@ query-there (LogLength key) = refl
 query-there (QueuePeek key) = refl
 query-there (QueueItems key) = refl
 query-there (QueueLength key) = refl
+query-there (SequenceRead key) = refl
+query-there (SequenceLength key) = refl
 query-there (Keys k) = keys-there k
 
-pub query-back : (d : DocQuery) → doc_query (query_form d) ≡ d
+pub query-named : (p : PlainQuery) (d : DocQuery) → doc_query p ≡ Some d → query_form d ≡ p
+query-named p d is = sym (ap (query_form_or p) is) ∙ query-there p
+
+pub query-back : (d : DocQuery) → doc_query (query_form d) ≡ Some d
 query-back (First (map_query.AtKey key counter_query.Value)) = refl
 query-back (First map_query.Keys) = refl
 query-back (Second (First (map_query.AtKey key flag_query.IsOn))) = refl
@@ -218,6 +239,65 @@ query-back (Second (Second (Second (Second (Second (Second (map_query.AtKey key 
 query-back (Second (Second (Second (Second (Second (Second (map_query.AtKey key queue_query.Items))))))) = refl
 query-back (Second (Second (Second (Second (Second (Second (map_query.AtKey key queue_query.Length))))))) = refl
 query-back (Second (Second (Second (Second (Second (Second map_query.Keys)))))) = refl
+
+-- whether there is one
+abbrev there_is : {X : Type 0} → Option X → Bool
+there_is None = false
+there_is (Some x) = true
+
+-- there is none exactly where a test fails that says whether there is one
+none-exactly : {X : Type 0} (o : Option X) (test : Bool) → there_is o ≡ test → (o ≡ None) ↔ (test ≡ false)
+none-exactly None test is = (λ none. sym is, λ fails. refl)
+none-exactly (Some x) test is = (λ none. absurd (cc none), λ fails. absurd (cc (is ∙ fails)))
+
+op-there_is : (p : PlainOp) → there_is (doc_op p) ≡ doc_has (op_kind p)
+op-there_is (CounterAdd key amount) = refl
+op-there_is (CounterReset key) = refl
+op-there_is (FlagEnable key) = refl
+op-there_is (FlagDisable key) = refl
+op-there_is (LwwSet key payload) = refl
+op-there_is (MultiSet key payload) = refl
+op-there_is (SetAdd key element) = refl
+op-there_is (SetRemove key element) = refl
+op-there_is (SetClear key) = refl
+op-there_is (LogAppend key payload) = refl
+op-there_is (QueueEnqueue key payload) = refl
+op-there_is (QueueDequeue key) = refl
+op-there_is (SequenceInsert key place payload) = refl
+op-there_is (SequenceDelete key place) = refl
+
+pub op-lacks : (p : PlainOp) → (doc_op p ≡ None) ↔ (doc_has (op_kind p) ≡ false)
+op-lacks p = none-exactly (doc_op p) (doc_has (op_kind p)) (op-there_is p)
+
+keys-there_is : (k : Kind) → there_is (doc_query (Keys k)) ≡ doc_has (query_kind (Keys k))
+keys-there_is kind.Counter = refl
+keys-there_is kind.Flag = refl
+keys-there_is kind.Lww = refl
+keys-there_is kind.Multi = refl
+keys-there_is kind.Set = refl
+keys-there_is kind.Log = refl
+keys-there_is kind.Queue = refl
+keys-there_is kind.Sequence = refl
+
+query-there_is : (p : PlainQuery) → there_is (doc_query p) ≡ doc_has (query_kind p)
+query-there_is (CounterValue key) = refl
+query-there_is (FlagIsOn key) = refl
+query-there_is (LwwGet key) = refl
+query-there_is (MultiValues key) = refl
+query-there_is (SetContains key element) = refl
+query-there_is (SetMembers key) = refl
+query-there_is (SetSize key) = refl
+query-there_is (LogRead key) = refl
+query-there_is (LogLength key) = refl
+query-there_is (QueuePeek key) = refl
+query-there_is (QueueItems key) = refl
+query-there_is (QueueLength key) = refl
+query-there_is (SequenceRead key) = refl
+query-there_is (SequenceLength key) = refl
+query-there_is (Keys k) = keys-there_is k
+
+pub query-lacks : (p : PlainQuery) → (doc_query p ≡ None) ↔ (doc_has (query_kind p) ≡ false)
+query-lacks p = none-exactly (doc_query p) (doc_has (query_kind p)) (query-there_is p)
 
 -- the reply of a plain form
 abbrev took_reply : Option (Kept (List ℕ)) → QueueReply
@@ -259,32 +339,33 @@ reply-back reply.Log = refl
 reply-back reply.QueueEnqueued = refl
 reply-back (reply.QueueTook first) = took-back first
 
--- the answer of a plain form
-abbrev keys_answer : Kind → List (List ℕ) → DocAnswer
-keys_answer kind.Counter keys = at_counters (OnKeys keys)
-keys_answer kind.Flag keys = at_flags (OnKeys keys)
-keys_answer kind.Lww keys = at_last_writes (OnKeys keys)
-keys_answer kind.Multi keys = at_multis (OnKeys keys)
-keys_answer kind.Set keys = at_sets (OnKeys keys)
-keys_answer kind.Log keys = at_logs (OnKeys keys)
-keys_answer kind.Queue keys = at_queues (OnKeys keys)
+-- the answer of a plain form, if there is one
+abbrev keys_answer : Kind → List (List ℕ) → Option DocAnswer
+keys_answer kind.Counter keys = Some (at_counters (OnKeys keys))
+keys_answer kind.Flag keys = Some (at_flags (OnKeys keys))
+keys_answer kind.Lww keys = Some (at_last_writes (OnKeys keys))
+keys_answer kind.Multi keys = Some (at_multis (OnKeys keys))
+keys_answer kind.Set keys = Some (at_sets (OnKeys keys))
+keys_answer kind.Log keys = Some (at_logs (OnKeys keys))
+keys_answer kind.Queue keys = Some (at_queues (OnKeys keys))
+keys_answer kind.Sequence keys = None
 
-abbrev pub doc_answer : PlainAnswer → DocAnswer
-doc_answer (answer.CounterValue n) = at_counters (OnValue n)
-doc_answer (answer.FlagIsOn b) = at_flags (OnValue b)
-doc_answer (answer.LwwGet payload) = at_last_writes (OnValue payload)
-doc_answer (answer.MultiValues payloads) = at_multis (OnValue payloads)
-doc_answer (answer.SetContains b) = at_sets (OnValue (IsIn b))
-doc_answer (answer.SetMembers members) = at_sets (OnValue (All members))
-doc_answer (answer.SetSize n) = at_sets (OnValue (Count n))
-doc_answer (answer.LogRead entries) = at_logs (OnValue (log_answer.OnEntries entries))
-doc_answer (answer.LogLength n) = at_logs (OnValue (log_answer.OnLength n))
-doc_answer (answer.QueuePeek first) = at_queues (OnValue (queue_answer.OnFirst first))
-doc_answer (answer.QueueItems items) = at_queues (OnValue (queue_answer.OnItems items))
-doc_answer (answer.QueueLength n) = at_queues (OnValue (queue_answer.OnLength n))
+abbrev pub doc_answer : PlainAnswer → Option DocAnswer
+doc_answer (answer.CounterValue n) = Some (at_counters (OnValue n))
+doc_answer (answer.FlagIsOn b) = Some (at_flags (OnValue b))
+doc_answer (answer.LwwGet payload) = Some (at_last_writes (OnValue payload))
+doc_answer (answer.MultiValues payloads) = Some (at_multis (OnValue payloads))
+doc_answer (answer.SetContains b) = Some (at_sets (OnValue (IsIn b)))
+doc_answer (answer.SetMembers members) = Some (at_sets (OnValue (All members)))
+doc_answer (answer.SetSize n) = Some (at_sets (OnValue (Count n)))
+doc_answer (answer.LogRead entries) = Some (at_logs (OnValue (log_answer.OnEntries entries)))
+doc_answer (answer.LogLength n) = Some (at_logs (OnValue (log_answer.OnLength n)))
+doc_answer (answer.QueuePeek first) = Some (at_queues (OnValue (queue_answer.OnFirst first)))
+doc_answer (answer.QueueItems items) = Some (at_queues (OnValue (queue_answer.OnItems items)))
+doc_answer (answer.QueueLength n) = Some (at_queues (OnValue (queue_answer.OnLength n)))
 doc_answer (answer.Keys k keys) = keys_answer k keys
 
-pub answer-there : (d : DocAnswer) → doc_answer (plain_answer d) ≡ d
+answer-there : (d : DocAnswer) → doc_answer (plain_answer d) ≡ Some d
 answer-there (First (OnValue n)) = refl
 answer-there (First (OnKeys keys)) = refl
 answer-there (Second (First (OnValue b))) = refl
@@ -305,26 +386,37 @@ answer-there (Second (Second (Second (Second (Second (Second (OnValue (queue_ans
 answer-there (Second (Second (Second (Second (Second (Second (OnValue (queue_answer.OnLength n)))))))) = refl
 answer-there (Second (Second (Second (Second (Second (Second (OnKeys keys))))))) = refl
 
-keys-back : (k : Kind) (keys : List (List ℕ)) → plain_answer (keys_answer k keys) ≡ answer.Keys k keys
-keys-back kind.Counter keys = refl
-keys-back kind.Flag keys = refl
-keys-back kind.Lww keys = refl
-keys-back kind.Multi keys = refl
-keys-back kind.Set keys = refl
-keys-back kind.Log keys = refl
-keys-back kind.Queue keys = refl
+pub answer-one : (d e : DocAnswer) → plain_answer d ≡ plain_answer e → d ≡ e
+answer-one d e same = cc (sym (answer-there d) ∙ ap doc_answer same ∙ answer-there e)
 
-pub answer-back : (a : PlainAnswer) → plain_answer (doc_answer a) ≡ a
-answer-back (answer.CounterValue n) = refl
-answer-back (answer.FlagIsOn b) = refl
-answer-back (answer.LwwGet payload) = refl
-answer-back (answer.MultiValues payloads) = refl
-answer-back (answer.SetContains b) = refl
-answer-back (answer.SetMembers members) = refl
-answer-back (answer.SetSize n) = refl
-answer-back (answer.LogRead entries) = refl
-answer-back (answer.LogLength n) = refl
-answer-back (answer.QueuePeek first) = refl
-answer-back (answer.QueueItems items) = refl
-answer-back (answer.QueueLength n) = refl
+pub answer-never : (d : DocAnswer) (keys : List (List ℕ)) → plain_answer d ≡ answer.Keys kind.Sequence keys → ⊥
+answer-never d keys is = cc (sym (ap doc_answer is) ∙ answer-there d)
+
+-- a plain form is that of an answer, or keys of sequences
+abbrev IsForm : PlainAnswer → Type 0
+IsForm a = ((d : DocAnswer) × (plain_answer d ≡ a)) ⊎ ((keys : List (List ℕ)) × (a ≡ answer.Keys kind.Sequence keys))
+
+keys-back : (k : Kind) (keys : List (List ℕ)) → IsForm (answer.Keys k keys)
+keys-back kind.Counter keys = inl (at_counters (OnKeys keys), refl)
+keys-back kind.Flag keys = inl (at_flags (OnKeys keys), refl)
+keys-back kind.Lww keys = inl (at_last_writes (OnKeys keys), refl)
+keys-back kind.Multi keys = inl (at_multis (OnKeys keys), refl)
+keys-back kind.Set keys = inl (at_sets (OnKeys keys), refl)
+keys-back kind.Log keys = inl (at_logs (OnKeys keys), refl)
+keys-back kind.Queue keys = inl (at_queues (OnKeys keys), refl)
+keys-back kind.Sequence keys = inr (keys, refl)
+
+pub answer-back : (a : PlainAnswer) → IsForm a
+answer-back (answer.CounterValue n) = inl (at_counters (OnValue n), refl)
+answer-back (answer.FlagIsOn b) = inl (at_flags (OnValue b), refl)
+answer-back (answer.LwwGet payload) = inl (at_last_writes (OnValue payload), refl)
+answer-back (answer.MultiValues payloads) = inl (at_multis (OnValue payloads), refl)
+answer-back (answer.SetContains b) = inl (at_sets (OnValue (IsIn b)), refl)
+answer-back (answer.SetMembers members) = inl (at_sets (OnValue (All members)), refl)
+answer-back (answer.SetSize n) = inl (at_sets (OnValue (Count n)), refl)
+answer-back (answer.LogRead entries) = inl (at_logs (OnValue (log_answer.OnEntries entries)), refl)
+answer-back (answer.LogLength n) = inl (at_logs (OnValue (log_answer.OnLength n)), refl)
+answer-back (answer.QueuePeek first) = inl (at_queues (OnValue (queue_answer.OnFirst first)), refl)
+answer-back (answer.QueueItems items) = inl (at_queues (OnValue (queue_answer.OnItems items)), refl)
+answer-back (answer.QueueLength n) = inl (at_queues (OnValue (queue_answer.OnLength n)), refl)
 answer-back (answer.Keys k keys) = keys-back k keys

@@ -1,5 +1,5 @@
 -- The plain forms of a document's operations, queries, replies and answers.
-use Rattle.std.specs.Prelude.{ℕ, ℤ, Bool, Option, None, Some, List}
+use Rattle.std.specs.Prelude.{ℕ, ℤ, Bool, true, false, Option, None, Some, List}
 use Rattle.mrdt_both.specs.declared.both.Side.TheVariants.{First, Second}
 use Rattle.mrdt_counter.specs.declared.counter.CounterOp.{CounterOp}
 use Rattle.mrdt_counter.specs.declared.counter.CounterOp.TheVariants as counter_op
@@ -43,9 +43,9 @@ use Rattle.mrdt_map.specs.declared.map.MapAnswer.TheVariants.{OnValue, OnKeys}
 use Rattle.branch_doc.specs.declared.plain.Kind.{Kind}
 use Rattle.branch_doc.specs.declared.plain.Kind.TheVariants as kind
 use Rattle.branch_doc.specs.declared.plain.PlainOp.{PlainOp}
-use Rattle.branch_doc.specs.declared.plain.PlainOp.TheVariants.{CounterAdd, CounterReset, FlagEnable, FlagDisable, LwwSet, MultiSet, SetAdd, SetRemove, SetClear, LogAppend, QueueEnqueue, QueueDequeue}
+use Rattle.branch_doc.specs.declared.plain.PlainOp.TheVariants.{CounterAdd, CounterReset, FlagEnable, FlagDisable, LwwSet, MultiSet, SetAdd, SetRemove, SetClear, LogAppend, QueueEnqueue, QueueDequeue, SequenceInsert, SequenceDelete}
 use Rattle.branch_doc.specs.declared.plain.PlainQuery.{PlainQuery}
-use Rattle.branch_doc.specs.declared.plain.PlainQuery.TheVariants.{CounterValue, FlagIsOn, LwwGet, MultiValues, SetContains, SetMembers, SetSize, LogRead, LogLength, QueuePeek, QueueItems, QueueLength, Keys}
+use Rattle.branch_doc.specs.declared.plain.PlainQuery.TheVariants.{CounterValue, FlagIsOn, LwwGet, MultiValues, SetContains, SetMembers, SetSize, LogRead, LogLength, QueuePeek, QueueItems, QueueLength, SequenceRead, SequenceLength, Keys}
 use Rattle.branch_doc.specs.declared.plain.PlainReply.{PlainReply}
 use Rattle.branch_doc.specs.declared.plain.PlainReply.TheVariants as reply
 use Rattle.branch_doc.specs.declared.plain.PlainAnswer.{PlainAnswer}
@@ -68,45 +68,90 @@ DocAnswer = OfKinds (MapAnswer ℤ) (MapAnswer Bool) (MapAnswer (Option (List �
 abbrev pub on : {O : Type 0} → List ℕ → O → OnKey O
 on key operation = record { key = key; operation = operation }
 
--- the operation that a plain form stands for
-abbrev pub doc_op : PlainOp → DocOp
-doc_op (CounterAdd key amount) = at_counters (on key (counter_op.Add amount))
-doc_op (CounterReset key) = at_counters (on key counter_op.Reset)
-doc_op (FlagEnable key) = at_flags (on key flag_op.Enable)
-doc_op (FlagDisable key) = at_flags (on key flag_op.Disable)
-doc_op (LwwSet key payload) = at_last_writes (on key (register_op.Set payload))
-doc_op (MultiSet key payload) = at_multis (on key (register_op.Set payload))
-doc_op (SetAdd key element) = at_sets (on key (set_op.Add element))
-doc_op (SetRemove key element) = at_sets (on key (set_op.Remove element))
-doc_op (SetClear key) = at_sets (on key set_op.Clear)
-doc_op (LogAppend key payload) = at_logs (on key (log_op.Append payload))
-doc_op (QueueEnqueue key payload) = at_queues (on key (queue_op.Enqueue payload))
-doc_op (QueueDequeue key) = at_queues (on key queue_op.Dequeue)
+-- whether a document has values of a kind: of each but sequences
+abbrev pub doc_has : Kind → Bool
+doc_has kind.Sequence = false
+doc_has other = true
 
--- the query for the keys of a kind
-abbrev pub keys_query : Kind → DocQuery
-keys_query kind.Counter = at_counters map_query.Keys
-keys_query kind.Flag = at_flags map_query.Keys
-keys_query kind.Lww = at_last_writes map_query.Keys
-keys_query kind.Multi = at_multis map_query.Keys
-keys_query kind.Set = at_sets map_query.Keys
-keys_query kind.Log = at_logs map_query.Keys
-keys_query kind.Queue = at_queues map_query.Keys
+-- the kind of the value that an operation is on
+abbrev pub op_kind : PlainOp → Kind
+op_kind (CounterAdd key amount) = kind.Counter
+op_kind (CounterReset key) = kind.Counter
+op_kind (FlagEnable key) = kind.Flag
+op_kind (FlagDisable key) = kind.Flag
+op_kind (LwwSet key payload) = kind.Lww
+op_kind (MultiSet key payload) = kind.Multi
+op_kind (SetAdd key element) = kind.Set
+op_kind (SetRemove key element) = kind.Set
+op_kind (SetClear key) = kind.Set
+op_kind (LogAppend key payload) = kind.Log
+op_kind (QueueEnqueue key payload) = kind.Queue
+op_kind (QueueDequeue key) = kind.Queue
+op_kind (SequenceInsert key place payload) = kind.Sequence
+op_kind (SequenceDelete key place) = kind.Sequence
 
--- the query that a plain form stands for
-abbrev pub doc_query : PlainQuery → DocQuery
-doc_query (CounterValue key) = at_counters (map_query.AtKey key counter_query.Value)
-doc_query (FlagIsOn key) = at_flags (map_query.AtKey key flag_query.IsOn)
-doc_query (LwwGet key) = at_last_writes (map_query.AtKey key lww_query.Get)
-doc_query (MultiValues key) = at_multis (map_query.AtKey key multi_query.Values)
-doc_query (SetContains key element) = at_sets (map_query.AtKey key (set_query.Contains element))
-doc_query (SetMembers key) = at_sets (map_query.AtKey key set_query.Members)
-doc_query (SetSize key) = at_sets (map_query.AtKey key set_query.Size)
-doc_query (LogRead key) = at_logs (map_query.AtKey key log_query.Read)
-doc_query (LogLength key) = at_logs (map_query.AtKey key log_query.Length)
-doc_query (QueuePeek key) = at_queues (map_query.AtKey key queue_query.Peek)
-doc_query (QueueItems key) = at_queues (map_query.AtKey key queue_query.Items)
-doc_query (QueueLength key) = at_queues (map_query.AtKey key queue_query.Length)
+-- the kind of the value, or of the keys, that a query asks for
+abbrev pub query_kind : PlainQuery → Kind
+query_kind (CounterValue key) = kind.Counter
+query_kind (FlagIsOn key) = kind.Flag
+query_kind (LwwGet key) = kind.Lww
+query_kind (MultiValues key) = kind.Multi
+query_kind (SetContains key element) = kind.Set
+query_kind (SetMembers key) = kind.Set
+query_kind (SetSize key) = kind.Set
+query_kind (LogRead key) = kind.Log
+query_kind (LogLength key) = kind.Log
+query_kind (QueuePeek key) = kind.Queue
+query_kind (QueueItems key) = kind.Queue
+query_kind (QueueLength key) = kind.Queue
+query_kind (SequenceRead key) = kind.Sequence
+query_kind (SequenceLength key) = kind.Sequence
+query_kind (Keys k) = k
+
+-- the operation that a plain form stands for; a document has none on sequences
+abbrev pub doc_op : PlainOp → Option DocOp
+doc_op (CounterAdd key amount) = Some (at_counters (on key (counter_op.Add amount)))
+doc_op (CounterReset key) = Some (at_counters (on key counter_op.Reset))
+doc_op (FlagEnable key) = Some (at_flags (on key flag_op.Enable))
+doc_op (FlagDisable key) = Some (at_flags (on key flag_op.Disable))
+doc_op (LwwSet key payload) = Some (at_last_writes (on key (register_op.Set payload)))
+doc_op (MultiSet key payload) = Some (at_multis (on key (register_op.Set payload)))
+doc_op (SetAdd key element) = Some (at_sets (on key (set_op.Add element)))
+doc_op (SetRemove key element) = Some (at_sets (on key (set_op.Remove element)))
+doc_op (SetClear key) = Some (at_sets (on key set_op.Clear))
+doc_op (LogAppend key payload) = Some (at_logs (on key (log_op.Append payload)))
+doc_op (QueueEnqueue key payload) = Some (at_queues (on key (queue_op.Enqueue payload)))
+doc_op (QueueDequeue key) = Some (at_queues (on key queue_op.Dequeue))
+doc_op (SequenceInsert key place payload) = None
+doc_op (SequenceDelete key place) = None
+
+-- the query for the keys of a kind; a document has none for those of sequences
+abbrev pub keys_query : Kind → Option DocQuery
+keys_query kind.Counter = Some (at_counters map_query.Keys)
+keys_query kind.Flag = Some (at_flags map_query.Keys)
+keys_query kind.Lww = Some (at_last_writes map_query.Keys)
+keys_query kind.Multi = Some (at_multis map_query.Keys)
+keys_query kind.Set = Some (at_sets map_query.Keys)
+keys_query kind.Log = Some (at_logs map_query.Keys)
+keys_query kind.Queue = Some (at_queues map_query.Keys)
+keys_query kind.Sequence = None
+
+-- the query that a plain form stands for; a document has none of sequences
+abbrev pub doc_query : PlainQuery → Option DocQuery
+doc_query (CounterValue key) = Some (at_counters (map_query.AtKey key counter_query.Value))
+doc_query (FlagIsOn key) = Some (at_flags (map_query.AtKey key flag_query.IsOn))
+doc_query (LwwGet key) = Some (at_last_writes (map_query.AtKey key lww_query.Get))
+doc_query (MultiValues key) = Some (at_multis (map_query.AtKey key multi_query.Values))
+doc_query (SetContains key element) = Some (at_sets (map_query.AtKey key (set_query.Contains element)))
+doc_query (SetMembers key) = Some (at_sets (map_query.AtKey key set_query.Members))
+doc_query (SetSize key) = Some (at_sets (map_query.AtKey key set_query.Size))
+doc_query (LogRead key) = Some (at_logs (map_query.AtKey key log_query.Read))
+doc_query (LogLength key) = Some (at_logs (map_query.AtKey key log_query.Length))
+doc_query (QueuePeek key) = Some (at_queues (map_query.AtKey key queue_query.Peek))
+doc_query (QueueItems key) = Some (at_queues (map_query.AtKey key queue_query.Items))
+doc_query (QueueLength key) = Some (at_queues (map_query.AtKey key queue_query.Length))
+doc_query (SequenceRead key) = None
+doc_query (SequenceLength key) = None
 doc_query (Keys k) = keys_query k
 
 -- the plain form of a queue's reply

@@ -43,6 +43,19 @@ impl PlainOp {
                 payload: payload.copy()?,
             },
             PlainOp::QueueDequeue { key } => PlainOp::QueueDequeue { key: key.copy()? },
+            PlainOp::SequenceInsert {
+                key,
+                place,
+                payload,
+            } => PlainOp::SequenceInsert {
+                key: key.copy()?,
+                place: *place,
+                payload: payload.copy()?,
+            },
+            PlainOp::SequenceDelete { key, place } => PlainOp::SequenceDelete {
+                key: key.copy()?,
+                place: *place,
+            },
         })
     }
 }
@@ -68,6 +81,8 @@ impl PlainQuery {
             PlainQuery::QueuePeek { key } => PlainQuery::QueuePeek { key: key.copy()? },
             PlainQuery::QueueItems { key } => PlainQuery::QueueItems { key: key.copy()? },
             PlainQuery::QueueLength { key } => PlainQuery::QueueLength { key: key.copy()? },
+            PlainQuery::SequenceRead { key } => PlainQuery::SequenceRead { key: key.copy()? },
+            PlainQuery::SequenceLength { key } => PlainQuery::SequenceLength { key: key.copy()? },
             PlainQuery::Keys(kind) => PlainQuery::Keys(*kind),
         })
     }

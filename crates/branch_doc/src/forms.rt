@@ -25,11 +25,12 @@ fn on<O>(key: Bytes, operation: O) -> OnKey<O>
     OnKey { key, operation }
 }
 
-/// The document's operation that the plain form stands for. It takes no memory.
-pub fn op(plain: PlainOp) -> DocOp
+/// The document's operation that the plain form stands for; `None` exactly where a document has no values of its
+/// kind, which are those of sequences. It takes no memory.
+pub fn op(plain: PlainOp) -> Option<DocOp>
     ensures { result ≡ doc_op plain }
 {
-    match plain {
+    Some(match plain {
         PlainOp::CounterAdd { key, amount } => Side::First(on(key, CounterOp::Add(amount))),
         PlainOp::CounterReset { key } => Side::First(on(key, CounterOp::Reset)),
         PlainOp::FlagEnable { key } => of_flags(on(key, FlagOp::Enable)),
@@ -42,29 +43,32 @@ pub fn op(plain: PlainOp) -> DocOp
         PlainOp::LogAppend { key, payload } => of_logs(on(key, LogOp::Append(payload))),
         PlainOp::QueueEnqueue { key, payload } => of_queues(on(key, QueueOp::Enqueue(payload))),
         PlainOp::QueueDequeue { key } => of_queues(on(key, QueueOp::Dequeue)),
-    }
+        PlainOp::SequenceInsert { .. } | PlainOp::SequenceDelete { .. } => return None,
+    })
 }
 
 // The query for the keys of a kind.
-fn keys_of(kind: Kind) -> DocQuery
+fn keys_of(kind: Kind) -> Option<DocQuery>
     ensures { result ≡ keys_query kind }
 {
     match kind {
-        Kind::Counter => Side::First(MapQuery::Keys),
-        Kind::Flag => of_flags(MapQuery::Keys),
-        Kind::Lww => of_last_writes(MapQuery::Keys),
-        Kind::Multi => of_multis(MapQuery::Keys),
-        Kind::Set => of_sets(MapQuery::Keys),
-        Kind::Log => of_logs(MapQuery::Keys),
-        Kind::Queue => of_queues(MapQuery::Keys),
+        Kind::Counter => Some(Side::First(MapQuery::Keys)),
+        Kind::Flag => Some(of_flags(MapQuery::Keys)),
+        Kind::Lww => Some(of_last_writes(MapQuery::Keys)),
+        Kind::Multi => Some(of_multis(MapQuery::Keys)),
+        Kind::Set => Some(of_sets(MapQuery::Keys)),
+        Kind::Log => Some(of_logs(MapQuery::Keys)),
+        Kind::Queue => Some(of_queues(MapQuery::Keys)),
+        Kind::Sequence => None,
     }
 }
 
-/// The document's query that the plain form stands for. It takes no memory.
-pub fn query(plain: PlainQuery) -> DocQuery
+/// The document's query that the plain form stands for; `None` exactly where a document has no values of its kind,
+/// which are those of sequences. It takes no memory.
+pub fn query(plain: PlainQuery) -> Option<DocQuery>
     ensures { result ≡ doc_query plain }
 {
-    match plain {
+    Some(match plain {
         PlainQuery::CounterValue { key } => Side::First(MapQuery::AtKey(key, CounterQuery::Value)),
         PlainQuery::FlagIsOn { key } => of_flags(MapQuery::AtKey(key, FlagQuery::IsOn)),
         PlainQuery::LwwGet { key } => of_last_writes(MapQuery::AtKey(key, LwwQuery::Get)),
@@ -79,8 +83,9 @@ pub fn query(plain: PlainQuery) -> DocQuery
         PlainQuery::QueuePeek { key } => of_queues(MapQuery::AtKey(key, QueueQuery::Peek)),
         PlainQuery::QueueItems { key } => of_queues(MapQuery::AtKey(key, QueueQuery::Items)),
         PlainQuery::QueueLength { key } => of_queues(MapQuery::AtKey(key, QueueQuery::Length)),
-        PlainQuery::Keys(kind) => keys_of(kind),
-    }
+        PlainQuery::SequenceRead { .. } | PlainQuery::SequenceLength { .. } => return None,
+        PlainQuery::Keys(kind) => return keys_of(kind),
+    })
 }
 
 // The plain form of a queue's reply.

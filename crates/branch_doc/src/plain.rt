@@ -2,7 +2,7 @@
 use live_set::Kept;
 use mrdt_model::{Bytes, Listing};
 
-/// The kinds of the values in a document, which has a map of each.
+/// The kinds of values. A document has a map of each but sequences, of which it has none.
 #[derive(Clone, Copy, Debug, PartialEq, Eq)]
 pub enum Kind {
     /// Counters.
@@ -19,38 +19,82 @@ pub enum Kind {
     Log,
     /// Queues.
     Queue,
+    /// Sequences.
+    Sequence,
 }
 
-/// An operation of a document: one on the value of a kind at a key.
+/// An operation on the value of a kind at a key.
 #[derive(Drop)]
 pub enum PlainOp {
     /// Adds an amount to a counter.
-    CounterAdd { key: Bytes, amount: i64 },
+    CounterAdd {
+        key: Bytes,
+        amount: i64,
+    },
     /// Takes away all amounts of a counter that have been seen.
-    CounterReset { key: Bytes },
+    CounterReset {
+        key: Bytes,
+    },
     /// Turns a flag on.
-    FlagEnable { key: Bytes },
+    FlagEnable {
+        key: Bytes,
+    },
     /// Turns a flag off where it has been seen on.
-    FlagDisable { key: Bytes },
+    FlagDisable {
+        key: Bytes,
+    },
     /// Sets a register of the last write.
-    LwwSet { key: Bytes, payload: Bytes },
+    LwwSet {
+        key: Bytes,
+        payload: Bytes,
+    },
     /// Sets a register of several values.
-    MultiSet { key: Bytes, payload: Bytes },
+    MultiSet {
+        key: Bytes,
+        payload: Bytes,
+    },
     /// Adds an element to a set.
-    SetAdd { key: Bytes, element: Bytes },
+    SetAdd {
+        key: Bytes,
+        element: Bytes,
+    },
     /// Takes an element out of a set where it has been seen.
-    SetRemove { key: Bytes, element: Bytes },
+    SetRemove {
+        key: Bytes,
+        element: Bytes,
+    },
     /// Takes all elements out of a set where they have been seen.
-    SetClear { key: Bytes },
+    SetClear {
+        key: Bytes,
+    },
     /// Appends a payload to a log.
-    LogAppend { key: Bytes, payload: Bytes },
+    LogAppend {
+        key: Bytes,
+        payload: Bytes,
+    },
     /// Puts a payload behind all others of a queue.
-    QueueEnqueue { key: Bytes, payload: Bytes },
+    QueueEnqueue {
+        key: Bytes,
+        payload: Bytes,
+    },
     /// Takes the first payload of a queue.
-    QueueDequeue { key: Bytes },
+    QueueDequeue {
+        key: Bytes,
+    },
+    /// Puts a payload into a sequence, behind so many of its visible items.
+    SequenceInsert {
+        key: Bytes,
+        place: u32,
+        payload: Bytes,
+    },
+    /// Takes an item out of a sequence: the one behind so many of its visible items.
+    SequenceDelete {
+        key: Bytes,
+        place: u32,
+    },
 }
 
-/// A query of a document: one of the value of a kind at a key, or one for all keys of a kind.
+/// A query of the value of a kind at a key, or one for all keys of a kind.
 #[derive(Drop)]
 pub enum PlainQuery {
     /// The sum of a counter.
@@ -77,6 +121,10 @@ pub enum PlainQuery {
     QueueItems { key: Bytes },
     /// The number of the payloads of a queue.
     QueueLength { key: Bytes },
+    /// The payloads of a sequence with their times, in its order.
+    SequenceRead { key: Bytes },
+    /// The number of the visible items of a sequence.
+    SequenceLength { key: Bytes },
     /// The keys of a kind that operations have touched.
     Keys(Kind),
 }

@@ -14,7 +14,7 @@ use Rattle.branch_machine.specs.Machine.{commit_here, full_turn}
 use Rattle.branch_machine.specs.Validity.{IsFullyValid}
 use Rattle.branch_files.specs.Laws.{ReadsWhatStands}
 use Rattle.branch_script.specs.declared.step.Step.TheVariants.{Look, Fork, Merge, Join, Drop, Do, Ask}
-use Rattle.branch_print.specs.Texts.{refusal_text, outcome_text, sees_text, forked_text, answer_text, unseen_text, line_end}
+use Rattle.branch_print.specs.Texts.{refusal_text, outcome_text, sees_text, forked_text, answer_text, unseen_text, no_sequences_text, line_end}
 use Rattle.branch_doc.specs.declared.plain.PlainOp.{PlainOp}
 use Rattle.branch_doc.specs.declared.plain.PlainQuery.{PlainQuery}
 use Rattle.branch_doc.specs.Document.{document}
@@ -35,7 +35,7 @@ use Rattle.branch_engine.proofs.Machines.{full-answers}
 use Rattle.branch_engine.proofs.Played.{IsWhole, turn-at, at-more, at-still, at-put, at-kept}
 use Rattle.branch_engine.proofs.Landings.{text-of_kind}
 use Rattle.branch_engine.proofs.Joins.{LooksAlike, heads-are, heads-unknown}
-use Rattle.branch_engine.proofs.Turned.{told-look, told-fork, told-unseen, told-do, told-unmerged, told-merge, told-merge_unknown, told-unjoined, told-join, told-join_unknown, told-undropped, told-drop, told-ask, told-ask_refused}
+use Rattle.branch_engine.proofs.Turned.{told-look, told-fork, told-unseen, told-do, told-no_op, told-unmerged, told-merge, told-merge_unknown, told-unjoined, told-join, told-join_unknown, told-undropped, told-drop, told-ask, told-no_query, told-ask_refused}
 use Rattle.branch_engine.proofs.Does.{Members, IsTold, IsHalfTold, told-by, Works}
 
 -- the turn of a fork
@@ -195,13 +195,19 @@ module _ {D : Type 0} (m : Members D) (address : List ℕ → List ℕ) (old : E
       told-by m address terms old (step_told (doc_fixed address terms) p (Fork new from)) (told p [] 0 new t) (refusal_text new refusal ++ line_end)
       (told-fork (doc_fixed address terms) p new from t (at-play terms p at (machine.Fork new from) t is)) (at-still m.may_leave address terms old p at) refl
 
-  pub asked : (branch : List ℕ) (query : PlainQuery) (number head : ℕ) (answer : DocAnswer) → LooksAt branch number head
-      → turn_of (machine.Ask head (doc_query query)) ≡ answers (machine.Answered answer) → IsTold m address (ask_telling branch query) old old (answer_text (plain_answer answer) ++ line_end)
-  asked branch query number head answer looks is terms p at =
+  pub asked : (branch : List ℕ) (query : PlainQuery) (made : DocQuery) (number head : ℕ) (answer : DocAnswer) → LooksAt branch number head → doc_query query ≡ Some made
+      → turn_of (machine.Ask head made) ≡ answers (machine.Answered answer) → IsTold m address (ask_telling branch query) old old (answer_text (plain_answer answer) ++ line_end)
+  asked branch query made number head answer looks is asks terms p at =
       told-by m address terms old (step_told (doc_fixed address terms) p (Ask branch query)) _ (answer_text (plain_answer answer) ++ line_end)
-      (told-ask (doc_fixed address terms) p branch query number head answer (at-play terms p at (machine.Look branch) (answers (machine.Sees number head)) looks)
-      (at-play terms p at (machine.Ask head (doc_query query)) (answers (machine.Answered answer)) is))
+      (told-ask (doc_fixed address terms) p branch query made number head answer (at-play terms p at (machine.Look branch) (answers (machine.Sees number head)) looks) is
+      (at-play terms p at (machine.Ask head made) (answers (machine.Answered answer)) asks))
       at refl
+
+  pub no_query : (branch : List ℕ) (query : PlainQuery) (number head : ℕ) → LooksAt branch number head → doc_query query ≡ None
+      → IsTold m address (ask_telling branch query) old old (no_sequences_text ++ line_end)
+  no_query branch query number head looks lacks terms p at =
+      told-by m address terms old (step_told (doc_fixed address terms) p (Ask branch query)) _ (no_sequences_text ++ line_end)
+      (told-no_query (doc_fixed address terms) p branch query number head (at-play terms p at (machine.Look branch) (answers (machine.Sees number head)) looks) lacks) at refl
 
   pub ask_refused : (branch : List ℕ) (query : PlainQuery) (refusal : machine.Refusal) → Refuses (machine.Look branch) refusal → IsTold m address (ask_telling branch query) old old (refusal_text branch refusal ++ line_end)
   ask_refused branch query refusal looks terms p at =
@@ -323,9 +329,15 @@ module _ {D : Type 0} (m : Members D) (address : List ℕ → List ℕ) (old : E
     sight terms p at = sym (at.sights session) ∙ ap (option_map sight_of) found
 
     -- an operation is told as the machine's turn
-    pub do_as : (op : PlainOp) (terms : Terms) (p : Play) → Is terms old p
-        → step_told (doc_fixed address terms) p (Do session op) ≡ turn_told (doc_fixed address terms) p session seen.branch (machine.Land seen.branch seen.head (doc_op op))
-    do_as op terms p at = told-do (doc_fixed address terms) p session op (sight_of seen) (sight terms p at)
+    pub do_as : (op : PlainOp) (made : DocOp) → doc_op op ≡ Some made → (terms : Terms) (p : Play) → Is terms old p
+        → step_told (doc_fixed address terms) p (Do session op) ≡ turn_told (doc_fixed address terms) p session seen.branch (machine.Land seen.branch seen.head made)
+    do_as op made is terms p at = told-do (doc_fixed address terms) p session op made (sight_of seen) (sight terms p at) is
+
+    -- one on sequences is none of a document
+    pub no_op : (op : PlainOp) → doc_op op ≡ None → IsTold m address (do_telling session op) old old (no_sequences_text ++ line_end)
+    no_op op lacks terms p at =
+        told-by m address terms old (step_told (doc_fixed address terms) p (Do session op)) _ (no_sequences_text ++ line_end)
+        (told-no_op (doc_fixed address terms) p session op (sight_of seen) (sight terms p at) lacks) at refl
 
     -- and so is a merge of the head of another branch
     pub merge_as : (from : List ℕ) (number head : ℕ) → LooksAt from number head

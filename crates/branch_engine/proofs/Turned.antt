@@ -5,12 +5,12 @@ use Rattle.branch_history.specs.Steps as machine
 use Rattle.branch_history.specs.Machine.{answers}
 use Rattle.branch_machine.specs.Machine.{full_turn}
 use Rattle.branch_script.specs.declared.step.Step.TheVariants.{Look, Fork, Merge, Join, Drop, Do, Ask}
-use Rattle.branch_print.specs.Texts.{outcome_text, unseen_text}
+use Rattle.branch_print.specs.Texts.{outcome_text, unseen_text, no_sequences_text}
 use Rattle.branch_engine.specs.Sessions.{Sight, seen_by}
 use Rattle.branch_doc.specs.declared.plain.PlainOp.{PlainOp}
 use Rattle.branch_doc.specs.declared.plain.PlainQuery.{PlainQuery}
-use Rattle.branch_doc.specs.Forms.{DocOp, DocReply, DocAnswer, doc_op, doc_query}
-use Rattle.branch_engine.specs.Play.{DocFixed, Play, told, turn_told, says, do_told, head_merged_told, merge_told, heads_named, heads_joined_told, join_told, drop_told, ask_told, step_told}
+use Rattle.branch_doc.specs.Forms.{DocOp, DocReply, DocQuery, DocAnswer, doc_op, doc_query}
+use Rattle.branch_engine.specs.Play.{DocFixed, Play, told, turn_told, says, op_told, do_told, head_merged_told, merge_told, heads_named, heads_joined_told, join_told, drop_told, query_told, ask_told, step_told}
 
 module _ (fixed : DocFixed) (p : Play) where
   pub told-look : (session branch : List ℕ) (t : machine.Turn DocOp DocReply DocAnswer) → full_turn fixed p.moves (machine.Look branch) ≡ t → step_told fixed p (Look session branch) ≡ told p session 0 branch t
@@ -25,10 +25,14 @@ module _ (fixed : DocFixed) (p : Play) where
   unfolding step_told
   told-unseen session op none = ap (do_told fixed p session (doc_op op)) none
 
-  pub told-do : (session : List ℕ) (op : PlainOp) (sight : Sight) → seen_by p.sessions session ≡ Some sight
-      → step_told fixed p (Do session op) ≡ turn_told fixed p session sight.branch (machine.Land sight.branch sight.head (doc_op op))
+  pub told-do : (session : List ℕ) (op : PlainOp) (made : DocOp) (sight : Sight) → seen_by p.sessions session ≡ Some sight → doc_op op ≡ Some made
+      → step_told fixed p (Do session op) ≡ turn_told fixed p session sight.branch (machine.Land sight.branch sight.head made)
   unfolding step_told
-  told-do session op sight some = ap (do_told fixed p session (doc_op op)) some
+  told-do session op made sight some is = ap (do_told fixed p session (doc_op op)) some ∙ ap (op_told fixed p session sight) is
+
+  pub told-no_op : (session : List ℕ) (op : PlainOp) (sight : Sight) → seen_by p.sessions session ≡ Some sight → doc_op op ≡ None → step_told fixed p (Do session op) ≡ says p no_sequences_text
+  unfolding step_told
+  told-no_op session op sight some lacks = ap (do_told fixed p session (doc_op op)) some ∙ ap (op_told fixed p session sight) lacks
 
   pub told-unmerged : (session from : List ℕ) → seen_by p.sessions session ≡ None → step_told fixed p (Merge session from) ≡ says p (unseen_text session)
   unfolding step_told
@@ -71,12 +75,18 @@ module _ (fixed : DocFixed) (p : Play) where
   unfolding step_told
   told-drop session sight some = ap (drop_told fixed p session) some
 
-  pub told-ask : (branch : List ℕ) (query : PlainQuery) (number head : ℕ) (answer : DocAnswer) → full_turn fixed p.moves (machine.Look branch) ≡ answers (machine.Sees number head)
-      → full_turn fixed p.moves (machine.Ask head (doc_query query)) ≡ answers (machine.Answered answer)
+  pub told-ask : (branch : List ℕ) (query : PlainQuery) (made : DocQuery) (number head : ℕ) (answer : DocAnswer) → full_turn fixed p.moves (machine.Look branch) ≡ answers (machine.Sees number head)
+      → doc_query query ≡ Some made → full_turn fixed p.moves (machine.Ask head made) ≡ answers (machine.Answered answer)
       → step_told fixed p (Ask branch query) ≡ says p (outcome_text [] branch (machine.Answered answer))
   unfolding step_told
-  told-ask branch query number head answer looks is =
-      ap (λ t. ask_told fixed p branch (doc_query query) t.outcome) looks ∙ ap (λ t. says p (outcome_text [] branch t.outcome)) is
+  told-ask branch query made number head answer looks is asks =
+      ap (λ t. ask_told fixed p branch (doc_query query) t.outcome) looks ∙ ap (query_told fixed p branch head) is ∙ ap (λ t. says p (outcome_text [] branch t.outcome)) asks
+
+  pub told-no_query : (branch : List ℕ) (query : PlainQuery) (number head : ℕ) → full_turn fixed p.moves (machine.Look branch) ≡ answers (machine.Sees number head)
+      → doc_query query ≡ None → step_told fixed p (Ask branch query) ≡ says p no_sequences_text
+  unfolding step_told
+  told-no_query branch query number head looks lacks =
+      ap (λ t. ask_told fixed p branch (doc_query query) t.outcome) looks ∙ ap (query_told fixed p branch head) lacks
 
   pub told-ask_refused : (branch : List ℕ) (query : PlainQuery) (refusal : machine.Refusal) → full_turn fixed p.moves (machine.Look branch) ≡ answers (machine.Refused refusal)
       → step_told fixed p (Ask branch query) ≡ says p (outcome_text [] branch (machine.Refused refusal))

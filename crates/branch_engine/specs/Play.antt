@@ -13,7 +13,7 @@ use Rattle.branch_script.specs.declared.step.Step.{Step}
 use Rattle.branch_script.specs.declared.step.Step.TheVariants.{Look, Fork, Merge, Join, Drop, Do, Ask}
 use Rattle.branch_script.specs.declared.step.LineRefused.{LineRefused}
 use Rattle.branch_script.specs.Script.{step_of}
-use Rattle.branch_print.specs.Texts.{outcome_text, line_refusal_text, unseen_text, line_end}
+use Rattle.branch_print.specs.Texts.{outcome_text, line_refusal_text, unseen_text, no_sequences_text, line_end}
 use Rattle.branch_engine.specs.Sessions.{Sight, Session, seen_by}
 
 -- what is fixed for a store of documents
@@ -62,10 +62,15 @@ told p session number branch t = record {
 abbrev pub turn_told : DocFixed → Play → List ℕ → ℕ → machine.Step DocOp DocQuery → Told
 turn_told fixed p session number step = told p session number (name_of (store_of fixed.terms.origin p.moves).branches number) (full_turn fixed p.moves step)
 
--- an operation of a session, given what it sees
-abbrev pub do_told : DocFixed → Play → List ℕ → DocOp → Option Sight → Told
+-- an operation of a session that sees this, where the store has values of its kind; only sequences it may lack
+abbrev pub op_told : DocFixed → Play → List ℕ → Sight → Option DocOp → Told
+op_told fixed p session sight None = says p no_sequences_text
+op_told fixed p session sight (Some op) = turn_told fixed p session sight.branch (machine.Land sight.branch sight.head op)
+
+-- and given what the session sees, if anything
+abbrev pub do_told : DocFixed → Play → List ℕ → Option DocOp → Option Sight → Told
 do_told fixed p session op None = says p (unseen_text session)
-do_told fixed p session op (Some sight) = turn_told fixed p session sight.branch (machine.Land sight.branch sight.head op)
+do_told fixed p session op (Some sight) = op_told fixed p session sight op
 
 -- a merge of the branch of this name into the one that a session sees, given the outcome of a look at the former: its head is merged
 abbrev pub head_merged_told : DocFixed → Play → List ℕ → List ℕ → Sight → machine.Outcome DocAnswer DocReply → Told
@@ -107,9 +112,14 @@ drop_told fixed p session None = says p (unseen_text session)
 drop_told fixed p session (Some sight) =
     turn_told fixed p session sight.branch (machine.Drop sight.branch sight.head)
 
--- a query at a branch, given the outcome of a look at it: it is asked at the head
-abbrev pub ask_told : DocFixed → Play → List ℕ → DocQuery → machine.Outcome DocAnswer DocReply → Told
-ask_told fixed p branch query (machine.Sees number head) = says p (outcome_text [] branch (full_turn fixed p.moves (machine.Ask head query)).outcome)
+-- a query at a branch with this head, where the store has values of its kind; only sequences it may lack
+abbrev pub query_told : DocFixed → Play → List ℕ → ℕ → Option DocQuery → Told
+query_told fixed p branch head None = says p no_sequences_text
+query_told fixed p branch head (Some query) = says p (outcome_text [] branch (full_turn fixed p.moves (machine.Ask head query)).outcome)
+
+-- and given the outcome of a look at the branch: it is asked at the head
+abbrev pub ask_told : DocFixed → Play → List ℕ → Option DocQuery → machine.Outcome DocAnswer DocReply → Told
+ask_told fixed p branch query (machine.Sees number head) = query_told fixed p branch head query
 ask_told fixed p branch query outcome = says p (outcome_text [] branch outcome)
 
 unfoldable pub step_told : DocFixed → Play → Step → Told

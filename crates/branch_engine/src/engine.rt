@@ -23,7 +23,8 @@ use branch_files::laws::reads_what_stands;
 use branch_names::Name;
 use branch_print::refusals::{
     put_collision, put_dropped, put_exhausted, put_full_branches, put_full_commits, put_full_moves,
-    put_keeps_main, put_line_refusal, put_stale, put_taken, put_too_large, put_unknown, put_unseen,
+    put_keeps_main, put_line_refusal, put_no_sequences, put_stale, put_taken, put_too_large,
+    put_unknown, put_unseen,
 };
 use branch_print::replies::{
     put_answer, put_dropped_branch, put_forked, put_forward, put_joined, put_landed, put_merged,
@@ -243,7 +244,10 @@ impl<D: Disk + Drop, A: Address> Engine<D, A> {
             Err(LookRefused::UnknownBranch { .. }) => return replied(put_unknown(out, branch)),
             Err(LookRefused::Memory) => return Err(TellRefused::Memory),
         };
-        let answer = seen.ask(&branch_doc::query(query))?;
+        let Some(query) = branch_doc::query(query) else {
+            return replied(put_no_sequences(out));
+        };
+        let answer = seen.ask(&query)?;
         replied(put_answer(out, &branch_doc::answer(answer)))
     }
 
@@ -257,8 +261,11 @@ impl<D: Disk + Drop, A: Address> Engine<D, A> {
         let Some(seen) = self.sessions.get(session) else {
             return replied(put_unseen(out, session));
         };
+        let Some(op) = branch_doc::op(op) else {
+            return replied(put_no_sequences(out));
+        };
         let branch = seen.branch();
-        match seen.prepare(branch_doc::op(op)) {
+        match seen.prepare(op) {
             Ok(prepared) => self.move_on(out, session, branch, prepared),
             Err(PrepareRefused::Exhausted { clock }) => replied(put_exhausted(out, clock)),
             Err(PrepareRefused::ValueTooLarge { length }) => replied(put_too_large(out, length)),

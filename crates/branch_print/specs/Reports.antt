@@ -42,6 +42,11 @@ not_empty_text = codes "refused not empty" ++ line_end
 abbrev pub upgraded_text : ℕ → List ℕ
 upgraded_text moves = codes "upgraded " ++ decimal moves ++ line_end
 
+-- so many moves of a history stay in the compact one, of so many
+abbrev pub compacted_text : ℕ → ℕ → List ℕ
+compacted_text kept moves =
+    codes "compacted " ++ decimal kept ++ codes " of " ++ decimal moves ++ line_end
+
 -- why files are not opened
 abbrev pub no_store_text : List ℕ
 no_store_text = codes "refused not a store" ++ line_end

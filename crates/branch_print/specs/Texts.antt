@@ -138,3 +138,7 @@ line_refusal_text Memory = []
 -- a step of a session that has not looked
 abbrev pub unseen_text : List ℕ → List ℕ
 unseen_text session = codes "error unseen " ++ session
+
+-- a step on sequences, in a store that has none
+abbrev pub no_sequences_text : List ℕ
+no_sequences_text = codes "error no sequences"

@@ -3,7 +3,7 @@ ghost use Rattle.std.specs.Prelude.{◌≡◌, ℕ, List, ◌++◌, codes};
 ghost use Rattle.mrdt_model.specs.declared.time.Time.{Time};
 ghost use Rattle.branch_doc.specs.Forms.{DocReply};
 ghost use Rattle.branch_history.specs.Steps.{Refusal, Sees, Forked, Landed, Merged, Forwarded, Same, Refused};
-ghost use Rattle.branch_print.specs.Texts.{outcome_text, unseen_text, line_end};
+ghost use Rattle.branch_print.specs.Texts.{outcome_text, unseen_text, no_sequences_text, line_end};
 ghost use Rattle.branch_print.specs.Summaries.{word_of, refusal_word};
 ghost use Rattle.branch_print.specs.declared.summaries.Word.TheVariants as word;
 
@@ -32,4 +32,5 @@ pub fn counts_outcomes()
         → word_of (outcome_text session branch (Refused refusal) ++ line_end)
         ≡ refusal_word refusal }
     ensures unseen { (session : List ℕ) → word_of (unseen_text session ++ line_end) ≡ word.Errors }
+    ensures no_sequences { word_of (no_sequences_text ++ line_end) ≡ word.Errors }
 {}

@@ -9,4 +9,5 @@ mod pieces;
 pub mod refusals;
 pub mod replies;
 pub mod reports;
+pub mod sent;
 pub mod summaries;

@@ -4,7 +4,7 @@ ghost use Rattle.std.specs.Prelude.{◌≡◌, ◌++◌, [], OnOk, OnErr};
 ghost use Rattle.hex.specs.Hex.{encode_lower};
 ghost use Rattle.mrdt_model.specs.Spelled.{AppendsPart};
 ghost use Rattle.branch_history.specs.Steps.{UnknownBranch, Dropped, KeepsMain, Stale, NameTaken, Exhausted, FullCommits, FullBranches, FullMoves, ValueTooLarge, Collision};
-ghost use Rattle.branch_print.specs.Texts.{refusal_text, line_refusal_text, unseen_text, line_end};
+ghost use Rattle.branch_print.specs.Texts.{refusal_text, line_refusal_text, unseen_text, no_sequences_text, line_end};
 
 use crate::pieces::{put_count, put_pieces, put_text};
 use branch_names::Name;
@@ -43,6 +43,15 @@ pub fn put_unseen(out: &mut Vec<u8>, session: &Name) -> Result<(), Memory>
         (AppendsPart out.old.items out.new.items (unseen_text session.now ++ line_end)) }
 {
     put_pieces(out, &[b"error unseen ", session.as_bytes(), b"\n"])
+}
+
+/// The store has no sequences: `error no sequences`.
+pub fn put_no_sequences(out: &mut Vec<u8>) -> Result<(), Memory>
+    ensures ok { OnOk result (out.new.items ≡ out.old.items ++ (no_sequences_text ++ line_end)) }
+    ensures err { OnErr result
+        (AppendsPart out.old.items out.new.items (no_sequences_text ++ line_end)) }
+{
+    put_text(out, b"error no sequences\n")
 }
 
 /// No branch has the name: `error unknown nope`.
@@ -160,8 +169,8 @@ pub fn put_too_large(out: &mut Vec<u8>, length: u64) -> Result<(), Memory>
     put_count(out, b"error too large ", length)
 }
 
-// The address in hexadecimal digits.
-fn hex_digits(address: &[u8; 32]) -> [u8; 64]
+/// The address in hexadecimal digits.
+pub(crate) fn hex_digits(address: &[u8; 32]) -> [u8; 64]
     ensures { result ≡ encode_lower address.now }
 {
     let mut digits = [0; 64];

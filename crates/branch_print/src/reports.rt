@@ -3,7 +3,7 @@
 ghost use Rattle.std.specs.Prelude.{◌≡◌, ◌++◌, OnOk, OnErr};
 ghost use Rattle.mrdt_model.specs.Spelled.{AppendsPart};
 ghost use Rattle.branch_print.specs.Texts.{line_end};
-ghost use Rattle.branch_print.specs.Reports.{branch_text, totals_text, ready_text, not_empty_text, upgraded_text, no_store_text, old_version_text, bad_record_text, bad_object_text, bad_commit_text, part_text, truncated_text, no_upgrade_text};
+ghost use Rattle.branch_print.specs.Reports.{branch_text, totals_text, ready_text, not_empty_text, upgraded_text, compacted_text, no_store_text, old_version_text, bad_record_text, bad_object_text, bad_commit_text, part_text, truncated_text, no_upgrade_text};
 
 use crate::pieces::{put_count, put_pieces, put_text};
 use branch_disk::Part;
@@ -77,6 +77,26 @@ pub fn put_upgraded(out: &mut Vec<u8>, moves: u64) -> Result<(), Memory>
     ensures err { OnErr result (AppendsPart out.old.items out.new.items (upgraded_text moves)) }
 {
     put_count(out, b"upgraded ", moves)
+}
+
+/// So many moves of a store stayed when it was made compact, of so many: `compacted 3 of 4`.
+pub fn put_compacted(out: &mut Vec<u8>, kept: u64, moves: u64) -> Result<(), Memory>
+    ensures ok { OnOk result (out.new.items ≡ out.old.items ++ compacted_text kept moves) }
+    ensures err { OnErr result
+        (AppendsPart out.old.items out.new.items (compacted_text kept moves)) }
+{
+    let mut kept_digits = Buffer::new();
+    let mut move_digits = Buffer::new();
+    put_pieces(
+        out,
+        &[
+            b"compacted ",
+            kept_digits.format(kept).as_bytes(),
+            b" of ",
+            move_digits.format(moves).as_bytes(),
+            b"\n",
+        ],
+    )
 }
 
 /// The files are no store: `refused not a store`.

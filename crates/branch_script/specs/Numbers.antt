@@ -25,3 +25,7 @@ integer_of (b ∷ bs) =
     if bytes_eq (b ∷ bs) (codes "0") then Some (pos 0)
     else if nat_eq b 45 then option_map (λ n. neg_ℤ (pos n)) (positive_of (2 ^ 63 + 1) bs)
     else option_map (λ n. pos n) (positive_of (2 ^ 63) (b ∷ bs))
+
+-- `0`, or a digit 1 to 9 and further digits, up to 2 ^ 32 - 1
+abbrev pub place_of : List ℕ → Option ℕ
+place_of word = if bytes_eq word (codes "0") then Some 0 else positive_of (2 ^ 32) word

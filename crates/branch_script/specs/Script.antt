@@ -10,7 +10,7 @@ use Rattle.branch_script.specs.declared.step.Step.TheVariants.{Look, Fork, Merge
 use Rattle.branch_script.specs.declared.step.LineRefused.{LineRefused}
 use Rattle.branch_script.specs.declared.step.LineRefused.TheVariants.{Syntax, BadName, Memory}
 use Rattle.branch_script.specs.Lines.{words_of, is_silent, is_plain}
-use Rattle.branch_script.specs.Tables.{behind, kind_named, operations_at_key, operations_with_word, queries_at_key, queries_with_word}
+use Rattle.branch_script.specs.Tables.{behind, kind_named, operations_at_key, operations_with_word, operations_with_number, queries_at_key, queries_with_word}
 
 -- whether a word of a line is this keyword
 abbrev pub is : List ℕ → List ℕ → Bool
@@ -61,6 +61,11 @@ abbrev pub do_with_word : List ℕ → Kind → List ℕ → List ℕ → List �
 do_with_word session kind key operation word =
     fits (behind operation (operations_with_word kind key word)) (λ op. named session (do_step session op))
 
+-- `do SESSION KIND KEY OPERATION INT WORD`
+abbrev pub do_with_number : List ℕ → Kind → List ℕ → List ℕ → List ℕ → List ℕ → Result Step LineRefused
+do_with_number session kind key operation number word =
+    fits (behind operation (operations_with_number kind key number word)) (λ op. named session (do_step session op))
+
 -- `ask BRANCH KIND KEY QUERY WORD`
 abbrev pub ask_with_word : List ℕ → Kind → List ℕ → List ℕ → List ℕ → Result Step LineRefused
 ask_with_word branch kind key query word =
@@ -78,13 +83,19 @@ six_words verb name kind key last word =
     else if is (codes "ask") verb then fits (kind_named kind) (λ kind. ask_with_word name kind key last word)
     else Err Syntax
 
--- the step of two to six words that are no join
+abbrev pub seven_words : List ℕ → List ℕ → List ℕ → List ℕ → List ℕ → List ℕ → List ℕ → Result Step LineRefused
+seven_words verb name kind key last number word =
+    if is (codes "do") verb then fits (kind_named kind) (λ kind. do_with_number name kind key last number word)
+    else Err Syntax
+
+-- the step of two to seven words that are no join
 abbrev pub other_words : List (List ℕ) → Result Step LineRefused
 other_words (a ∷ b ∷ []) = two_words a b
 other_words (a ∷ b ∷ c ∷ []) = three_words a b c
 other_words (a ∷ b ∷ c ∷ d ∷ []) = four_words a b c d
 other_words (a ∷ b ∷ c ∷ d ∷ e ∷ []) = five_words a b c d e
 other_words (a ∷ b ∷ c ∷ d ∷ e ∷ f ∷ []) = six_words a b c d e f
+other_words (a ∷ b ∷ c ∷ d ∷ e ∷ f ∷ g ∷ []) = seven_words a b c d e f g
 other_words words = Err Syntax
 
 -- the words of a join: its verb, and two to eight branches

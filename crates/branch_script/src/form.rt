@@ -1,11 +1,12 @@
 // The forms of a line.
 ghost use Rattle.std.specs.Prelude.{◌≡◌, ◌≤◌, map, length, Ok, IfOk, IfErr};
-ghost use Rattle.branch_script.specs.Script.{two_words, three_words, four_words, do_at_key, ask_at_key, do_with_word, ask_with_word, five_words, six_words, other_words, is_join, join_words, words_step, step_of, IsRefusedAs, IsLineRefusedAs};
+ghost use Rattle.branch_script.specs.Script.{two_words, three_words, four_words, do_at_key, ask_at_key, do_with_word, ask_with_word, do_with_number, five_words, six_words, seven_words, other_words, is_join, join_words, words_step, step_of, IsRefusedAs, IsLineRefusedAs};
 
 use crate::branches::Branches;
 use crate::step::{LineRefused, Step};
 use crate::tables::{
-    kind_named, operation_at_key, operation_with_word, query_at_key, query_with_word,
+    kind_named, operation_at_key, operation_with_number, operation_with_word, query_at_key,
+    query_with_word,
 };
 use crate::words::{plain, silent, words};
 use branch_doc::{Kind, PlainQuery};
@@ -123,6 +124,31 @@ fn do_with_word(
     Ok(Step::Do { session, op: op? })
 }
 
+// `do SESSION KIND KEY OPERATION INT WORD`. A bad name is refused before a bad number.
+fn do_with_number(
+    alloc: Global,
+    session: &[u8],
+    kind: Kind,
+    key: &[u8],
+    operation: &[u8],
+    number: &[u8],
+    word: &[u8],
+) -> Result<Step, LineRefused>
+    ensures ok { IfOk result
+        (λ step. do_with_number session.now kind key.now operation.now number.now word.now
+        ≡ Ok step) }
+    ensures err { IfErr result (IsRefusedAs
+        (do_with_number session.now kind key.now operation.now number.now word.now)) }
+{
+    let key = Bytes::from_slice(alloc, key)?;
+    let word = Bytes::from_slice(alloc, word)?;
+    let Some(op) = operation_with_number(kind, operation, key, number, word) else {
+        return Err(LineRefused::Syntax);
+    };
+    let session = Name::read(session)?;
+    Ok(Step::Do { session, op: op? })
+}
+
 // `ask BRANCH KIND KEY QUERY WORD`.
 fn ask_with_word(
     alloc: Global,
@@ -189,7 +215,30 @@ fn six_words(
     }
 }
 
-// The step of two to six words that are no join.
+// An operation at a key that takes a number and a word.
+fn seven_words(
+    alloc: Global,
+    verb: &[u8],
+    name: &[u8],
+    kind: &[u8],
+    key: &[u8],
+    last: &[u8],
+    number: &[u8],
+    word: &[u8],
+) -> Result<Step, LineRefused>
+    ensures ok { IfOk result
+        (λ step. seven_words verb.now name.now kind.now key.now last.now number.now word.now
+        ≡ Ok step) }
+    ensures err { IfErr result (IsRefusedAs
+        (seven_words verb.now name.now kind.now key.now last.now number.now word.now)) }
+{
+    match (verb, kind_named(kind)) {
+        (b"do", Some(kind)) => do_with_number(alloc, name, kind, key, last, number, word),
+        _ => Err(LineRefused::Syntax),
+    }
+}
+
+// The step of two to seven words that are no join.
 fn other_words(alloc: Global, words: &[&[u8]]) -> Result<Step, LineRefused>
     ensures ok { IfOk result (λ step. other_words (map (λ word. word.now) words.now) ≡ Ok step) }
     ensures err { IfErr result (IsRefusedAs (other_words (map (λ word. word.now) words.now))) }
@@ -201,6 +250,9 @@ fn other_words(alloc: Global, words: &[&[u8]]) -> Result<Step, LineRefused>
         [verb, name, kind, key, last] => five_words(alloc, verb, name, kind, key, last),
         [verb, name, kind, key, last, word] => {
             six_words(alloc, verb, name, kind, key, last, word)
+        }
+        [verb, name, kind, key, last, number, word] => {
+            seven_words(alloc, verb, name, kind, key, last, number, word)
         }
         _ => Err(LineRefused::Syntax),
     }

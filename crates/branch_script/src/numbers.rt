@@ -2,7 +2,7 @@
 ghost use Rattle.std.specs.Prelude.{◌≡◌, ◌+◌, ◌≤◌, ◌^◌, true, IfSome, IfNone};
 ghost use Rattle.std.specs.Char.{is_ascii_digit};
 ghost use Rattle.std.specs.List.{list_all};
-ghost use Rattle.branch_script.specs.Numbers.{integer_of, positive_of, read_on};
+ghost use Rattle.branch_script.specs.Numbers.{integer_of, place_of, positive_of, read_on};
 
 // Whether each byte is a digit.
 fn all_digits(word: &[u8]) -> bool
@@ -55,4 +55,15 @@ pub fn integer(word: &[u8]) -> Option<i64>
             Some(size as i64)
         }
     }
+}
+
+/// The number of 32 bits that a word says, without sign or leading zero.
+pub fn place(word: &[u8]) -> Option<u32>
+    ensures { result ≡ place_of word.now }
+{
+    if word == b"0".as_slice() {
+        return Some(0);
+    }
+    let number = positive(word, 1 << 32)?;
+    Some(number as u32)
 }

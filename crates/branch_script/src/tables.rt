@@ -1,9 +1,9 @@
 // The tables of words: kinds, operations and queries.
 ghost use Rattle.std.specs.Prelude.{◌≡◌, bytes_eq};
-ghost use Rattle.branch_script.specs.Numbers.{integer_of};
-ghost use Rattle.branch_script.specs.Tables.{behind, kind_named, counter_add, operations_at_key, operations_with_word, queries_at_key, queries_with_word};
+ghost use Rattle.branch_script.specs.Numbers.{integer_of, place_of};
+ghost use Rattle.branch_script.specs.Tables.{behind, kind_named, counter_add, sequence_insert, sequence_delete, operations_at_key, operations_with_word, operations_with_number, queries_at_key, queries_with_word};
 
-use crate::numbers::integer;
+use crate::numbers::{integer, place};
 use crate::step::LineRefused;
 use branch_doc::{Kind, PlainOp, PlainQuery};
 use mrdt_model::Bytes;
@@ -21,6 +21,7 @@ pub fn kind_named(word: &[u8]) -> Option<Kind>
         b"set" => Some(Kind::Set),
         b"log" => Some(Kind::Log),
         b"queue" => Some(Kind::Queue),
+        b"seq" => Some(Kind::Sequence),
         _ => None,
     }
 }
@@ -38,6 +39,30 @@ fn counter_add(key: Bytes, amount: &[u8]) -> Result<PlainOp, LineRefused>
 {
     match integer(amount) {
         Some(amount) => Ok(PlainOp::CounterAdd { key, amount }),
+        None => Err(LineRefused::BadNumber),
+    }
+}
+
+// A payload put into a sequence; `BadNumber` where the word for its place is no number of 32 bits.
+fn sequence_insert(key: Bytes, at: &[u8], payload: Bytes) -> Result<PlainOp, LineRefused>
+    ensures { result ≡ sequence_insert key payload (place_of at.now) }
+{
+    match place(at) {
+        Some(place) => Ok(PlainOp::SequenceInsert {
+            key,
+            place,
+            payload,
+        }),
+        None => Err(LineRefused::BadNumber),
+    }
+}
+
+// An item taken out of a sequence; `BadNumber` where the word for its place is no number of 32 bits.
+fn sequence_delete(key: Bytes, at: &[u8]) -> Result<PlainOp, LineRefused>
+    ensures { result ≡ sequence_delete key (place_of at.now) }
+{
+    match place(at) {
+        Some(place) => Ok(PlainOp::SequenceDelete { key, place }),
         None => Err(LineRefused::BadNumber),
     }
 }
@@ -83,6 +108,23 @@ pub fn operation_with_word(
             key,
             payload: word,
         })),
+        Kind::Sequence if is(operation, b"delete") => Some(sequence_delete(key, word.as_slice())),
+        _ => None,
+    }
+}
+
+/// The operation with a number and a word that a kind has by this name, or `BadNumber` where its number is none.
+pub fn operation_with_number(
+    kind: Kind,
+    operation: &[u8],
+    key: Bytes,
+    number: &[u8],
+    word: Bytes,
+) -> Option<Result<PlainOp, LineRefused>>
+    ensures { result ≡ behind operation.now (operations_with_number kind key number.now word) }
+{
+    match kind {
+        Kind::Sequence if is(operation, b"insert") => Some(sequence_insert(key, number, word)),
         _ => None,
     }
 }
@@ -103,6 +145,8 @@ pub fn query_at_key(kind: Kind, query: &[u8], key: Bytes) -> Option<PlainQuery>
         Kind::Queue if is(query, b"peek") => Some(PlainQuery::QueuePeek { key }),
         Kind::Queue if is(query, b"items") => Some(PlainQuery::QueueItems { key }),
         Kind::Queue if is(query, b"length") => Some(PlainQuery::QueueLength { key }),
+        Kind::Sequence if is(query, b"read") => Some(PlainQuery::SequenceRead { key }),
+        Kind::Sequence if is(query, b"length") => Some(PlainQuery::SequenceLength { key }),
         _ => None,
     }
 }

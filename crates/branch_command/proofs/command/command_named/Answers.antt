@@ -1,13 +1,15 @@
-use Rattle.std.proofs.Common.{◌≡◌, ◌∙◌, ap, sym, codes, refl, Option, Some}
+use Rattle.std.proofs.Common.{◌≡◌, ◌∙◌, ap, sym, codes, refl, Option, Some, Err}
 use Rattle.std.specs.Option.{option_map}
 use Rattle.clap.specs.Matches.{found_of}
 use Rattle.clap.specs.Walk.{Text, rows_of}
 use Rattle.clap.specs.Faults.{fault_of}
 use Rattle.clap.proofs.WalkLemmas.{first_value-rows}
 use Rattle.branch_command.specs.Work.{Work, Clients as ClientsGiven}
-use Rattle.branch_command.specs.Commands.{Init, Script, Check, Generate, Clients, Upgrade, asked_by, help_words, said_by}
+use Rattle.branch_command.specs.Commands.{Init, Script, Check, Generate, Clients, Upgrade, Compact, Address, Send, Receive, asked_by, help_words, said_by}
 use Rattle.branch_command.specs.Program.{program}
+use Rattle.branch_command.specs.declared.command.CommandRefused.TheVariants.{Usage}
 use Rattle.branch_command.proofs.Heard.{as_said}
+use Rattle.branch_command.proofs.Sendings.{sends}
 use Rattle.branch_command.proofs.command.command_named.Goals as goal
 
 pub returns-in-Some : goal.returns-in-Some
@@ -32,6 +34,11 @@ returns-in-upgrade c =
     let rows = rows_of (found_of c.args.given.now) in
     ((Upgrade, ap (λ (n : Text). said_by n rows) c.in-upgrade.is, tt), λ u. cc)
 
+pub returns-in-compact : goal.returns-in-compact
+returns-in-compact c =
+    let rows = rows_of (found_of c.args.given.now) in
+    ((Compact, ap (λ (n : Text). said_by n rows) c.in-compact.is, tt), λ u. cc)
+
 pub returns-in-Some-read_work : goal.returns-in-Some-read_work
 returns-in-Some-read_work c =
     let rows = rows_of (found_of c.args.given.now) in
@@ -46,6 +53,34 @@ returns-in-Some-read_clients c =
     let clients : ClientsGiven = record { count = c.in-Some-read_clients.count; work = work } in
     let is : said_by c.args.name.now rows ≡ Some (Clients clients) = ap (λ (n : Text). said_by n rows) c.in-clients.is ∙ ap (option_map Clients) c.in-Some-read_clients.ensures.some in
     ((Clients clients, is, refl), λ u. cc)
+
+pub returns-in-Some-read_name : goal.returns-in-Some-read_name
+returns-in-Some-read_name c =
+    let rows = rows_of (found_of c.args.given.now) in
+    let branch : Text = c.in-Some-read_name.name in
+    let is : said_by c.args.name.now rows ≡ Some (Address branch) = ap (λ (n : Text). said_by n rows) c.in-address.is ∙ ap (option_map Address) (sym c.in-Some-read_name.ensures) in
+    ((Address branch, is, refl), λ u. cc)
+
+pub returns-in-Ok : goal.returns-in-Ok
+returns-in-Ok c =
+    let rows = rows_of (found_of c.args.given.now) in
+    ((Send _, ap (λ (n : Text). said_by n rows) c.in-send.is ∙ sends rows _ c.in-Ok.ensures.read, refl), λ u. cc)
+
+pub returns-in-Err : goal.returns-in-Err
+returns-in-Err c =
+    let rows = rows_of (found_of c.args.given.now) in (
+      tt,
+      λ u.
+          let same : c.in-Err.refused ≡ Usage = cc u in
+          ap (λ (n : Text). said_by n rows) c.in-send.is ∙ ap (option_map Send) (c.in-Err.ensures.usage (ap Err same)),
+    )
+
+pub returns-in-Some-read_name-2 : goal.returns-in-Some-read_name-2
+returns-in-Some-read_name-2 c =
+    let rows = rows_of (found_of c.args.given.now) in
+    let name : Text = c.in-Some-read_name-2.name in
+    let is : said_by c.args.name.now rows ≡ Some (Receive name) = ap (λ (n : Text). said_by n rows) c.in-receive.is ∙ ap (option_map Receive) (sym c.in-Some-read_name-2.ensures) in
+    ((Receive name, is, refl), λ u. cc)
 
 pub returns-in-help : goal.returns-in-help
 returns-in-help c =

@@ -12,6 +12,7 @@ returns c =
     let branches = with_arg _ _ _ _ _ commits c.in_ok-arg-3.ensures c.limit-branches.ensures.0 c.limit-branches.ensures.1 in
     let value = with_arg _ _ _ _ _ branches c.in_ok-arg-4.ensures c.limit-value.ensures.0 c.limit-value.ensures.1 in
     let moves = with_arg _ _ _ _ _ value c.in_ok-arg-5.ensures c.limit-moves.ensures.0 c.limit-moves.ensures.1 in
-    IfOk-weaker c.arg-6.result _ _ (λ r adds.
-    let all = with_arg _ _ _ _ _ moves adds c.version.ensures.0 c.version.ensures.1 in
-    (ap (λ (a : App). a.top) all.app, all.local)) c.arg-6.ensures
+    let origin = with_arg _ _ _ _ _ moves c.in_ok-arg-6.ensures c.limit-origin.ensures.0 c.limit-origin.ensures.1 in
+    IfOk-weaker c.arg-7.result _ _ (λ r adds.
+    let all = with_arg _ _ _ _ _ origin adds c.version.ensures.0 c.version.ensures.1 in
+    (ap (λ (a : App). a.top) all.app, all.local)) c.arg-7.ensures

@@ -1,9 +1,12 @@
-use Rattle.std.proofs.Common.{◌∙◌, ap, sym}
-use Rattle.branch_doc.proofs.ThereAndBack.{query_form, query-there, query-back}
+use Rattle.std.proofs.Common.{◌∙◌, sym}
+use Rattle.branch_doc.proofs.ThereAndBack.{query_form, query-named, query-back, query-lacks}
 use Rattle.branch_doc.proofs.laws.queries_have_one_form.Goals as goal
 
 pub returns-clause-one : goal.returns-clause-one
-returns-clause-one c a b same = sym (query-there a) ∙ ap query_form same ∙ query-there b
+returns-clause-one c a b d left right = sym (query-named a d left) ∙ query-named b d right
 
 pub returns-clause-each : goal.returns-clause-each
-returns-clause-each c a = (query_form a, query-back a)
+returns-clause-each c d = (query_form d, query-back d)
+
+pub returns-clause-lacks : goal.returns-clause-lacks
+returns-clause-lacks c = query-lacks

@@ -1,4 +1,4 @@
-use Rattle.std.proofs.Common.{◌≡◌, ◌++◌, [], refl, sym, ap, subst, Some, None, List, ℕ, ◌<◌, length, false}
+use Rattle.std.proofs.Common.{◌≡◌, ◌++◌, ◌∙◌, [], refl, sym, ap, subst, Some, None, List, ℕ, ◌<◌, length, false}
 use Rattle.std.specs.Prelude.{Result, Ok, Err, OnOk, OnErr}
 use mathlib.Core.List.{IsPrefix}
 use Rattle.mrdt_model.specs.declared.errors.Memory.{Memory}
@@ -11,7 +11,7 @@ use Rattle.branch_history.specs.Machine.{turn, answers}
 use Rattle.store_seen.specs.Views.{PreparedView}
 use Rattle.store_seen.specs.Turns.{step_of, FromOn}
 use Rattle.store_core.specs.Views.{held}
-use Rattle.branch_print.specs.Texts.{refusal_text, unseen_text, line_end}
+use Rattle.branch_print.specs.Texts.{refusal_text, unseen_text, no_sequences_text, line_end}
 use Rattle.branch_doc.specs.declared.plain.PlainOp.{PlainOp}
 use Rattle.branch_doc.specs.Document.{document}
 use Rattle.branch_doc.specs.Forms.{DocOp, DocReply, DocQuery, DocAnswer, doc_op}
@@ -20,25 +20,24 @@ use Rattle.branch_engine.specs.declared.refused.TellRefused.TheVariants as refus
 use Rattle.branch_engine.specs.Engines.{EngineView, Seen, AreLooksAt, session_named}
 use Rattle.branch_engine.proofs.Played.{branch-stays}
 use Rattle.branch_engine.proofs.Does.{Members, members, DoesSo, nothing_done, stays_so, does_as}
-use Rattle.branch_engine.proofs.Replies.{full-so, do_telling, turn_telling, unseen, turn_stays, do_as}
+use Rattle.branch_engine.proofs.Replies.{full-so, do_telling, turn_telling, unseen, turn_stays, do_as, no_op}
 use Rattle.branch_engine.proofs.engine.Engine.land.Goals as goal
 
 -- an operation that is refused when it is prepared
 refused : {D : Type 0} (m : Members D) (address : List ℕ → List ℕ) (old : EngineView D) (out out' session : List ℕ) (op : PlainOp) (made : DocOp) (seen : Seen) (w : Result (Unit {0}) Memory) (r : Result (Unit {0}) TellRefused)
     → OnOk w (r ≡ Ok tt) → OnErr w (r ≡ Err refusal.Memory) → (why : machine.Refusal) → old.core.failed ≡ false
-    → AreLooksAt (held old.core) old.sessions → session_named old.sessions session ≡ Some seen → made ≡ doc_op op
+    → AreLooksAt (held old.core) old.sessions → session_named old.sessions session ≡ Some seen → doc_op op ≡ Some made
     → FromOn document seen.terms seen.history (λ later. turn document seen.terms later (machine.Land seen.branch seen.head made) ≡ answers {A = DocAnswer} (machine.Refused why))
     → OnOk w (out' ≡ out ++ (refusal_text [] why ++ line_end)) → OnErr w (AppendsPart out out' (refusal_text [] why ++ line_end))
     → refusal_text [] why ≡ refusal_text (name_of (store_of old.core.terms.origin old.core.history).branches seen.branch) why
     → DoesSo m address (do_telling session op) old old out out' r
 refused m address old out out' session op made seen w r through short why worked looks found is later ok err text =
     let look = looks session seen found in
-    let step = machine.Land seen.branch seen.head (doc_op op) in
-    let plain = subst (λ o. turn document seen.terms old.core.history (machine.Land seen.branch seen.head o) ≡ answers {A = DocAnswer} (machine.Refused why)) is (later old.core.history look.0) in
-    let here = subst (λ l. turn document l old.core.history step ≡ answers {A = DocAnswer} (machine.Refused why)) look.1 plain in
+    let step = machine.Land seen.branch seen.head made in
+    let here = subst (λ l. turn document l old.core.history step ≡ answers {A = DocAnswer} (machine.Refused why)) look.1 (later old.core.history look.0) in
     let full = full-so address old.core old.sessions old refl step (machine.Refused why) refl here in
     let words = refusal_text (name_of (store_of old.core.terms.origin old.core.history).branches seen.branch) why ++ line_end in
-    does_as m address (do_telling session op) (turn_telling session seen.branch step) old old out out' (do_as m address old session seen found op) r
+    does_as m address (do_telling session op) (turn_telling session seen.branch step) old old out out' (do_as m address old session seen found op made is) r
     (stays_so m address (turn_telling session seen.branch step) old old out out' words w r through short worked refl (turn_stays m address old session seen.branch step (machine.Refused why) full refl)
     (subst (λ t. OnOk w (out' ≡ out ++ (t ++ line_end))) text ok) (subst (λ t. OnErr w (AppendsPart out out' (t ++ line_end))) text err))
 
@@ -53,6 +52,17 @@ returns-in_default g c =
     stays_so m address (do_telling session c.args.op) old old c.args.out.now.items c.put_unseen.new.out.items (unseen_text session ++ line_end) c.put_unseen.result c.replied.result c.replied.ensures.ok c.replied.ensures.err c.requires refl
     (unseen m address old session c.args.op here) c.put_unseen.ensures.ok c.put_unseen.ensures.err
 
+pub returns-in_default-op : goal.returns-in_default-op
+returns-in_default-op g c =
+    let d = g.D.Disk in let laws = g.met.D.Disk in
+    let m = members d.may_leave d.moment d.left_since d.faults laws.only_now in let address = g.A.Address.address in
+    let old = c.args.self.now in let session = c.args.session.now in let seen = c.in-Some.seen.now in
+    let found : session_named c.self.inside.sessions.entries session ≡ Some seen = sym c.in-Some.ensures.value in
+    let there = subst (λ (v : EngineView g.row.D.Denot). session_named v.sessions session ≡ Some seen) c.self.view_is found in
+    stays_so m address (do_telling session c.args.op) old old c.args.out.now.items c.put_no_sequences.new.out.items (no_sequences_text ++ line_end) c.put_no_sequences.result c.replied-in_default-op.result
+    c.replied-in_default-op.ensures.ok c.replied-in_default-op.ensures.err c.requires refl
+    (no_op m address old session seen there c.args.op (sym c.op.ensures ∙ c.in_default-op.is)) c.put_no_sequences.ensures.ok c.put_no_sequences.ensures.err
+
 pub returns-in-Err-Exhausted : goal.returns-in-Err-Exhausted
 returns-in-Err-Exhausted g c =
     let d = g.D.Disk in let laws = g.met.D.Disk in
@@ -60,9 +70,9 @@ returns-in-Err-Exhausted g c =
     let core = c.self.inside.core in let sessions = c.self.inside.sessions.entries in let old = c.args.self.now in
     let seen = c.in-Some.seen.now in let session = c.args.session.now in
     let found : session_named sessions session ≡ Some seen = sym c.in-Some.ensures.value in
-    refused m address old c.args.out.now.items c.put_exhausted.new.out.items session c.args.op c.op.result seen c.put_exhausted.result c.replied-in-Err-Exhausted.result c.replied-in-Err-Exhausted.ensures.ok c.replied-in-Err-Exhausted.ensures.err (machine.Exhausted c.in-Err-Exhausted.clock) c.requires
+    refused m address old c.args.out.now.items c.put_exhausted.new.out.items session c.args.op c.in-Some-op.op seen c.put_exhausted.result c.replied-in-Err-Exhausted.result c.replied-in-Err-Exhausted.ensures.ok c.replied-in-Err-Exhausted.ensures.err (machine.Exhausted c.in-Err-Exhausted.clock) c.requires
     (subst (λ (v : EngineView g.row.D.Denot). AreLooksAt (held v.core) v.sessions) c.self.view_is c.self.invariant) (subst (λ (v : EngineView g.row.D.Denot). session_named v.sessions session ≡ Some seen) c.self.view_is found)
-    c.op.ensures (rw c.in-Err-Exhausted.field-0-is at c.in-Err-Exhausted.ensures.refused) c.put_exhausted.ensures.ok c.put_exhausted.ensures.err refl
+    (sym c.in-Some-op.ensures) (rw c.in-Err-Exhausted.field-0-is at c.in-Err-Exhausted.ensures.refused) c.put_exhausted.ensures.ok c.put_exhausted.ensures.err refl
 
 pub returns-in-Err-ValueTooLarge : goal.returns-in-Err-ValueTooLarge
 returns-in-Err-ValueTooLarge g c =
@@ -71,9 +81,9 @@ returns-in-Err-ValueTooLarge g c =
     let core = c.self.inside.core in let sessions = c.self.inside.sessions.entries in let old = c.args.self.now in
     let seen = c.in-Some.seen.now in let session = c.args.session.now in
     let found : session_named sessions session ≡ Some seen = sym c.in-Some.ensures.value in
-    refused m address old c.args.out.now.items c.put_too_large.new.out.items session c.args.op c.op.result seen c.put_too_large.result c.replied-in-Err-ValueTooLarge.result c.replied-in-Err-ValueTooLarge.ensures.ok c.replied-in-Err-ValueTooLarge.ensures.err (machine.ValueTooLarge c.in-Err-ValueTooLarge.length) c.requires
+    refused m address old c.args.out.now.items c.put_too_large.new.out.items session c.args.op c.in-Some-op.op seen c.put_too_large.result c.replied-in-Err-ValueTooLarge.result c.replied-in-Err-ValueTooLarge.ensures.ok c.replied-in-Err-ValueTooLarge.ensures.err (machine.ValueTooLarge c.in-Err-ValueTooLarge.length) c.requires
     (subst (λ (v : EngineView g.row.D.Denot). AreLooksAt (held v.core) v.sessions) c.self.view_is c.self.invariant) (subst (λ (v : EngineView g.row.D.Denot). session_named v.sessions session ≡ Some seen) c.self.view_is found)
-    c.op.ensures (rw c.in-Err-ValueTooLarge.field-0-is at c.in-Err-ValueTooLarge.ensures.refused) c.put_too_large.ensures.ok c.put_too_large.ensures.err refl
+    (sym c.in-Some-op.ensures) (rw c.in-Err-ValueTooLarge.field-0-is at c.in-Err-ValueTooLarge.ensures.refused) c.put_too_large.ensures.ok c.put_too_large.ensures.err refl
 
 pub returns-in-Err-Memory : goal.returns-in-Err-Memory
 returns-in-Err-Memory g c =
@@ -119,7 +129,7 @@ returns-in-Ok g c =
     let found : session_named sessions session ≡ Some seen = sym c.in-Some.ensures.value in
     let there = subst (λ (v : EngineView g.row.D.Denot). session_named v.sessions session ≡ Some seen) c.self.view_is found in
     let new = c.move_on.new.self in let out' = c.move_on.new.out.items in let result = c.move_on.result in
-    does_as m address (do_telling session op) (turn_telling session seen.branch (machine.Land seen.branch seen.head (doc_op op))) old new out out' (do_as m address old session seen there op) result
-    (subst (λ o. DoesSo m address (turn_telling session seen.branch (machine.Land seen.branch seen.head o)) old new out out' result) c.op.ensures
-    (subst (λ b. DoesSo m address (turn_telling session b (machine.Land seen.branch seen.head c.op.result)) old new out out' result) c.branch-branch.ensures.branch
-    (subst (λ (p : PreparedView DocOp DocReply). DoesSo m address (turn_telling session c.branch-branch.result (step_of {Q = DocQuery} p.seen p.work)) old new out out' result) c.in-Ok.ensures.prepared c.move_on.ensures)))
+    let made = c.in-Some-op.op in
+    does_as m address (do_telling session op) (turn_telling session seen.branch (machine.Land seen.branch seen.head made)) old new out out' (do_as m address old session seen there op made (sym c.in-Some-op.ensures)) result
+    (subst (λ b. DoesSo m address (turn_telling session b (machine.Land seen.branch seen.head made)) old new out out' result) c.branch-branch.ensures.branch
+    (subst (λ (p : PreparedView DocOp DocReply). DoesSo m address (turn_telling session c.branch-branch.result (step_of {Q = DocQuery} p.seen p.work)) old new out out' result) c.in-Ok.ensures.prepared c.move_on.ensures))

@@ -1,0 +1,35 @@
+// The terms that the options of `init` say.
+ghost use Rattle.std.specs.Prelude.{◌≡◌, codes, Some, IfSome, IfNone, None};
+ghost use Rattle.clap.specs.Words.{found_of};
+ghost use Rattle.clap.specs.Walk.{first_of, rows_of};
+ghost use Rattle.branch_command.specs.Terms.{TermNumbers, origin_or, terms_of, AreTerms};
+
+use crate::limits::read_limits;
+use crate::work::read_whole_number;
+use branch_names::Terms;
+use clap::ArgMatches;
+
+// The kind of documents.
+const DOCUMENT: u8 = 0;
+
+// The first origin that was given, or 0 where none was given.
+fn read_origin(given: &ArgMatches<'_>) -> Option<u32>
+    ensures { result ≡ origin_or (first_of (codes "origin") (rows_of (found_of given.now))) }
+{
+    match given.get_str("origin") {
+        Some(word) => Some(read_whole_number(word, 4_294_967_295)? as u32),
+        None => Some(0),
+    }
+}
+
+/// The terms that the options say; `None` where the word of one is no number in its range, or where the origin of a
+/// branch that there may be would be out of range.
+pub(crate) fn read_terms(given: &ArgMatches<'_>) -> Option<Terms>
+    ensures some { IfSome result (λ terms. (n : TermNumbers)
+        × (terms_of (rows_of (found_of given.now)) ≡ Some n) × AreTerms n terms) }
+    ensures none { IfNone result (terms_of (rows_of (found_of given.now)) ≡ None) }
+{
+    let limits = read_limits(given)?;
+    let origin = read_origin(given)?;
+    Terms::new(limits, origin, DOCUMENT)
+}
