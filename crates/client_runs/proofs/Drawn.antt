@@ -1,7 +1,10 @@
--- Of the steps of a client, each behind the first three is an operation or a merge of one of its two sessions, and names no branch but `main` and the client's own.
+-- Of the steps of a client, each behind the first three is an operation or a merge of one of its two sessions, and names no branch but `main` and the client's own. None is of sequences.
 use Rattle.std.proofs.Common.{zero, suc, ◌≡◌, ℕ, ◌+◌, ◌%◌, ◌^◌, ◌==◌, ◌⊎◌, inl, inr, Bool, true, false, List, [], ◌∷◌, ◌++◌, codes, refl, subst, ◌∙◌, if◌then◌else◌, Some}
 use Rattle.std.specs.Prelude.{slice_get}
 use Rattle.std.specs.List.{AllByRecursion}
+use Rattle.branch_doc.specs.declared.plain.Kind.TheVariants as kind
+use Rattle.branch_doc.specs.declared.plain.PlainOp.{PlainOp}
+use Rattle.branch_doc.specs.Forms.{op_kind}
 use Rattle.branch_script.specs.declared.step.Step.{Step}
 use Rattle.branch_script.specs.declared.step.Step.TheVariants.{Look, Fork, Merge, Join, Do, Ask, Drop}
 use Rattle.branch_gen.specs.Draws.{next, pick, Drawn}
@@ -17,8 +20,12 @@ IsSession session = (session ≡ own) ⊎ (session ≡ top)
 abbrev pub IsOfBoth : List ℕ → List ℕ → Type 0
 IsOfBoth branch name = (name ≡ codes "main") ⊎ (name ≡ branch)
 
+-- an operation is on no sequence
+abbrev pub IsOfNoSequence : PlainOp → Type 0
+IsOfNoSequence op = op_kind op ≡ kind.Sequence → ⊥
+
 abbrev pub IsDrawn : List ℕ → Step → Type 0
-IsDrawn branch (Do session op) = IsSession session
+IsDrawn branch (Do session op) = IsSession session × IsOfNoSequence op
 IsDrawn branch (Merge session from) = IsSession session × IsOfBoth branch from
 IsDrawn branch (Join session from) = ⊥
 IsDrawn branch (Look session from) = ⊥
@@ -36,11 +43,11 @@ module _ (branch : List ℕ) where
   step_for-drawn a x =
       drawn-if (a == 0) _ _ (inl refl, inl refl)
       (drawn-if (a == 1) _ _ (inr refl, inr refl)
-      (drawn-if (a == 2) _ _ (inr refl)
-      (drawn-if (a == 3) _ _ (inl refl)
-      (drawn-if (a == 4) _ _ (inl refl)
-      (drawn-if (a == 5) _ _ (inl refl)
-      (drawn-if (a == 6) _ _ (inl refl) (inl refl)))))))
+      (drawn-if (a == 2) _ _ (inr refl, λ is. cc)
+      (drawn-if (a == 3) _ _ (inl refl, λ is. cc)
+      (drawn-if (a == 4) _ _ (inl refl, λ is. cc)
+      (drawn-if (a == 5) _ _ (inl refl, λ is. cc)
+      (drawn-if (a == 6) _ _ (inl refl, λ is. cc) (inl refl, λ is. cc)))))))
 
   step-drawn : (x : ℕ) → IsDrawn branch (step branch x).made
   unfolding step

@@ -22,7 +22,9 @@ use Rattle.branch_history.proofs.Valid.{store_of-none, store_of-more}
 use Rattle.branch_machine.specs.Fixed.{fix}
 use Rattle.branch_machine.specs.Laws.{MakesFewerMoves, HasFullyValidPrefixes}
 use Rattle.branch_machine.specs.Validity.{IsFullyValid}
+use Rattle.branch_doc.specs.declared.plain.Kind.TheVariants as kind
 use Rattle.branch_doc.specs.declared.plain.PlainOp.{PlainOp}
+use Rattle.branch_doc.specs.Forms.{op_kind}
 use Rattle.branch_script.specs.declared.step.Step.{Step}
 use Rattle.branch_script.specs.declared.step.Step.TheVariants.{Look, Fork, Merge, Join, Do, Ask, Drop}
 use Rattle.branch_gen.specs.Clients.{client_branch, own, top, drawn_steps, client_steps}
@@ -31,24 +33,25 @@ use Rattle.parallel_clients.specs.declared.outcome.ClientRefusal.{ClientRefusal}
 use Rattle.parallel_clients.specs.declared.outcome.ClientRefusal.TheVariants as refusal
 use Rattle.parallel_clients.specs.declared.outcome.Outcome.{Outcome}
 use Rattle.parallel_clients.specs.declared.outcome.Outcome.TheVariants.{Done, Refused, Unseen}
+use Rattle.parallel_clients.specs.Forms.{Forms}
 use Rattle.parallel_clients.specs.Played.{Sights, no_sights, with_sight, IsMoveAt, WasHead, HadHead, HasBranch, IsDone, IsForked, IsMerged, IsJoined, IsTaken, IsReached, BringsNothing, TakesOne, TakesNone, IfSees, PlayedFrom, PlayedTo}
-use Rattle.parallel_clients.specs.Outcomes.{Setting, RefusesLook, RefusesJoin, RefusesStep, StepRefused, SeesNone, ComesTo}
+use Rattle.parallel_clients.specs.Outcomes.{Setting, RefusesLook, RefusesJoin, RefusesLanding, RefusesStep, LacksKind, StepRefused, SeesNone, ComesTo}
 use Rattle.client_runs.specs.Worked.{MayRefuse, MayComeTo}
-use Rattle.client_runs.proofs.Drawn.{IsSession, IsOfBoth, IsDrawn, steps-drawn}
+use Rattle.client_runs.proofs.Drawn.{IsSession, IsOfBoth, IsOfNoSequence, IsDrawn, steps-drawn}
 use Rattle.client_runs.proofs.Reasons.{Says, reason-full, says-look, says-fork, says-land, says-merge}
 
 -- some branch has the name
 abbrev pub IsThere : {O R : Type 0} → ℕ → List (Move O R) → List ℕ → Type 0
 IsThere origin moves name = branch_named (store_of origin moves).branches name ≡ None → ⊥
 
--- each branch that a step names is there, and it drops none
+-- each branch that a step names is there, it drops none, it asks nothing, and it is on no sequence
 abbrev Knows : {O R : Type 0} → ℕ → List (Move O R) → Step → Type 0
 Knows origin moves (Look session from) = IsThere origin moves from
 Knows origin moves (Fork new from) = IsThere origin moves from
 Knows origin moves (Merge session from) = IsThere origin moves from
 Knows origin moves (Join session from) = AllByRecursion (IsThere origin moves) from
-Knows origin moves (Do session op) = Unit {0}
-Knows origin moves (Ask from query) = IsThere origin moves from
+Knows origin moves (Do session op) = IsOfNoSequence op
+Knows origin moves (Ask from query) = ⊥
 Knows origin moves (Drop session) = ⊥
 
 -- moves that drop no branch
@@ -168,11 +171,11 @@ module _ {O R : Type 0} (origin : ℕ) (old moves : List (Move O R)) (on : GoesO
   one-there new from Rest (place ∷ places) is = forked-there new from place is.0 is.1
 
   -- a branch that was to be forked is there
-  played-there : (op_of : PlainOp → O) (new from : List ℕ) (steps : List Step) (places : List ℕ) (after : Sights) → PlayedTo op_of origin (length old) (Fork new from ∷ steps) places moves after → IsThere origin moves new
+  played-there : {Q : Type 0} (forms : Forms O Q) (new from : List ℕ) (steps : List Step) (places : List ℕ) (after : Sights) → PlayedTo forms origin (length old) (Fork new from ∷ steps) places moves after → IsThere origin moves new
   unfolding PlayedTo
-  played-there op_of new from steps places after is =
+  played-there forms new from steps places after is =
       ⊎_elim
-      (λ one. one-there new from (PlayedFrom op_of origin moves steps no_sights after) places one)
+      (λ one. one-there new from (PlayedFrom forms origin moves steps no_sights after) places one)
       (λ none. named-there none.before new none.begins none.behind none.here.0)
       is
 
@@ -184,7 +187,7 @@ module _ {O R : Type 0} (origin : ℕ) (old moves : List (Move O R)) (on : GoesO
       is
 
   drawn-knows : (branch : List ℕ) (s : Step) → IsThere origin moves branch → IsDrawn branch s → Knows origin moves s
-  drawn-knows branch (Do session op) there is = tt
+  drawn-knows branch (Do session op) there is = is.1
   drawn-knows branch (Merge session from) there is = both-there branch from there is.1
   drawn-knows branch (Join session from) there is = absurd is
   drawn-knows branch (Look session from) there is = absurd is
@@ -193,22 +196,22 @@ module _ {O R : Type 0} (origin : ℕ) (old moves : List (Move O R)) (on : GoesO
   drawn-knows branch (Drop session) there is = absurd is
 
   -- a client knows each branch that its step names, where the history has what the steps before it made
-  pub client-knows : (op_of : PlainOp → O) (client steps number k : ℕ) (s : Step) (places : List ℕ) (after : Sights)
-      → slice_get (client_steps client steps number) k ≡ Some s → PlayedTo op_of origin (length old) (take k (client_steps client steps number)) places moves after → Knows origin moves s
+  pub client-knows : {Q : Type 0} (forms : Forms O Q) (client steps number k : ℕ) (s : Step) (places : List ℕ) (after : Sights)
+      → slice_get (client_steps client steps number) k ≡ Some s → PlayedTo forms origin (length old) (take k (client_steps client steps number)) places moves after → Knows origin moves s
   unfolding client_steps
-  client-knows op_of client steps number zero s places after is played =
+  client-knows forms client steps number zero s places after is played =
       let same : Fork (client_branch client) (codes "main") ≡ s = cc in subst (Knows origin moves) same main-there
-  client-knows op_of client steps number (suc zero) s places after is played =
+  client-knows forms client steps number (suc zero) s places after is played =
       let same : Look own (client_branch client) ≡ s = cc in
-      subst (Knows origin moves) same (played-there op_of (client_branch client) (codes "main") [] places after played)
-  client-knows op_of client steps number (suc (suc zero)) s places after is played =
+      subst (Knows origin moves) same (played-there forms (client_branch client) (codes "main") [] places after played)
+  client-knows forms client steps number (suc (suc zero)) s places after is played =
       let same : Look top (codes "main") ≡ s = cc in subst (Knows origin moves) same main-there
-  client-knows op_of client steps number (suc (suc (suc k))) s places after is played =
+  client-knows forms client steps number (suc (suc (suc k))) s places after is played =
       let x : ℕ = (number + client) % 2 ^ 64 in
       let branch : List ℕ = client_branch client in
       let rest : List Step = take k (drawn_steps branch steps x) in
       drawn-knows branch s
-      (played-there op_of branch (codes "main") (Look own branch ∷ Look top (codes "main") ∷ rest) places after played)
+      (played-there forms branch (codes "main") (Look own branch ∷ Look top (codes "main") ∷ rest) places after played)
       (steps-drawn branch steps x k s is)
 
 -- what each session sees behind the first three steps
@@ -227,7 +230,7 @@ put-sees true number sight sees none = let never : ⊥ = cc in never
 put-sees false number sight sees none = sees none
 
 -- a session that sees a branch sees one later
-module _ {O R : Type 0} (op_of : PlainOp → O) (origin : ℕ) (moves : List (Move O R)) (after : Sights) (session : List ℕ) where
+module _ {O R Q : Type 0} (forms : Forms O Q) (origin : ℕ) (moves : List (Move O R)) (after : Sights) (session : List ℕ) where
   abbrev Sees : Sights → Type 0
   Sees sights = sights session ≡ None → ⊥
 
@@ -239,24 +242,24 @@ module _ {O R : Type 0} (op_of : PlainOp → O) (origin : ℕ) (moves : List (Mo
   if-sees None Does goes is = absurd is
   if-sees (Some branch) Does goes is = goes branch is
 
-  sees-on : (steps : List Step) (sights : Sights) (last : ℕ) (places : List ℕ) → Sees sights → PlayedFrom op_of origin moves steps sights after last places → Sees after
+  sees-on : (steps : List Step) (sights : Sights) (last : ℕ) (places : List ℕ) → Sees sights → PlayedFrom forms origin moves steps sights after last places → Sees after
   sees-on [] sights last places sees is = subst (λ (seen : Sights). seen session ≡ None → ⊥) is.1 sees
   sees-on (Look other branch ∷ steps) sights last places sees is =
       sees-on steps (with_sight sights other is.0) (length is.1.before) places (λ none. put-sees (bytes_eq other session) is.0 (sights session) sees none) is.1.rest
   sees-on (Ask branch query ∷ steps) sights last places sees is = sees-on steps sights (length is.before) places sees is.rest
   sees-on (Do other op ∷ steps) sights last places sees is =
-      let Rest = PlayedFrom op_of origin moves steps sights after in
-      if-sees (sights other) (λ branch. TakesOne (IsDone moves branch (op_of op)) Rest last places)
-      (λ branch one. one-sees (IsDone moves branch (op_of op)) Rest last places (λ place more rest. sees-on steps sights place more sees rest) one)
+      let Rest = PlayedFrom forms origin moves steps sights after in
+      if-sees (sights other) (λ branch. TakesOne (IsDone moves branch (forms.op_of op)) Rest last places)
+      (λ branch one. one-sees (IsDone moves branch (forms.op_of op)) Rest last places (λ place more rest. sees-on steps sights place more sees rest) one)
       is
   sees-on (Fork new from ∷ steps) sights last places sees is =
-      let Rest = PlayedFrom op_of origin moves steps sights after in
+      let Rest = PlayedFrom forms origin moves steps sights after in
       ⊎_elim
       (λ one. one-sees (IsForked origin moves new from) Rest last places (λ place more rest. sees-on steps sights place more sees rest) one)
       (λ none. sees-on steps sights (length none.before) places sees none.rest)
       is
   sees-on (Merge other from ∷ steps) sights last places sees is =
-      let Rest = PlayedFrom op_of origin moves steps sights after in
+      let Rest = PlayedFrom forms origin moves steps sights after in
       if-sees (sights other) (λ branch. TakesOne (IsMerged origin moves branch from) Rest last places ⊎ TakesNone moves (IsReached origin branch from) Rest last places)
       (λ branch both. ⊎_elim
       (λ one. one-sees (IsMerged origin moves branch from) Rest last places (λ place more rest. sees-on steps sights place more sees rest) one)
@@ -264,7 +267,7 @@ module _ {O R : Type 0} (op_of : PlainOp → O) (origin : ℕ) (moves : List (Mo
       both)
       is
   sees-on (Join other from ∷ steps) sights last places sees is =
-      let Rest = PlayedFrom op_of origin moves steps sights after in
+      let Rest = PlayedFrom forms origin moves steps sights after in
       if-sees (sights other) (λ branch. TakesOne (IsJoined origin moves branch from) Rest last places ⊎ TakesNone moves (BringsNothing origin branch from) Rest last places)
       (λ branch both. ⊎_elim
       (λ one. one-sees (IsJoined origin moves branch from) Rest last places (λ place more rest. sees-on steps sights place more sees rest) one)
@@ -272,27 +275,27 @@ module _ {O R : Type 0} (op_of : PlainOp → O) (origin : ℕ) (moves : List (Mo
       both)
       is
   sees-on (Drop other ∷ steps) sights last places sees is =
-      let Rest = PlayedFrom op_of origin moves steps sights after in
+      let Rest = PlayedFrom forms origin moves steps sights after in
       if-sees (sights other) (λ branch. TakesOne (λ place. IsMoveAt moves place (move.Drop branch)) Rest last places)
       (λ branch one. one-sees (λ place. IsMoveAt moves place (move.Drop branch)) Rest last places (λ place more rest. sees-on steps sights place more sees rest) one)
       is
 
-  looks-see : (branch : List ℕ) (rest : List Step) (last : ℕ) (places : List ℕ) → IsSession session → PlayedFrom op_of origin moves (Look own branch ∷ Look top (codes "main") ∷ rest) no_sights after last places → Sees after
+  looks-see : (branch : List ℕ) (rest : List Step) (last : ℕ) (places : List ℕ) → IsSession session → PlayedFrom forms origin moves (Look own branch ∷ Look top (codes "main") ∷ rest) no_sights after last places → Sees after
   looks-see branch rest last places is played =
       let second = played.1.rest in
       sees-on rest (started played.0 second.0) (length second.1.before) places (session-started played.0 second.0 session is) second.1.rest
 
   starts-see : (branch : List ℕ) (rest : List Step) (last : ℕ) (places : List ℕ) → IsSession session
-      → PlayedFrom op_of origin moves (Fork branch (codes "main") ∷ Look own branch ∷ Look top (codes "main") ∷ rest) no_sights after last places → Sees after
+      → PlayedFrom forms origin moves (Fork branch (codes "main") ∷ Look own branch ∷ Look top (codes "main") ∷ rest) no_sights after last places → Sees after
   starts-see branch rest last places is played =
-      let Rest = PlayedFrom op_of origin moves (Look own branch ∷ Look top (codes "main") ∷ rest) no_sights after in
+      let Rest = PlayedFrom forms origin moves (Look own branch ∷ Look top (codes "main") ∷ rest) no_sights after in
       ⊎_elim
       (λ one. one-sees (IsForked origin moves branch (codes "main")) Rest last places (λ place more next. looks-see branch rest place more is next) one)
       (λ none. looks-see branch rest (length none.before) places is none.rest)
       played
 
 drawn-sees : (branch : List ℕ) (after : Sights) → ((session : List ℕ) → IsSession session → after session ≡ None → ⊥) → (s : Step) → IsDrawn branch s → SeesNone after s → ⊥
-drawn-sees branch after sees (Do session op) is none = sees session is none
+drawn-sees branch after sees (Do session op) is none = sees session is.0 none
 drawn-sees branch after sees (Merge session from) is none = sees session is.0 none
 drawn-sees branch after sees (Join session from) is none = absurd is
 drawn-sees branch after sees (Look session from) is none = absurd is
@@ -301,16 +304,16 @@ drawn-sees branch after sees (Ask from query) is none = absurd is
 drawn-sees branch after sees (Drop session) is none = absurd is
 
 -- no session of a client's step sees none
-pub client-sees : {O R : Type 0} (op_of : PlainOp → O) (origin begun : ℕ) (moves : List (Move O R)) (client steps number k : ℕ) (s : Step) (places : List ℕ) (after : Sights)
-    → slice_get (client_steps client steps number) k ≡ Some s → PlayedTo op_of origin begun (take k (client_steps client steps number)) places moves after → SeesNone after s → ⊥
+pub client-sees : {O R Q : Type 0} (forms : Forms O Q) (origin begun : ℕ) (moves : List (Move O R)) (client steps number k : ℕ) (s : Step) (places : List ℕ) (after : Sights)
+    → slice_get (client_steps client steps number) k ≡ Some s → PlayedTo forms origin begun (take k (client_steps client steps number)) places moves after → SeesNone after s → ⊥
 unfolding client_steps PlayedTo
-client-sees op_of origin begun moves client steps number zero s places after is played none = let same : s ≡ Fork (client_branch client) (codes "main") = cc in subst (SeesNone after) same none
-client-sees op_of origin begun moves client steps number (suc zero) s places after is played none = let same : s ≡ Look own (client_branch client) = cc in subst (SeesNone after) same none
-client-sees op_of origin begun moves client steps number (suc (suc zero)) s places after is played none = let same : s ≡ Look top (codes "main") = cc in subst (SeesNone after) same none
-client-sees op_of origin begun moves client steps number (suc (suc (suc k))) s places after is played none =
+client-sees forms origin begun moves client steps number zero s places after is played none = let same : s ≡ Fork (client_branch client) (codes "main") = cc in subst (SeesNone after) same none
+client-sees forms origin begun moves client steps number (suc zero) s places after is played none = let same : s ≡ Look own (client_branch client) = cc in subst (SeesNone after) same none
+client-sees forms origin begun moves client steps number (suc (suc zero)) s places after is played none = let same : s ≡ Look top (codes "main") = cc in subst (SeesNone after) same none
+client-sees forms origin begun moves client steps number (suc (suc (suc k))) s places after is played none =
     let x : ℕ = (number + client) % 2 ^ 64 in
     let branch : List ℕ = client_branch client in
-    drawn-sees branch after (λ session of_client. starts-see op_of origin moves after session branch (take k (drawn_steps branch steps x)) begun places of_client played)
+    drawn-sees branch after (λ session of_client. starts-see forms origin moves after session branch (take k (drawn_steps branch steps x)) begun places of_client played)
     s (steps-drawn branch steps x k s is) none
 
 module _ {S O R Q A : Type 0} (on : Setting S O R Q A) (moves : List (Move O R)) (within : IsWithin on.fixed.terms moves) where
@@ -327,11 +330,11 @@ module _ {S O R Q A : Type 0} (on : Setting S O R Q A) (moves : List (Move O R))
 
   knows-says : (sights : Sights) (s : Step) (why : machine.Refusal) → Knows on.fixed.terms.origin moves s → RefusesStep on moves sights s why → SaysNone why
   knows-says sights (Look session from) why knows is = says-full (machine.Look from) why (says-look on.fixed moves within (λ name. ⊥) from why knows) is
-  knows-says sights (Ask from query) why knows is = says-full (machine.Look from) why (says-look on.fixed moves within (λ name. ⊥) from why knows) is
+  knows-says sights (Ask from query) why knows is = absurd knows
   knows-says sights (Fork new from) why knows is = says-full (machine.Fork new from) why (says-fork on.fixed moves within (λ name. ⊥) new from why knows) is
   knows-says sights (Do session op) why knows is =
-      says-seen (sights session) (λ branch. (head : ℕ) × HadHead on.fixed.terms.origin moves branch head × FullyRefuses on.fixed moves (machine.Land branch head (on.op_of op)) why) why
-      (λ branch does. says-full (machine.Land branch does.0 (on.op_of op)) why (says-land on.fixed moves within (λ name. ⊥) branch does.0 (on.op_of op) why) does.2)
+      says-seen (sights session) (λ branch. RefusesLanding on moves branch (on.forms.op_of op) why) why
+      (λ branch does. says-full (machine.Land branch does.head does.operation) why (says-land on.fixed moves within (λ name. ⊥) branch does.head does.operation why) does.refused)
       is
   knows-says sights (Merge session from) why knows is =
       says-seen (sights session)
@@ -353,8 +356,22 @@ module _ {S O R Q A : Type 0} (on : Setting S O R Q A) (moves : List (Move O R))
       is
   knows-says sights (Drop session) why knows is = absurd knows
 
+  -- no step is of a kind that the store lacks, where it lacks sequences alone
+  lacks-none : ((op : PlainOp) → on.forms.op_of op ≡ None → op_kind op ≡ kind.Sequence) → (sights : Sights) (s : Step) → Knows on.fixed.terms.origin moves s → LacksKind on moves sights s → ⊥
+  lacks-none lacks sights (Do session op) knows is = seen-lacks (sights session) is
+    where
+      seen-lacks : (branch : Option ℕ) → IfSees branch (λ number. on.forms.op_of op ≡ None) → ⊥
+      seen-lacks None none = none
+      seen-lacks (Some number) none = knows (lacks op none)
+  lacks-none lacks sights (Ask from query) knows is = knows
+  lacks-none lacks sights (Look session from) knows is = is
+  lacks-none lacks sights (Fork new from) knows is = is
+  lacks-none lacks sights (Merge session from) knows is = is
+  lacks-none lacks sights (Join session from) knows is = is
+  lacks-none lacks sights (Drop session) knows is = is
+
   -- and what a longer history says
-  module _ (later : List (Move O R)) (grows : IsPrefix moves later) (bounds : IsWithin on.fixed.terms later) where
+  module _ (lacks : (op : PlainOp) → on.forms.op_of op ≡ None → op_kind op ≡ kind.Sequence) (later : List (Move O R)) (grows : IsPrefix moves later) (bounds : IsWithin on.fixed.terms later) where
     prefix-length : length moves ≤ length later
     prefix-length = let e = ap (λ (ms : List (Move O R)). length ms) grows.1 in omega (arith, length-append moves grows.0, e)
 
@@ -398,12 +415,13 @@ module _ {S O R Q A : Type 0} (on : Setting S O R Q A) (moves : List (Move O R))
         (says.0, omega (arith, says.0, says.1, prefix-length))
     says-may old drops (refusal.ValueTooLarge length) faults sights s knows is = knows-says sights s (machine.ValueTooLarge length) knows is
     says-may old drops (refusal.Collision address stored fresh) faults sights s knows is = knows-says sights s (machine.Collision address stored fresh) knows is
+    says-may old drops refusal.NoSequences faults sights s knows is = lacks-none lacks sights s knows is
     says-may old drops refusal.DiskFault faults sights s knows is = tt
     says-may old drops (refusal.Failed count) faults sights s knows is = tt
     says-may old drops refusal.Memory faults sights s knows is = tt
 
 -- what may become of a client
-module _ {S O R Q A : Type 0} (on : Setting S O R Q A) (old new : List (Move O R)) (drops : DropsNone old new)
+module _ {S O R Q A : Type 0} (on : Setting S O R Q A) (lacks : (op : PlainOp) → on.forms.op_of op ≡ None → op_kind op ≡ kind.Sequence) (old new : List (Move O R)) (drops : DropsNone old new)
     (within : (moves : List (Move O R)) → IsPrefix moves new → IsWithin on.fixed.terms moves)
     (main : (moves : List (Move O R)) → IsPrefix moves new → IsKeptBranch (store_of on.fixed.terms.origin moves).branches 0) where
   -- up to a first part that begins with the old history, no branch is dropped either
@@ -413,10 +431,10 @@ module _ {S O R Q A : Type 0} (on : Setting S O R Q A) (old new : List (Move O R
   pub may-come : (faults client steps number : ℕ) (outcome : Outcome) → ComesTo on old new faults (client_steps client steps number) outcome → MayComeTo on.fixed old new outcome
   may-come faults client steps number (Done places) is = tt
   may-come faults client steps number (Refused k r places) is =
-      says-may on is.before (within is.before is.begins) new is.begins (within new ([], append-nil new)) old (drops-none is.before is.begun is.begins) r faults is.sights is.step
-      (client-knows on.fixed.terms.origin old is.before (goes-on-from old is.before new drops is.begins) (main is.before is.begins) on.op_of client steps number k is.step places is.sights is.is_step is.played)
+      says-may on is.before (within is.before is.begins) lacks new is.begins (within new ([], append-nil new)) old (drops-none is.before is.begun is.begins) r faults is.sights is.step
+      (client-knows on.fixed.terms.origin old is.before (goes-on-from old is.before new drops is.begins) (main is.before is.begins) on.forms client steps number k is.step places is.sights is.is_step is.played)
       is.refused
-  may-come faults client steps number (Unseen k places) is = client-sees on.op_of on.fixed.terms.origin (length old) new client steps number k is.step places is.sights is.is_step is.played is.unseen
+  may-come faults client steps number (Unseen k places) is = client-sees on.forms on.fixed.terms.origin (length old) new client steps number k is.step places is.sights is.is_step is.played is.unseen
 
 -- each first part of a valid history is within the terms
 pub first-within : {S O R Q A : Type 0} (m : Meaning S O R Q A) (terms : Terms) (address : List ℕ → List ℕ) → KeepsLimits m → MakesFewerMoves m → HasFullyValidPrefixes m

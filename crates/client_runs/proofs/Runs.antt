@@ -1,5 +1,5 @@
 -- From what clients did at a shared store to what became of them over its core.
-use Rattle.std.proofs.Common.{zero, suc, ◌≡◌, ℕ, ◌+◌, ◌<◌, ◌≤◌, List, [], ◌∷◌, ◌++◌, length, refl, ap, sym, subst, ◌∙◌, Some, arith, append-nil, length-append, ⊎_elim}
+use Rattle.std.proofs.Common.{zero, suc, ◌≡◌, ℕ, ◌+◌, ◌<◌, ◌≤◌, List, [], ◌∷◌, ◌++◌, length, refl, ap, sym, subst, ◌∙◌, Option, Some, None, arith, append-nil, length-append, ⊎_elim}
 use Rattle.std.specs.Prelude.{slice_get, IfOk, OnErr, Ok, Err}
 use Rattle.std.specs.declared.result.Result.{Result}
 use Rattle.std.specs.List.{AllZip}
@@ -8,6 +8,7 @@ use Rattle.std.proofs.lemmas.Option.{slice_get_within}
 use Rattle.std.proofs.lemmas.Slice.Zip.{AllZip-long}
 use mathlib.Core.List.{IsPrefix}
 use Rattle.mrdt_model.specs.Laws.{Meaning}
+use Rattle.branch_front.specs.Lists.{AreAllWithin}
 use Rattle.branch_names.specs.declared.terms.Terms.{Terms}
 use Rattle.branch_names.specs.Heads.{IsKeptBranch}
 use Rattle.branch_history.specs.declared.moves.Move.{Move}
@@ -15,13 +16,16 @@ use Rattle.branch_history.specs.History.{store_of}
 use Rattle.branch_history.specs.Laws.{IsWithin}
 use Rattle.branch_history.proofs.Lists.{slice_get-append, slice_get-new}
 use Rattle.branch_machine.specs.Fixed.{fix}
+use Rattle.branch_doc.specs.declared.plain.Kind.TheVariants as kind
 use Rattle.branch_doc.specs.declared.plain.PlainOp.{PlainOp}
+use Rattle.branch_doc.specs.declared.plain.PlainQuery.{PlainQuery}
+use Rattle.branch_doc.specs.Forms.{op_kind}
 use Rattle.branch_script.specs.declared.step.Step.{Step}
 use Rattle.branch_gen.specs.Clients.{client_steps}
 use Rattle.branch_shared.specs.Keeps.{DropsNone}
 use Rattle.branch_shared.specs.Passes.{PassView}
 use Rattle.parallel_clients.specs.declared.outcome.Outcome.{Outcome}
-use Rattle.parallel_clients.specs.Clients.{Ran}
+use Rattle.parallel_clients.specs.Clients.{Ran, all_places}
 use Rattle.parallel_clients.specs.Outcomes.{Setting, setting, IsOutcome, StaysOutcome}
 use Rattle.client_runs.specs.Scripts.{scripts_of}
 use Rattle.client_runs.specs.Worked.{HaveRun, HaveWorked}
@@ -39,10 +43,10 @@ all-say P Q says (x ∷ xs) [] is = is
 all-say P Q says (x ∷ xs) (y ∷ ys) is = (says x y is.0, all-say P Q says xs ys is.1)
 
 -- a store's setting is that of its name
-pub named-setting : {S O R Q A : Type 0} (m : Meaning S O R Q A) (address : List ℕ → List ℕ) (op_of : PlainOp → O) (terms named : Terms) (opened given : ℕ) → terms ≡ named → opened ≡ given
-    → setting (fix m named address) op_of given ≡ setting (fix m terms address) op_of opened
-named-setting m address op_of terms named opened given same at =
-    ap (λ l. setting (fix m l address) op_of given) (sym same) ∙ ap (λ n. setting (fix m terms address) op_of n) (sym at)
+pub named-setting : {S O R Q A : Type 0} (m : Meaning S O R Q A) (address : List ℕ → List ℕ) (op_of : PlainOp → Option O) (query_of : PlainQuery → Option Q) (terms named : Terms) (opened given : ℕ) → terms ≡ named → opened ≡ given
+    → setting (fix m named address) op_of query_of given ≡ setting (fix m terms address) op_of query_of opened
+named-setting m address op_of query_of terms named opened given same at =
+    ap (λ l. setting (fix m l address) op_of query_of given) (sym same) ∙ ap (λ n. setting (fix m terms address) op_of query_of n) (sym at)
 
 -- what holds after want of memory, in other words
 pub failure-says : {T E : Type 0} (P Q : Type 0) (r : Result T E) → (P → Q) → OnErr r P → OnErr r Q
@@ -65,7 +69,7 @@ closed-length begun history first landed same is = ap (λ xs. length xs + landed
 pub record Over {S O R Q A E : Type 0} (on : Setting S O R Q A) (begun history : List (Move O R)) (since faults parts : ℕ) (scripts : List (List Step)) (result : Result (List Outcome) E) : Type 0 where
   pub old : PassView (Move O R)
   pub new : PassView (Move O R)
-  pub first : old ≡ record { moves = begun; mine = []; faults = since; parts = parts; receipts = 0 }
+  pub first : old ≡ record { moves = begun; mine = []; others = []; faults = since; parts = parts; receipts = 0 }
   pub ran : IfOk result (Ran on old new scripts)
   pub kept : OnErr result (new ≡ old)
   pub sees : IsPrefix new.moves history
@@ -76,6 +80,7 @@ pub record Over {S O R Q A E : Type 0} (on : Setting S O R Q A) (begun history :
   pub landed_are : length begun + landed ≡ length history
   pub receipts_are : receipts ≡ new.receipts
   pub all : new.parts ≡ parts → receipts ≡ landed
+  pub every : new.parts ≡ parts → AreAllWithin (length begun) (new.mine ++ new.others) (length history)
 
 module _ {S O R Q A E : Type 0} (on : Setting S O R Q A) (begun history : List (Move O R)) (since faults parts : ℕ) (scripts : List (List Step)) where
   goes-on : (old new : PassView (Move O R)) (r : Result (List Outcome) E) → IfOk r (Ran on old new scripts) → OnErr r (new ≡ old) → (old.faults ≤ new.faults) × (new.parts ≡ old.parts)
@@ -93,10 +98,12 @@ module _ {S O R Q A E : Type 0} (on : Setting S O R Q A) (begun history : List (
         let rise = held.0 in
         omega (arith, at, known, rise)
 
-    -- the pass holds all parts again, so its receipts are all moves that landed
+    -- the pass holds all parts again, so its receipts are all moves that landed, and it claims each
+    parts_are : over.new.parts ≡ parts
+    parts_are = held.1 ∙ ap (λ (p : PassView (Move O R)). p.parts) over.first
+
     counted : length begun + over.new.receipts ≡ length history
     counted =
-        let parts_are : over.new.parts ≡ parts = held.1 ∙ ap (λ (p : PassView (Move O R)). p.parts) over.first in
         let all = over.all parts_are in
         let landed = over.landed_are in
         let receipts = over.receipts_are in
@@ -120,10 +127,15 @@ module _ {S O R Q A E : Type 0} (on : Setting S O R Q A) (begun history : List (
         let fresh = ap (λ (p : PassView (Move O R)). p.receipts) over.first in
         let more = ap (λ (p : PassView (Move O R)). p.receipts) ran.rest in
         let size = counted in
+        let claims : over.new.mine ++ over.new.others ≡ all_places outcomes =
+        ap (λ (p : PassView (Move O R)). p.mine ++ p.others) ran.rest ∙ ap (λ (p : PassView (Move O R)). p.mine ++ (p.others ++ all_places outcomes)) over.first
+        in
         record {
           each = all-say (IsOutcome on over.old.moves over.new.moves over.new.faults) (IsOutcome on begun history faults)
               (λ steps outcome is. subst (λ (ms : List (Move O R)). IsOutcome on ms history faults steps outcome) same (stays over.old.moves over.new.moves history over.new.faults faults steps outcome over.sees over.known is))
               scripts outcomes ran.each;
+          apart = ran.apart;
+          all = subst (λ (ns : List ℕ). AreAllWithin (length begun) ns (length history)) claims (over.every parts_are);
           counted = omega (arith, fresh, more, size);
         })
         over.ran
@@ -164,7 +176,7 @@ beside Q (x ∷ xs) (z ∷ ys) zero y all is = let same : z ≡ y = cc in record
 beside Q (x ∷ xs) (z ∷ ys) (suc k) y all is = let rest = beside Q xs ys k y all.1 is in record { first = rest.first; at = rest.at; holds = rest.holds }
 
 -- clients of drawn steps, over a valid history
-module _ {S O R Q A : Type 0} (on : Setting S O R Q A) (old new : List (Move O R)) (drops : DropsNone old new)
+module _ {S O R Q A : Type 0} (on : Setting S O R Q A) (lacks : (op : PlainOp) → on.forms.op_of op ≡ None → op_kind op ≡ kind.Sequence) (old new : List (Move O R)) (drops : DropsNone old new)
     (within : (moves : List (Move O R)) → IsPrefix moves new → IsWithin on.fixed.terms moves)
     (main : (moves : List (Move O R)) → IsPrefix moves new → IsKeptBranch (store_of on.fixed.terms.origin moves).branches 0) (faults count steps number : ℕ) where
   pub have-worked : (outcomes : List Outcome) → HaveRun on old new faults (scripts_of count steps number) outcomes → HaveWorked on old new faults count steps number outcomes
@@ -173,6 +185,8 @@ module _ {S O R Q A : Type 0} (on : Setting S O R Q A) (old new : List (Move O R
     each = λ client outcome at.
         let script = beside (IsOutcome on old new faults) (scripts_of count steps number) outcomes client outcome run.each at in
         let is : IsOutcome on old new faults (client_steps client steps number) outcome = subst (λ steps. IsOutcome on old new faults steps outcome) (scripts-at count steps number client script.first script.at) script.holds in
-        record { is = is; may = may-come on old new drops within main faults client steps number outcome is.comes };
+        record { is = is; may = may-come on lacks old new drops within main faults client steps number outcome is.comes };
+    apart = run.apart;
+    all = run.all;
     counted = run.counted;
   }

@@ -37,10 +37,10 @@ pub struct Work {
 /// Each client has one outcome, by the history that the core comes back with: what it played behind the old history, or
 /// which step was refused, and why. None is refused for a branch that is not there, nor for one that was dropped since
 /// they began, and each of its sessions has looked.
-/// As many moves lie behind the old history as the clients have places in all; that no two of them have one in common is
-/// in no clause. A client tells that the disk failed only where it has, since the core was opened. Where memory is short
-/// before the first client begins, that is the answer, and no move is made. That clients work in threads of their own is
-/// how the code goes, and in no clause.
+/// The places of all clients are the numbers of the moves behind the old history, each once, so no two clients have one in
+/// common. A client tells that the disk failed only where it has, since the core was opened. Where memory is short before
+/// the first client begins, that is the answer, and no move is made. That clients work in threads of their own is how the
+/// code goes, and in no clause.
 pub fn run_on<
     T: Plain + Send + Sync,
     D: Disk + Drop + Send,
@@ -53,7 +53,7 @@ pub fn run_on<
     ensures opened { D.faults result.core.opened ≡ D.faults core.opened }
     ensures faults { D.faults core.disk ≤ D.faults result.core.disk }
     ensures worked { IfOk result.outcomes
-        (HaveWorked (setting (fix T.meaning core.terms A.address) T.op_of (D.faults core.opened))
+        (HaveWorked (setting (fix T.meaning core.terms A.address) T.op_of T.query_of (D.faults core.opened))
         core.history result.core.history (faults_since D.faults result.core) work.count work.steps
         work.number) }
     ensures idle { OnErr result.outcomes (result.core.history ≡ core.history) }

@@ -29,8 +29,8 @@ pub struct Finished<T: Mrdt, D: Disk + Drop, A: Address> {
     pub outcomes: Result<Listing<Outcome>, Memory>,
 }
 
-/// Runs the scripts over the store, and closes it when all are done: its last pass holds all parts then, so it counted
-/// each move that landed.
+/// Runs the scripts over the store, and closes it when all are done: its last pass holds all parts then, so it claims each
+/// move that landed, once.
 pub(crate) fn share<
     T: Plain + Send + Sync,
     D: Disk + Drop + Send,
@@ -50,7 +50,7 @@ pub(crate) fn share<
     ensures later { D.faults result.core.opened ≤ D.faults result.core.disk }
     ensures faults { faults_since D.faults blank.core ≤ faults_since D.faults result.core }
     ensures ran { IfOk result.outcomes
-        (HaveRun (setting (fix T.meaning blank.core.terms A.address) T.op_of blank.opened)
+        (HaveRun (setting (fix T.meaning blank.core.terms A.address) T.op_of T.query_of blank.opened)
         blank.core.history result.core.history (faults_since D.faults result.core) scripts.now) }
     ensures idle { OnErr result.outcomes (result.core.history ≡ blank.core.history) }
 {

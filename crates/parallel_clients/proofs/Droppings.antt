@@ -71,6 +71,8 @@ module _ {S O R Q A : Type 0} (on : Setting S O R Q A) (old new : PassView (Move
             seen = at.seen;
             last = at.takes.history ∙ ap (λ (t : machine.Turn O R A). at.before ++ t.made) turned.1 ∙ ap (λ m. at.before ++ m ∷ []) is;
             noted = note ∙ ap (λ n. places ++ n ∷ []) at.takes.counted.0;
+            mine = ap (λ p. p.mine) at.passes.0 ∙ ap (λ n. old.mine ++ n ∷ []) at.takes.counted.0;
+            others = ap (λ p. p.others) at.passes.0;
             receipts = ap (λ p. p.receipts) at.passes.0;
             parts = ap (λ p. p.parts) at.passes.0;
           };

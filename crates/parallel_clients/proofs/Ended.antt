@@ -6,7 +6,7 @@ use Rattle.std.proofs.lemmas.List.{drop_all, take_all}
 use Rattle.std.proofs.lemmas.List.Sums.{sum_by_push}
 use Rattle.std.proofs.lemmas.Slice.Zip.{all_zipped_more}
 use mathlib.Core.List.{IsPrefix}
-use Rattle.branch_front.specs.Lists.{longer}
+use Rattle.branch_front.specs.Lists.{longer, AreDistinct}
 use Rattle.branch_front.proofs.Prefixes.{prefix_self, prefix_trans}
 use Rattle.branch_history.specs.declared.moves.Move.{Move}
 use Rattle.branch_machine.specs.Validity.{IsFullyValid}
@@ -15,7 +15,9 @@ use Rattle.parallel_clients.specs.declared.clients.Entrant.{Entrant}
 use Rattle.parallel_clients.specs.declared.outcome.Outcome.{Outcome}
 use Rattle.parallel_clients.specs.Entrants.{HaveEntered, HasRunOwn, IsOwnOutcome, HaveLeft}
 use Rattle.parallel_clients.specs.Outcomes.{Setting, places_of}
+use Rattle.parallel_clients.specs.Clients.{all_places}
 use Rattle.parallel_clients.proofs.Grown.{outcome-later}
+use Rattle.parallel_clients.proofs.Places.{all_places-more, last-distinct}
 
 -- the items of a list before one of them, and with it
 module _ {A : Type 0} (before after all : List A) (x : A) (is : before ++ x ∷ after ≡ all) where
@@ -65,8 +67,8 @@ module _ {M : Type 0} (from mid : PassView M) where
       let fewer : (from.parts - 2 * count) - 2 ≡ from.parts - 2 * (count + 1) = omega arith in
       first ∙ ap (λ (n : ℕ). record from { parts = n }) fewer
 
-  pub ready-more : (pass : PassView M) (count : ℕ) → HaveEntered count from mid → pass ≡ record mid { mine = []; parts = 2; receipts = 0 } → pass ≡ record from { mine = []; parts = 2; receipts = 0 }
-  ready-more pass count entered is = is ∙ ap (λ (p : PassView M). record p { mine = []; parts = 2; receipts = 0 }) entered
+  pub ready-more : (pass : PassView M) (count : ℕ) → HaveEntered count from mid → pass ≡ record mid { mine = []; others = []; parts = 2; receipts = 0 } → pass ≡ record from { mine = []; others = []; parts = 2; receipts = 0 }
+  ready-more pass count entered is = is ∙ ap (λ (p : PassView M). record p { mine = []; others = []; parts = 2; receipts = 0 }) entered
 
 -- one client more leaves
 
@@ -78,18 +80,26 @@ module _ {S O R Q A : Type 0} (on : Setting S O R Q A) (from : PassView (Move O 
     valid = λ is. is;
     faults = omega arith;
     mine = refl;
+    others = sym (append-nil from.others);
+    once = λ n. omega arith;
     parts = omega arith;
     counted = omega arith;
   }
 
   pub left-more : (now after : PassView (Move O R)) (entrants : List (Entrant (PassView (Move O R)))) (outcomes : List Outcome) (entrant : Entrant (PassView (Move O R)))
       → HaveLeft on from now entrants outcomes → HasRunOwn on from entrant
-      → after ≡ record now { moves = longer now.moves entrant.pass.moves; faults = max now.faults entrant.pass.faults; parts = now.parts + entrant.pass.parts; receipts = now.receipts + entrant.pass.receipts }
-      → IsPrefix now.moves after.moves → IsPrefix entrant.pass.moves after.moves
+      → after ≡ record now { moves = longer now.moves entrant.pass.moves; others = now.others ++ (entrant.pass.mine ++ entrant.pass.others); faults = max now.faults entrant.pass.faults; parts = now.parts + entrant.pass.parts; receipts = now.receipts + entrant.pass.receipts }
+      → IsPrefix now.moves after.moves → IsPrefix entrant.pass.moves after.moves → AreDistinct (after.mine ++ after.others)
       → HaveLeft on from after (entrants ++ entrant ∷ []) (outcomes ++ entrant.outcome ∷ [])
-  left-more now after entrants outcomes entrant left ran is this that =
+  left-more now after entrants outcomes entrant left ran is this that once =
       let moves : after.moves ≡ longer now.moves entrant.pass.moves = ap (λ p. p.moves) is in
       let faults : after.faults ≡ max now.faults entrant.pass.faults = ap (λ p. p.faults) is in
+      let places : List ℕ = places_of entrant.outcome in
+      let claimed : entrant.pass.mine ++ entrant.pass.others ≡ places = ap (λ ms. ms ++ entrant.pass.others) ran.mine ∙ (ap (λ ms. places ++ ms) ran.others ∙ append-nil places) in
+      let others : after.others ≡ from.others ++ all_places (outcomes ++ entrant.outcome ∷ []) =
+      ap (λ p. p.others) is ∙ (ap (λ ms. now.others ++ ms) claimed ∙ (ap (λ ms. ms ++ places) left.others
+      ∙ (append_assoc from.others (all_places outcomes) places ∙ ap (λ ms. from.others ++ ms) (sym (all_places-more outcomes entrant.outcome)))))
+      in
       let parts : after.parts ≡ now.parts + entrant.pass.parts = ap (λ p. p.parts) is in
       let receipts : after.receipts ≡ now.receipts + entrant.pass.receipts = ap (λ p. p.receipts) is in
       let fewer : now.faults ≤ after.faults = omega arith in
@@ -106,6 +116,8 @@ module _ {S O R Q A : Type 0} (on : Setting S O R Q A) (from : PassView (Move O 
         valid = λ v. subst (IsFullyValid on.fixed) (sym moves) (of-longer (IsFullyValid on.fixed) now.moves entrant.pass.moves (left.valid v) (ran.valid v));
         faults = let f = left.faults in omega arith;
         mine = ap (λ p. p.mine) is ∙ left.mine;
+        others = others;
+        once = last-distinct after.mine from.others (all_places (outcomes ++ entrant.outcome ∷ [])) (subst (λ ms. AreDistinct (after.mine ++ ms)) others once);
         parts = let e = one-more entrants entrant in omega arith;
         counted = let push = sum_by_push (λ o. length (places_of o)) outcomes entrant.outcome in omega arith;
       }

@@ -26,7 +26,7 @@ use Rattle.parallel_clients.specs.declared.sessions.Session.{Session}
 use Rattle.parallel_clients.specs.declared.landing.Landing.{Landing}
 use Rattle.parallel_clients.specs.declared.landing.Landing.TheVariants.{Moved, Stale, Same}
 use Rattle.parallel_clients.specs.declared.outcome.ClientRefusal.{ClientRefusal}
-use Rattle.parallel_clients.specs.declared.outcome.ClientRefusal.TheVariants.{UnknownBranch, Dropped, KeepsMain, Exhausted, FullCommits, FullBranches, FullMoves, ValueTooLarge, Collision, DiskFault, Failed, Memory}
+use Rattle.parallel_clients.specs.declared.outcome.ClientRefusal.TheVariants.{UnknownBranch, Dropped, KeepsMain, Exhausted, FullCommits, FullBranches, FullMoves, ValueTooLarge, Collision, NoSequences, DiskFault, Failed, Memory}
 use Rattle.parallel_clients.specs.Played.{Sights, AreNamedHeads, WereHeads, IsMoveOf, IfSees}
 use Rattle.parallel_clients.specs.Outcomes.{Setting, RefusesLook, RefusesJoin, RefusesStep, StepRefused}
 use Rattle.parallel_clients.specs.Sessions.{IsSession, HasNothing, IsLanding, RefusesMade, IsLandRefused, IsTriedJoin, IsJoinUnready, ungrouped_as}
@@ -148,6 +148,7 @@ module _ {S O R Q A : Type 0} (on : Setting S O R Q A) (old mid : PassView (Move
         by (FullMoves count) h = no_turn (machine.FullMoves count) h
         by (ValueTooLarge length) h = absurd h
         by (Collision address stored fresh) h = no_turn (machine.Collision address stored fresh) h
+        by NoSequences h = absurd h
         by DiskFault h = h
         by (Failed count) h = h
         by Memory h = h
@@ -211,6 +212,7 @@ join-unready on old mid grows seen s is sights session from sees (FullCommits co
 join-unready on old mid grows seen s is sights session from sees (FullBranches count) h = absurd h
 join-unready on old mid grows seen s is sights session from sees (FullMoves count) h = absurd h
 join-unready on old mid grows seen s is sights session from sees (Collision address stored fresh) h = absurd h
+join-unready on old mid grows seen s is sights session from sees NoSequences h = absurd h
 join-unready on old mid grows seen s is sights session from sees DiskFault h = absurd h
 join-unready on old mid grows seen s is sights session from sees (Failed count) h = absurd h
 join-unready on old mid grows seen s is sights session from sees Memory h = tt

@@ -10,6 +10,7 @@ pub mod Mergings
 pub mod Joinings
 pub mod Droppings
 pub mod Runs
+pub mod Places
 pub mod Ended
 pub mod Started
 pub mod Crossed

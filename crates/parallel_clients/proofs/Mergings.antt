@@ -1,5 +1,5 @@
 -- What became of a try to merge.
-use Rattle.std.proofs.Common.{◌≡◌, ℕ, ◌+◌, ◌≤◌, ◌⊎◌, inl, inr, ⊎_elim, arith, length, length-append, List, [], ◌∷◌, refl, ap, sym, subst, ◌∙◌, Option, Some, IsTrue}
+use Rattle.std.proofs.Common.{◌≡◌, ℕ, ◌+◌, ◌≤◌, ◌⊎◌, inl, inr, ⊎_elim, arith, length, length-append, List, [], ◌∷◌, ◌++◌, refl, ap, sym, subst, ◌∙◌, Option, Some, IsTrue}
 use mathlib.Core.List.{IsPrefix}
 use Rattle.branch_front.proofs.Prefixes.{prefix_self, prefix_trans}
 use Rattle.branch_names.specs.declared.terms.Terms.{Terms}
@@ -24,7 +24,7 @@ use Rattle.parallel_clients.specs.declared.sessions.Session.{Session}
 use Rattle.parallel_clients.specs.declared.landing.Landing.{Landing}
 use Rattle.parallel_clients.specs.declared.landing.Landing.TheVariants.{Moved, Stale, Same}
 use Rattle.parallel_clients.specs.declared.outcome.ClientRefusal.{ClientRefusal}
-use Rattle.parallel_clients.specs.declared.outcome.ClientRefusal.TheVariants.{UnknownBranch, Dropped, KeepsMain, Exhausted, FullCommits, FullBranches, FullMoves, ValueTooLarge, Collision, DiskFault, Failed, Memory}
+use Rattle.parallel_clients.specs.declared.outcome.ClientRefusal.TheVariants.{UnknownBranch, Dropped, KeepsMain, Exhausted, FullCommits, FullBranches, FullMoves, ValueTooLarge, Collision, NoSequences, DiskFault, Failed, Memory}
 use Rattle.parallel_clients.specs.Played.{Sights, WasHead, HadHead, IfSees}
 use Rattle.parallel_clients.specs.Outcomes.{Setting, RefusesStep, StepRefused}
 use Rattle.parallel_clients.specs.Sessions.{Sessions, IsSession, IsWaiting, Advances, HasMoved, HasStayed, HasMerged, HasSame, IsLanding, RefusesMade, IsLandRefused, IsTriedMerge}
@@ -41,6 +41,8 @@ moved-earlier made old mid new places after grows seen moved = record {
   seen = prefix_trans old.moves mid.moves moved.before grows moved.seen;
   last = moved.last;
   noted = moved.noted;
+  mine = moved.mine ∙ ap (λ p. p.mine ++ length new.moves ∷ []) seen;
+  others = moved.others ∙ ap (λ p. p.others) seen;
   receipts = moved.receipts ∙ ap (λ p. p.receipts + 1) seen;
   parts = moved.parts ∙ ap (λ p. p.parts) seen;
 }
@@ -139,6 +141,7 @@ module _ {S O R Q A : Type 0} (on : Setting S O R Q A) (old mid : PassView (Move
         by (FullMoves count) h = no_turn (machine.FullMoves count) h
         by (ValueTooLarge length) h = absurd h
         by (Collision address stored fresh) h = no_turn (machine.Collision address stored fresh) h
+        by NoSequences h = absurd h
         by DiskFault h = h
         by (Failed count) h = h
         by Memory h = h
@@ -195,6 +198,10 @@ module _ {O R : Type 0} (terms : Terms) (old mid after : PassView (Move O R)) (s
           faults = let f = wait.faults in omega arith;
           parts = ap (λ p. p.parts) rest ∙ moved.parts ∙ ap (λ p. p.parts) wait.rest;
           counted = let m = moved.receipts in omega arith;
+          mine = λ own.
+              let had : mid.mine ≡ waited = ap (λ p. p.mine) wait.rest ∙ (own ∙ sym wait.noted) in
+              ap (λ p. p.mine) rest ∙ (moved.mine ∙ (ap (λ ms. ms ++ length after.moves ∷ []) had ∙ sym moved.noted));
+          others = ap (λ p. p.others) rest ∙ (moved.others ∙ ap (λ p. p.others) wait.rest);
         }
 
     pub merged-advances : (sight : Option ℕ) (from : List ℕ) → HasMerged terms.origin sight from mid after waited noted → Advances old new places noted

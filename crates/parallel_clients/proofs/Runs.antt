@@ -6,13 +6,13 @@ use mathlib.Core.List.{IsPrefix}
 use Rattle.branch_front.proofs.Prefixes.{prefix_self, prefix_trans}
 use Rattle.branch_names.specs.declared.terms.Terms.{Terms}
 use Rattle.branch_history.specs.declared.moves.Move.{Move}
-use Rattle.branch_doc.specs.declared.plain.PlainOp.{PlainOp}
 use Rattle.branch_script.specs.declared.step.Step.{Step}
 use Rattle.branch_shared.specs.Passes.{PassView}
 use Rattle.parallel_clients.specs.declared.landing.Stop.{Stop}
 use Rattle.parallel_clients.specs.declared.landing.Stop.TheVariants.{Refused, Unseen}
 use Rattle.parallel_clients.specs.declared.outcome.ClientRefusal.TheVariants.{Memory}
 use Rattle.parallel_clients.specs.declared.outcome.Outcome.TheVariants.{Done}
+use Rattle.parallel_clients.specs.Forms.{Forms}
 use Rattle.parallel_clients.specs.Played.{no_sights, PlayedTo}
 use Rattle.parallel_clients.specs.Outcomes.{Setting, ArePast, IsOutcome}
 use Rattle.parallel_clients.specs.Sessions.{Sessions, AreSessions, sights_of, stage_of, PlaysOn, Advances, Stops, stopped_at, IsPlaying}
@@ -30,51 +30,53 @@ advances-both a b c xs ys zs p q = record {
   faults = let f = p.faults in let g = q.faults in omega arith;
   parts = q.parts ∙ p.parts;
   counted = let f = p.counted in let g = q.counted in omega arith;
+  mine = λ noted. q.mine (p.mine noted);
+  others = q.others ∙ p.others;
 }
 
 pub advances-none : {M : Type 0} (a : PassView M) (xs : List ℕ) → Advances a a xs xs
-advances-none a xs = record { seen = prefix_self a.moves; faults = omega arith; parts = refl; counted = refl }
+advances-none a xs = record { seen = prefix_self a.moves; faults = omega arith; parts = refl; counted = refl; mine = λ noted. noted; others = refl }
 
-module _ {O R : Type 0} (op_of : PlainOp → O) (terms : Terms) where
+module _ {O R Q : Type 0} (forms : Forms O Q) (terms : Terms) where
   -- before the first step
-  pub playing-none : (pass : PassView (Move O R)) → IsPlaying op_of terms [] pass pass [] []
+  pub playing-none : (pass : PassView (Move O R)) → IsPlaying forms terms [] pass pass [] []
   playing-none pass = record {
-    plays = plays-none op_of terms.origin (record { moves = pass.moves; sights = no_sights; places = [] });
+    plays = plays-none forms terms.origin (record { moves = pass.moves; sights = no_sights; places = [] });
     sessions_are = record { each = λ name s found. absurd (cc) };
     advances = advances-none pass [];
   }
 
   -- one step more
-  pub playing-more : (done : List Step) (step : Step) (old mid new : PassView (Move O R)) (before after : Sessions (Move O R)) (places noted : List ℕ) → IsPlaying op_of terms done old mid before places
-      → PlaysOn op_of terms.origin (step ∷ []) (stage_of mid before places) (stage_of new after noted) → AreSessions terms new.moves after → Advances mid new places noted → IsPlaying op_of terms (done ++ step ∷ []) old new after noted
+  pub playing-more : (done : List Step) (step : Step) (old mid new : PassView (Move O R)) (before after : Sessions (Move O R)) (places noted : List ℕ) → IsPlaying forms terms done old mid before places
+      → PlaysOn forms terms.origin (step ∷ []) (stage_of mid before places) (stage_of new after noted) → AreSessions terms new.moves after → Advances mid new places noted → IsPlaying forms terms (done ++ step ∷ []) old new after noted
   playing-more done step old mid new before after places noted playing plays are advances = record {
-    plays = plays-both op_of terms.origin done (step ∷ []) (record { moves = old.moves; sights = no_sights; places = [] }) (stage_of mid before places) (stage_of new after noted) playing.plays plays;
+    plays = plays-both forms terms.origin done (step ∷ []) (record { moves = old.moves; sights = no_sights; places = [] }) (stage_of mid before places) (stage_of new after noted) playing.plays plays;
     sessions_are = are;
     advances = advances-both old mid new [] places noted playing.advances advances;
   }
 
-  module _ (done : List Step) (old new : PassView (Move O R)) (sessions : Sessions (Move O R)) (places : List ℕ) (playing : IsPlaying op_of terms done old new sessions places) where
+  module _ (done : List Step) (old new : PassView (Move O R)) (sessions : Sessions (Move O R)) (places : List ℕ) (playing : IsPlaying forms terms done old new sessions places) where
     -- what was played, at any longer history
-    playing-played : (later : List (Move O R)) → IsPrefix new.moves later → PlayedTo op_of terms.origin (length old.moves) done places later (sights_of sessions)
-    playing-played later grows = plays-played op_of terms.origin done (record { moves = old.moves; sights = no_sights; places = [] }) (stage_of new sessions places) later playing.plays refl refl grows
+    playing-played : (later : List (Move O R)) → IsPrefix new.moves later → PlayedTo forms terms.origin (length old.moves) done places later (sights_of sessions)
+    playing-played later grows = plays-played forms terms.origin done (record { moves = old.moves; sights = no_sights; places = [] }) (stage_of new sessions places) later playing.plays refl refl grows
 
     playing-past : ArePast (length old.moves) places
     playing-past = subst (ArePast (length old.moves)) (sym playing.plays.added) playing.plays.past
 
 -- what a client comes to
 module _ {S O R Q A : Type 0} (on : Setting S O R Q A) (steps : List Step) (old mid : PassView (Move O R)) (sessions : Sessions (Move O R)) (places : List ℕ) where
-  pub done-became : IsPlaying on.op_of on.fixed.terms steps old mid sessions places → IsOutcome on old.moves mid.moves mid.faults steps (Done places)
+  pub done-became : IsPlaying on.forms on.fixed.terms steps old mid sessions places → IsOutcome on old.moves mid.moves mid.faults steps (Done places)
   done-became playing = record {
-    comes = (sights_of sessions, playing-played on.op_of on.fixed.terms steps old mid sessions places playing mid.moves (prefix_self mid.moves));
-    past = playing-past on.op_of on.fixed.terms steps old mid sessions places playing;
+    comes = (sights_of sessions, playing-played on.forms on.fixed.terms steps old mid sessions places playing mid.moves (prefix_self mid.moves));
+    past = playing-past on.forms on.fixed.terms steps old mid sessions places playing;
   }
 
-  module _ (number : ℕ) (step : Step) (is_step : slice_get steps number ≡ Some step) (playing : IsPlaying on.op_of on.fixed.terms (take number steps) old mid sessions places) where
-    played-at : (later : List (Move O R)) → IsPrefix mid.moves later → PlayedTo on.op_of on.fixed.terms.origin (length old.moves) (take number steps) places later (sights_of sessions)
-    played-at later grows = playing-played on.op_of on.fixed.terms (take number steps) old mid sessions places playing later grows
+  module _ (number : ℕ) (step : Step) (is_step : slice_get steps number ≡ Some step) (playing : IsPlaying on.forms on.fixed.terms (take number steps) old mid sessions places) where
+    played-at : (later : List (Move O R)) → IsPrefix mid.moves later → PlayedTo on.forms on.fixed.terms.origin (length old.moves) (take number steps) places later (sights_of sessions)
+    played-at later grows = playing-played on.forms on.fixed.terms (take number steps) old mid sessions places playing later grows
 
     past-at : ArePast (length old.moves) places
-    past-at = playing-past on.op_of on.fixed.terms (take number steps) old mid sessions places playing
+    past-at = playing-past on.forms on.fixed.terms (take number steps) old mid sessions places playing
 
     pub stopped-became : (new : PassView (Move O R)) (noted : List ℕ) (stop : Stop) → Advances mid new places noted → Stops on (sights_of sessions) step mid new places noted stop
         → IsOutcome on old.moves new.moves new.faults steps (stopped_at number stop noted)
@@ -88,7 +90,7 @@ module _ {S O R Q A : Type 0} (on : Setting S O R Q A) (steps : List Step) (old 
             begun = prefix_trans old.moves mid.moves new.moves playing.plays.grown advances.seen;
             begins = prefix_self new.moves;
             sights = sights_of sessions;
-            played = subst (λ ps. PlayedTo on.op_of on.fixed.terms.origin (length old.moves) (take number steps) ps new.moves (sights_of sessions)) (sym same) (played-at new.moves advances.seen);
+            played = subst (λ ps. PlayedTo on.forms on.fixed.terms.origin (length old.moves) (take number steps) ps new.moves (sights_of sessions)) (sym same) (played-at new.moves advances.seen);
             refused = stops.why;
           };
           past = subst (ArePast (length old.moves)) (sym same) past-at;
@@ -100,7 +102,7 @@ module _ {S O R Q A : Type 0} (on : Setting S O R Q A) (steps : List Step) (old 
             step = step;
             is_step = is_step;
             sights = sights_of sessions;
-            played = subst (λ ps. PlayedTo on.op_of on.fixed.terms.origin (length old.moves) (take number steps) ps new.moves (sights_of sessions)) (sym same) (played-at new.moves advances.seen);
+            played = subst (λ ps. PlayedTo on.forms on.fixed.terms.origin (length old.moves) (take number steps) ps new.moves (sights_of sessions)) (sym same) (played-at new.moves advances.seen);
             unseen = stops.why;
           };
           past = subst (ArePast (length old.moves)) (sym same) past-at;

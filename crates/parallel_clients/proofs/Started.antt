@@ -1,5 +1,5 @@
 -- Clients from their scripts to what became of them.
-use Rattle.std.proofs.Common.{zero, suc, ◌≡◌, ℕ, ◌+◌, ◌*◌, ◌-◌, ◌<◌, ◌≤◌, List, [], ◌∷◌, length, vec_capacity, ap, sym, subst, ◌∙◌, arith}
+use Rattle.std.proofs.Common.{zero, suc, ◌≡◌, ℕ, ◌+◌, ◌*◌, ◌-◌, ◌<◌, ◌≤◌, List, [], ◌∷◌, ◌++◌, length, vec_capacity, ap, sym, subst, ◌∙◌, arith}
 use Rattle.std.specs.Prelude.{slice_index_or}
 use Rattle.std.specs.List.{AllByRecursion, AllZip}
 use Rattle.std.proofs.lemmas.Slice.Zip.{AllZip-long}
@@ -11,9 +11,10 @@ use Rattle.branch_shared.specs.Passes.{PassView}
 use Rattle.parallel_clients.specs.declared.clients.Entrant.{Entrant}
 use Rattle.parallel_clients.specs.declared.clients.Seat.{Seat}
 use Rattle.parallel_clients.specs.declared.outcome.Outcome.{Outcome}
-use Rattle.parallel_clients.specs.Clients.{Ran, count_places}
+use Rattle.parallel_clients.specs.Clients.{Ran, all_places, count_places}
 use Rattle.parallel_clients.specs.Entrants.{IsSeat, IsReady, HaveEntered, HasWorked, HasRunOwn, IsOwnOutcome, HaveLeft}
 use Rattle.parallel_clients.specs.Outcomes.{Setting, IsOutcome}
+use Rattle.parallel_clients.proofs.Places.{places-apart}
 
 -- two relations one after the other
 zip-through : {A B C : Type 0} (P : A → B → Type 0) (Q : B → C → Type 0) (R : A → C → Type 0) → ((x : A) (y : B) (z : C) → P x y → Q y z → R x z)
@@ -46,7 +47,7 @@ record Starts {M : Type 0} (from : PassView M) (steps : List Step) (entrant : En
   pub steps_are : entrant.seat.steps.now ≡ steps
   pub none : entrant.seat.places.items ≡ []
   pub room : length entrant.seat.steps.now ≤ vec_capacity entrant.seat.places
-  pub pass_is : entrant.pass ≡ record from { mine = []; parts = 2; receipts = 0 }
+  pub pass_is : entrant.pass ≡ record from { mine = []; others = []; parts = 2; receipts = 0 }
 
 -- a client that has room for its places, and has taken none
 abbrev pub HasRoom : {M : Type 0} → Entrant M → Type 0
@@ -100,6 +101,8 @@ module _ {S O R Q A : Type 0} (on : Setting S O R Q A) (from mid : PassView (Mov
               (subst (λ ms. IsOutcome on ms after.pass.moves after.pass.faults before.seat.steps.now after.outcome) began worked.became);
           seen = subst (λ ms. IsPrefix ms after.pass.moves) began worked.advances.seen;
           parts = worked.advances.parts ∙ ap (λ p. p.parts) starts.pass_is;
+          mine = worked.advances.mine (ap (λ p. p.mine) starts.pass_is);
+          others = worked.advances.others ∙ ap (λ p. p.others) starts.pass_is;
           counted = let c = worked.advances.counted in omega arith;
           valid = λ is. worked.valid (subst (IsFullyValid on.fixed) (sym began) is);
         };
@@ -127,6 +130,7 @@ module _ {S O R Q A : Type 0} (on : Setting S O R Q A) (from mid : PassView (Mov
     pub ran-all : (new : PassView (Move O R)) (outcomes : List Outcome) → HaveEntered (length seats) from mid → 2 * length seats < from.parts → HaveLeft on mid new after outcomes → Ran on from new scripts outcomes
     ran-all new outcomes entered many left =
         let mine : new.mine ≡ from.mine = left.mine ∙ ap (λ p. p.mine) entered in
+        let others : new.others ≡ from.others ++ all_places outcomes = left.others ∙ ap (λ p. p.others ++ all_places outcomes) entered in
         let kept : mid.parts ≡ from.parts - 2 * length seats = ap (λ p. p.parts) entered in
         let had : mid.receipts ≡ from.receipts = ap (λ p. p.receipts) entered in
         let known : mid.faults ≡ from.faults = ap (λ p. p.faults) entered in
@@ -140,7 +144,9 @@ module _ {S O R Q A : Type 0} (on : Setting S O R Q A) (from mid : PassView (Mov
           seen = subst (λ ms. IsPrefix ms new.moves) moves left.seen;
           valid = λ is. left.valid (subst (IsFullyValid on.fixed) (sym moves) is);
           faults = let f = left.faults in omega arith;
+          apart = places-apart outcomes left.once;
           rest = ap (λ (m : List ℕ). record new { mine = m }) mine
-              ∙ ap (λ (n : ℕ). record new { mine = from.mine; parts = n }) parts
-              ∙ ap (λ (n : ℕ). record new { mine = from.mine; parts = from.parts; receipts = n }) receipts;
+              ∙ ap (λ (m : List ℕ). record new { mine = from.mine; others = m }) others
+              ∙ ap (λ (n : ℕ). record new { mine = from.mine; others = from.others ++ all_places outcomes; parts = n }) parts
+              ∙ ap (λ (n : ℕ). record new { mine = from.mine; others = from.others ++ all_places outcomes; parts = from.parts; receipts = n }) receipts;
         }

@@ -6,10 +6,10 @@ use Rattle.branch_front.proofs.Prefixes.{prefix_self, prefix_trans, prefix_lengt
 use Rattle.branch_history.specs.declared.moves.Move.{Move}
 use Rattle.branch_history.specs.declared.moves.Move.TheVariants as move
 use Rattle.branch_history.proofs.Lists.{slice_get-append, slice_get-new}
-use Rattle.branch_doc.specs.declared.plain.PlainOp.{PlainOp}
 use Rattle.branch_script.specs.declared.step.Step.{Step}
 use Rattle.branch_script.specs.declared.step.Step.TheVariants.{Look, Fork, Merge, Join, Do, Ask, Drop}
-use Rattle.parallel_clients.specs.Played.{Sights, no_sights, with_sight, IsMoveAt, WasNamed, WasHead, HadHead, WereHeads, HasNumber, HasBranch, IsDone, IsForked, IsMerged, Joins, IsJoined, IsTaken, IsReached, BringsNothing, TakesOne, TakesNone, IfSees, PlayedFrom, PlayedTo}
+use Rattle.parallel_clients.specs.Forms.{Forms}
+use Rattle.parallel_clients.specs.Played.{Sights, no_sights, with_sight, IsMoveAt, WasNamed, WasHead, HadHead, WereHeads, HasNumber, IsAsked, IsDone, IsForked, IsMerged, Joins, IsJoined, IsTaken, IsReached, BringsNothing, TakesOne, TakesNone, IfSees, PlayedFrom, PlayedTo}
 use Rattle.parallel_clients.specs.Outcomes.{ArePast}
 use Rattle.parallel_clients.specs.Sessions.{Stage, GoesOn, PlaysOn}
 
@@ -65,7 +65,7 @@ sees-more Does More more None is = is
 sees-more Does More more (Some branch) is = more branch is
 
 -- what was played from behind a place was played from behind an earlier one
-module _ {O R : Type 0} (op_of : PlainOp → O) (origin : ℕ) (moves : List (Move O R)) (m n : ℕ) (le : m ≤ n) where
+module _ {O R Q : Type 0} (forms : Forms O Q) (origin : ℕ) (moves : List (Move O R)) (m n : ℕ) (le : m ≤ n) where
   one-earlier : (Is : ℕ → Type 0) (Rest : ℕ → List ℕ → Type 0) (places : List ℕ) → TakesOne Is Rest n places → TakesOne Is Rest m places
   one-earlier Is Rest [] is = is
   one-earlier Is Rest (place ∷ places) is = let behind = is.0 in (omega (arith, behind), is.1, is.2)
@@ -73,39 +73,39 @@ module _ {O R : Type 0} (op_of : PlainOp → O) (origin : ℕ) (moves : List (Mo
   none-earlier : (Holds : List (Move O R) → Type 0) (Rest : ℕ → List ℕ → Type 0) (places : List ℕ) → TakesNone moves Holds Rest n places → TakesNone moves Holds Rest m places
   none-earlier Holds Rest places is = let behind = is.behind in record { before = is.before; begins = is.begins; behind = omega (arith, behind); here = is.here; rest = is.rest }
 
-  pub played-earlier : (steps : List Step) (sights after : Sights) (places : List ℕ) → PlayedFrom op_of origin moves steps sights after n places → PlayedFrom op_of origin moves steps sights after m places
+  pub played-earlier : (steps : List Step) (sights after : Sights) (places : List ℕ) → PlayedFrom forms origin moves steps sights after n places → PlayedFrom forms origin moves steps sights after m places
   played-earlier [] sights after places is = is
   played-earlier (Look session branch ∷ steps) sights after places is =
-      (is.0, none-earlier (HasNumber origin branch is.0) (PlayedFrom op_of origin moves steps (with_sight sights session is.0) after) places is.1)
-  played-earlier (Ask branch query ∷ steps) sights after places is = none-earlier (HasBranch origin branch) (PlayedFrom op_of origin moves steps sights after) places is
+      (is.0, none-earlier (HasNumber origin branch is.0) (PlayedFrom forms origin moves steps (with_sight sights session is.0) after) places is.1)
+  played-earlier (Ask branch query ∷ steps) sights after places is = none-earlier (IsAsked origin branch (forms.query_of query)) (PlayedFrom forms origin moves steps sights after) places is
   played-earlier (Do session op ∷ steps) sights after places is =
-      let Rest = PlayedFrom op_of origin moves steps sights after in
-      sees-more (λ branch. TakesOne (IsDone moves branch (op_of op)) Rest n places) (λ branch. TakesOne (IsDone moves branch (op_of op)) Rest m places)
-      (λ branch. one-earlier (IsDone moves branch (op_of op)) Rest places) (sights session) is
+      let Rest = PlayedFrom forms origin moves steps sights after in
+      sees-more (λ branch. TakesOne (IsDone moves branch (forms.op_of op)) Rest n places) (λ branch. TakesOne (IsDone moves branch (forms.op_of op)) Rest m places)
+      (λ branch. one-earlier (IsDone moves branch (forms.op_of op)) Rest places) (sights session) is
   played-earlier (Fork new from ∷ steps) sights after places is =
-      let Rest = PlayedFrom op_of origin moves steps sights after in
+      let Rest = PlayedFrom forms origin moves steps sights after in
       ⊎_elim (λ one. inl (one-earlier (IsForked origin moves new from) Rest places one)) (λ none. inr (none-earlier (IsTaken origin new from) Rest places none)) is
   played-earlier (Merge session from ∷ steps) sights after places is =
-      let Rest = PlayedFrom op_of origin moves steps sights after in
+      let Rest = PlayedFrom forms origin moves steps sights after in
       sees-more (λ branch. TakesOne (IsMerged origin moves branch from) Rest n places ⊎ TakesNone moves (IsReached origin branch from) Rest n places)
       (λ branch. TakesOne (IsMerged origin moves branch from) Rest m places ⊎ TakesNone moves (IsReached origin branch from) Rest m places)
       (λ branch both. ⊎_elim (λ one. inl (one-earlier (IsMerged origin moves branch from) Rest places one)) (λ none. inr (none-earlier (IsReached origin branch from) Rest places none)) both)
       (sights session) is
   played-earlier (Join session from ∷ steps) sights after places is =
-      let Rest = PlayedFrom op_of origin moves steps sights after in
+      let Rest = PlayedFrom forms origin moves steps sights after in
       sees-more (λ branch. TakesOne (IsJoined origin moves branch from) Rest n places ⊎ TakesNone moves (BringsNothing origin branch from) Rest n places)
       (λ branch. TakesOne (IsJoined origin moves branch from) Rest m places ⊎ TakesNone moves (BringsNothing origin branch from) Rest m places)
       (λ branch both. ⊎_elim (λ one. inl (one-earlier (IsJoined origin moves branch from) Rest places one)) (λ none. inr (none-earlier (BringsNothing origin branch from) Rest places none)) both)
       (sights session) is
   played-earlier (Drop session ∷ steps) sights after places is =
-      let Rest = PlayedFrom op_of origin moves steps sights after in
+      let Rest = PlayedFrom forms origin moves steps sights after in
       sees-more (λ branch. TakesOne (λ place. IsMoveAt moves place (move.Drop branch)) Rest n places) (λ branch. TakesOne (λ place. IsMoveAt moves place (move.Drop branch)) Rest m places)
       (λ branch. one-earlier (λ place. IsMoveAt moves place (move.Drop branch)) Rest places) (sights session) is
 
 -- steps one after another
 
-module _ {O R : Type 0} (op_of : PlainOp → O) (origin : ℕ) where
-  pub plays-none : (s : Stage (Move O R)) → PlaysOn op_of origin [] s s
+module _ {O R Q : Type 0} (forms : Forms O Q) (origin : ℕ) where
+  pub plays-none : (s : Stage (Move O R)) → PlaysOn forms origin [] s s
   plays-none s = record {
     own = [];
     grown = prefix_self s.moves;
@@ -114,7 +114,7 @@ module _ {O R : Type 0} (op_of : PlainOp → O) (origin : ℕ) where
     goes_on = λ later rest after more grows played. played;
   }
 
-  pub plays-both : (first second : List Step) (a b c : Stage (Move O R)) → PlaysOn op_of origin first a b → PlaysOn op_of origin second b c → PlaysOn op_of origin (first ++ second) a c
+  pub plays-both : (first second : List Step) (a b c : Stage (Move O R)) → PlaysOn forms origin first a b → PlaysOn forms origin second b c → PlaysOn forms origin (first ++ second) a c
   plays-both first second a b c p q = record {
     own = p.own ++ q.own;
     grown = prefix_trans a.moves b.moves c.moves p.grown q.grown;
@@ -123,26 +123,26 @@ module _ {O R : Type 0} (op_of : PlainOp → O) (origin : ℕ) where
     goes_on = λ later rest after more grows played.
         let tail = q.goes_on later rest after more grows played in
         let all = p.goes_on later (second ++ rest) after (q.own ++ more) (prefix_trans b.moves c.moves later q.grown grows) tail in
-        subst (λ ss. PlayedFrom op_of origin later ss a.sights after (length a.moves) ((p.own ++ q.own) ++ more)) (sym (append_assoc first second rest))
-        (subst (PlayedFrom op_of origin later (first ++ (second ++ rest)) a.sights after (length a.moves)) (sym (append_assoc p.own q.own more)) all);
+        subst (λ ss. PlayedFrom forms origin later ss a.sights after (length a.moves) ((p.own ++ q.own) ++ more)) (sym (append_assoc first second rest))
+        (subst (PlayedFrom forms origin later (first ++ (second ++ rest)) a.sights after (length a.moves)) (sym (append_assoc p.own q.own more)) all);
   }
 
   -- what a client has played in all
-  pub plays-played : (steps : List Step) (a b : Stage (Move O R)) (later : List (Move O R)) → PlaysOn op_of origin steps a b → a.sights ≡ no_sights → a.places ≡ [] → IsPrefix b.moves later
-      → PlayedTo op_of origin (length a.moves) steps b.places later b.sights
+  pub plays-played : (steps : List Step) (a b : Stage (Move O R)) (later : List (Move O R)) → PlaysOn forms origin steps a b → a.sights ≡ no_sights → a.places ≡ [] → IsPrefix b.moves later
+      → PlayedTo forms origin (length a.moves) steps b.places later b.sights
   unfolding PlayedTo
   plays-played steps a b later p none empty grows =
       let all = p.goes_on later [] b.sights [] grows (refl, refl) in
       let own_is : p.own ++ [] ≡ b.places = append-nil p.own ∙ sym (p.added ∙ ap (λ ps. ps ++ p.own) empty) in
-      subst (λ sights. PlayedFrom op_of origin later steps sights b.sights (length a.moves) b.places) none
-      (subst (λ ps. PlayedFrom op_of origin later steps a.sights b.sights (length a.moves) ps) own_is
-      (subst (λ ss. PlayedFrom op_of origin later ss a.sights b.sights (length a.moves) (p.own ++ [])) (append-nil steps) all))
+      subst (λ sights. PlayedFrom forms origin later steps sights b.sights (length a.moves) b.places) none
+      (subst (λ ps. PlayedFrom forms origin later steps a.sights b.sights (length a.moves) ps) own_is
+      (subst (λ ss. PlayedFrom forms origin later ss a.sights b.sights (length a.moves) (p.own ++ [])) (append-nil steps) all))
 
   -- one step
 
   module _ (old new : Stage (Move O R)) (grown : IsPrefix old.moves new.moves) where
     -- one that makes no move
-    pub plays-still : (step : Step) → new.places ≡ old.places → GoesOn op_of origin (step ∷ []) [] old new → PlaysOn op_of origin (step ∷ []) old new
+    pub plays-still : (step : Step) → new.places ≡ old.places → GoesOn forms origin (step ∷ []) [] old new → PlaysOn forms origin (step ∷ []) old new
     plays-still step same goes = record {
       own = [];
       grown = grown;
@@ -154,12 +154,12 @@ module _ {O R : Type 0} (op_of : PlainOp → O) (origin : ℕ) where
     -- one that makes a move
     pub plays-move : (step : Step) (place : ℕ) → length old.moves < place → place ≤ length new.moves → new.places ≡ old.places ++ place ∷ []
         → ((later : List (Move O R)) (rest : List Step) (after : Sights) (more : List ℕ) → IsPrefix new.moves later
-        → PlayedFrom op_of origin later rest new.sights after place more → PlayedFrom op_of origin later (step ∷ rest) old.sights after (length old.moves) (place ∷ more))
-        → PlaysOn op_of origin (step ∷ []) old new
+        → PlayedFrom forms origin later rest new.sights after place more → PlayedFrom forms origin later (step ∷ rest) old.sights after (length old.moves) (place ∷ more))
+        → PlaysOn forms origin (step ∷ []) old new
     plays-move step place past within noted goes = record {
       own = place ∷ [];
       grown = grown;
       added = noted;
       past = (past, tt);
-      goes_on = λ later rest after more grows played. goes later rest after more grows (played-earlier op_of origin later place (length new.moves) within rest new.sights after more played);
+      goes_on = λ later rest after more grows played. goes later rest after more grows (played-earlier forms origin later place (length new.moves) within rest new.sights after more played);
     }

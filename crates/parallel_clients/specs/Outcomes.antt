@@ -1,5 +1,5 @@
 -- What becomes of a client.
-use Rattle.std.specs.Prelude.{◌≡◌, ℕ, ◌+◌, ◌<◌, ◌≤◌, ◌⊎◌, List, [], ◌∷◌, ◌++◌, length, take, slice_get, Some, None, Bool, true}
+use Rattle.std.specs.Prelude.{◌≡◌, ℕ, ◌+◌, ◌<◌, ◌≤◌, ◌⊎◌, List, [], ◌∷◌, ◌++◌, length, take, slice_get, Option, Some, None, Bool, true}
 use Rattle.std.specs.List.{AllByRecursion}
 use mathlib.Core.List.{IsPrefix}
 use Rattle.branch_io.specs.Causes.{Rose}
@@ -7,6 +7,7 @@ use Rattle.branch_history.specs.declared.moves.Move.{Move}
 use Rattle.branch_history.specs.Steps as machine
 use Rattle.branch_machine.specs.Fixed.{Fixed}
 use Rattle.branch_doc.specs.declared.plain.PlainOp.{PlainOp}
+use Rattle.branch_doc.specs.declared.plain.PlainQuery.{PlainQuery}
 use Rattle.branch_script.specs.declared.step.Step.{Step}
 use Rattle.branch_script.specs.declared.step.Step.TheVariants.{Look, Fork, Merge, Join, Do, Ask, Drop}
 use Rattle.recorded_history.specs.Machine.{FullyRefuses}
@@ -14,17 +15,18 @@ use Rattle.parallel_clients.specs.declared.outcome.ClientRefusal.{ClientRefusal}
 use Rattle.parallel_clients.specs.declared.outcome.ClientRefusal.TheVariants as client_refusal
 use Rattle.parallel_clients.specs.declared.outcome.Outcome.{Outcome}
 use Rattle.parallel_clients.specs.declared.outcome.Outcome.TheVariants.{Done, Refused, Unseen}
-use Rattle.parallel_clients.specs.Played.{Sights, WasHead, HadHead, AreNamedHeads, WereHeads, IfSees, Played, PlayedTo}
+use Rattle.parallel_clients.specs.Forms.{Forms, plain_forms}
+use Rattle.parallel_clients.specs.Played.{Sights, HasBranch, WasHead, HadHead, AreNamedHeads, WereHeads, IfSees, Played, PlayedTo}
 
--- what is fixed for the clients of a store: the store's meaning, terms and addresses, the operation that a plain form stands for, and the count of the disk's
--- faults when the store was opened
+-- what is fixed for the clients of a store: the store's meaning, terms and addresses, what plain forms stand for, and the count of the disk's faults when
+-- the store was opened
 pub record Setting (S O R Q A : Type 0) : Type 1 where
   pub fixed : Fixed S O R Q A
-  pub op_of : PlainOp → O
+  pub forms : Forms O Q
   pub opened : ℕ
 
-abbrev pub setting : {S O R Q A : Type 0} → Fixed S O R Q A → (PlainOp → O) → ℕ → Setting S O R Q A
-setting fixed op_of opened = record { fixed = fixed; op_of = op_of; opened = opened }
+abbrev pub setting : {S O R Q A : Type 0} → Fixed S O R Q A → (PlainOp → Option O) → (PlainQuery → Option Q) → ℕ → Setting S O R Q A
+setting fixed op_of query_of opened = record { fixed = fixed; forms = plain_forms op_of query_of; opened = opened }
 
 -- the machine refuses a look at one of the branches with these names; those with the names before it are there
 pub record RefusesLook {S O R Q A : Type 0} (on : Setting S O R Q A) (moves : List (Move O R)) (from : List (List ℕ)) (refusal : machine.Refusal) : Type 0 where
@@ -44,6 +46,14 @@ pub record RefusesJoin {S O R Q A : Type 0} (on : Setting S O R Q A) (moves : Li
   pub others : WereHeads on.fixed.terms.origin moves from heads
   pub refused : FullyRefuses on.fixed moves (machine.Merge branch head heads) refusal
 
+-- there is an operation, and the machine refuses it on a session's branch, from a head that it had
+pub record RefusesLanding {S O R Q A : Type 0} (on : Setting S O R Q A) (moves : List (Move O R)) (branch : ℕ) (op : Option O) (refusal : machine.Refusal) : Type 0 where
+  pub operation : O
+  pub is : op ≡ Some operation
+  pub head : ℕ
+  pub seen : HadHead on.fixed.terms.origin moves branch head
+  pub refused : FullyRefuses on.fixed moves (machine.Land branch head operation) refusal
+
 -- The machine refuses a client's step after a history: an operation, a merge or a drop is made from a head that the session's branch had, and a merge is of a head that the
 -- other branch had, if there is one with its name, and a join of those of several. Of a session that has not looked it is not asked.
 abbrev pub RefusesStep : {S O R Q A : Type 0} → Setting S O R Q A → List (Move O R) → Sights → Step → machine.Refusal → Type 0
@@ -51,7 +61,7 @@ RefusesStep on moves sights (Look session branch) refusal = FullyRefuses on.fixe
 RefusesStep on moves sights (Ask branch query) refusal = FullyRefuses on.fixed moves (machine.Look branch) refusal
 RefusesStep on moves sights (Fork new from) refusal = FullyRefuses on.fixed moves (machine.Fork new from) refusal
 RefusesStep on moves sights (Do session op) refusal =
-    IfSees (sights session) (λ branch. (head : ℕ) × HadHead on.fixed.terms.origin moves branch head × FullyRefuses on.fixed moves (machine.Land branch head (on.op_of op)) refusal)
+    IfSees (sights session) (λ branch. RefusesLanding on moves branch (on.forms.op_of op) refusal)
 RefusesStep on moves sights (Merge session from) refusal =
     IfSees (sights session) (λ branch. FullyRefuses on.fixed moves (machine.Look from) refusal
     ⊎ ((head source commit : ℕ) × HadHead on.fixed.terms.origin moves branch head × WasHead on.fixed.terms.origin moves from source commit
@@ -73,7 +83,13 @@ MayDropIn drops scripts = AllByRecursion (AllByRecursion (MayDrop drops)) script
 abbrev pub HasFailed : {S O R Q A : Type 0} → Setting S O R Q A → ℕ → Type 0
 HasFailed on faults = Rose on.opened (on.opened + faults)
 
--- why a step was refused, after a history: by the machine, or by a disk that has failed, or for want of memory
+-- A client's step is an operation or a query of a kind that the store lacks; the session of the one sees a branch, and the branch of the other is there.
+abbrev pub LacksKind : {S O R Q A : Type 0} → Setting S O R Q A → List (Move O R) → Sights → Step → Type 0
+LacksKind on moves sights (Do session op) = IfSees (sights session) (λ branch. on.forms.op_of op ≡ None)
+LacksKind on moves sights (Ask branch query) = HasBranch on.fixed.terms.origin branch moves × (on.forms.query_of query ≡ None)
+LacksKind on moves sights step = ⊥
+
+-- why a step was refused, after a history: by the machine, or as one of a kind that the store lacks, which only sequences may be, or by a disk that has failed, or for want of memory
 abbrev pub StepRefused : {S O R Q A : Type 0} → Setting S O R Q A → List (Move O R) → ℕ → Sights → Step → ClientRefusal → Type 0
 StepRefused on moves faults sights step (client_refusal.UnknownBranch name) = RefusesStep on moves sights step (machine.UnknownBranch name)
 StepRefused on moves faults sights step (client_refusal.Dropped branch) = RefusesStep on moves sights step (machine.Dropped branch)
@@ -84,6 +100,7 @@ StepRefused on moves faults sights step (client_refusal.FullBranches count) = Re
 StepRefused on moves faults sights step (client_refusal.FullMoves count) = RefusesStep on moves sights step (machine.FullMoves count)
 StepRefused on moves faults sights step (client_refusal.ValueTooLarge length) = RefusesStep on moves sights step (machine.ValueTooLarge length)
 StepRefused on moves faults sights step (client_refusal.Collision address stored fresh) = RefusesStep on moves sights step (machine.Collision address stored fresh)
+StepRefused on moves faults sights step client_refusal.NoSequences = LacksKind on moves sights step
 StepRefused on moves faults sights step client_refusal.DiskFault = HasFailed on faults
 StepRefused on moves faults sights step (client_refusal.Failed count) = (count ≡ length moves) × HasFailed on faults
 StepRefused on moves faults sights step client_refusal.Memory = Unit {0}
@@ -97,7 +114,7 @@ pub record IsRefused {S O R Q A : Type 0} (on : Setting S O R Q A) (old new : Li
   pub begun : IsPrefix old before
   pub begins : IsPrefix before new
   pub sights : Sights
-  pub played : PlayedTo on.op_of on.fixed.terms.origin (length old) (take number steps) places before sights
+  pub played : PlayedTo on.forms on.fixed.terms.origin (length old) (take number steps) places before sights
   pub refused : StepRefused on before faults sights step refusal
 
 -- a step names a session that has to have looked, and sees no branch
@@ -113,12 +130,12 @@ pub record IsUnseen {S O R Q A : Type 0} (on : Setting S O R Q A) (old new : Lis
   pub step : Step
   pub is_step : slice_get steps number ≡ Some step
   pub sights : Sights
-  pub played : PlayedTo on.op_of on.fixed.terms.origin (length old) (take number steps) places new sights
+  pub played : PlayedTo on.forms on.fixed.terms.origin (length old) (take number steps) places new sights
   pub unseen : SeesNone sights step
 
 -- what became of the steps of a client, where a history grew from an old one to a new one, and the disk has had so many faults since it was opened
 abbrev pub ComesTo : {S O R Q A : Type 0} → Setting S O R Q A → List (Move O R) → List (Move O R) → ℕ → List Step → Outcome → Type 0
-ComesTo on old new faults steps (Done places) = Played on.op_of on.fixed.terms.origin (length old) steps places new
+ComesTo on old new faults steps (Done places) = Played on.forms on.fixed.terms.origin (length old) steps places new
 ComesTo on old new faults steps (Refused number refusal places) = IsRefused on old new faults steps number places refusal
 ComesTo on old new faults steps (Unseen number places) = IsUnseen on old new steps number places
 

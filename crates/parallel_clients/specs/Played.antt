@@ -1,5 +1,5 @@
 -- What a history has of a client's steps.
-use Rattle.std.specs.Prelude.{◌≡◌, ℕ, ◌-◌, ◌<◌, ◌≤◌, ◌⊎◌, List, [], ◌∷◌, length, slice_get, bytes_eq, Some, None, IsTrue, if◌then◌else◌}
+use Rattle.std.specs.Prelude.{◌≡◌, ℕ, ◌-◌, ◌<◌, ◌≤◌, ◌⊎◌, List, [], ◌∷◌, length, slice_get, bytes_eq, Some, None, IsSome, IsTrue, if◌then◌else◌}
 use Rattle.std.specs.declared.option.Option.{Option}
 use mathlib.Core.List.{IsPrefix}
 use Rattle.branch_names.specs.Heads.{head_of, branch_named}
@@ -9,9 +9,9 @@ use Rattle.branch_history.specs.declared.moves.Move.TheVariants as move
 use Rattle.branch_history.specs.Commits.{graph_of}
 use Rattle.branch_history.specs.History.{store_of}
 use Rattle.branch_history.specs.Merging.{brought}
-use Rattle.branch_doc.specs.declared.plain.PlainOp.{PlainOp}
 use Rattle.branch_script.specs.declared.step.Step.{Step}
 use Rattle.branch_script.specs.declared.step.Step.TheVariants.{Look, Fork, Merge, Join, Do, Ask, Drop}
+use Rattle.parallel_clients.specs.Forms.{Forms}
 
 -- the branch of each session's last look, by the number that it had then
 abbrev pub Sights : Type 0
@@ -44,10 +44,12 @@ pub record WasHead {O R : Type 0} (origin : ℕ) (moves : List (Move O R)) (name
 abbrev pub HadHead : {O R : Type 0} → ℕ → List (Move O R) → ℕ → ℕ → Type 0
 HadHead origin moves branch commit = (name : List ℕ) × WasHead origin moves name branch commit
 
--- the operation on a session's branch
-pub record IsDone {O R : Type 0} (moves : List (Move O R)) (branch : ℕ) (op : O) (place : ℕ) : Type 0 where
+-- an operation on a session's branch; where there is none, as of a kind that the store lacks, it is nowhere
+pub record IsDone {O R : Type 0} (moves : List (Move O R)) (branch : ℕ) (op : Option O) (place : ℕ) : Type 0 where
+  pub operation : O
+  pub is : op ≡ Some operation
   pub reply : R
-  pub made : IsMoveAt moves place (move.Operation branch op reply)
+  pub made : IsMoveAt moves place (move.Operation branch operation reply)
 
 -- the fork of a new branch from another
 pub record IsForked {O R : Type 0} (origin : ℕ) (moves : List (Move O R)) (new from : List ℕ) (place : ℕ) : Type 0 where
@@ -108,6 +110,10 @@ HasNumber origin name number moves = branch_named (store_of origin moves).branch
 abbrev pub HasBranch : {O R : Type 0} → ℕ → List ℕ → List (Move O R) → Type 0
 HasBranch origin name moves = (number : ℕ) × HasNumber origin name number moves
 
+-- some branch has the name, and there is a query, as there is none of a kind that the store lacks
+abbrev pub IsAsked : {O R Q : Type 0} → ℕ → List ℕ → Option Q → List (Move O R) → Type 0
+IsAsked origin name query moves = HasBranch origin name moves × IsSome query
+
 -- a branch cannot be forked from another, which is there, since some branch has its name
 abbrev pub IsTaken : {O R : Type 0} → ℕ → List ℕ → List ℕ → List (Move O R) → Type 0
 IsTaken origin new from moves = HasBranch origin new moves × HasBranch origin from moves
@@ -143,38 +149,39 @@ IfSees None Does = ⊥
 IfSees (Some branch) Does = Does branch
 
 -- the moves of a history at these places, behind the last one, are those of the steps, in order, where sessions see this at first and that at the end, in a store with this first origin
-abbrev pub PlayedFrom : {O R : Type 0} → (PlainOp → O) → ℕ → List (Move O R) → List Step → Sights → Sights → ℕ → List ℕ → Type 0
-PlayedFrom op_of origin moves [] sights after last places = (places ≡ []) × (sights ≡ after)
-PlayedFrom op_of origin moves (Look session branch ∷ steps) sights after last places =
-    (number : ℕ) × TakesNone moves (HasNumber origin branch number) (PlayedFrom op_of origin moves steps (with_sight sights session number) after) last places
-PlayedFrom op_of origin moves (Ask branch query ∷ steps) sights after last places = TakesNone moves (HasBranch origin branch) (PlayedFrom op_of origin moves steps sights after) last places
-PlayedFrom op_of origin moves (Do session op ∷ steps) sights after last places =
-    IfSees (sights session) (λ branch. TakesOne (IsDone moves branch (op_of op)) (PlayedFrom op_of origin moves steps sights after) last places)
-PlayedFrom op_of origin moves (Fork new from ∷ steps) sights after last places =
-    TakesOne (IsForked origin moves new from) (PlayedFrom op_of origin moves steps sights after) last places
-    ⊎ TakesNone moves (IsTaken origin new from) (PlayedFrom op_of origin moves steps sights after) last places
-PlayedFrom op_of origin moves (Merge session from ∷ steps) sights after last places =
+abbrev pub PlayedFrom : {O R Q : Type 0} → Forms O Q → ℕ → List (Move O R) → List Step → Sights → Sights → ℕ → List ℕ → Type 0
+PlayedFrom forms origin moves [] sights after last places = (places ≡ []) × (sights ≡ after)
+PlayedFrom forms origin moves (Look session branch ∷ steps) sights after last places =
+    (number : ℕ) × TakesNone moves (HasNumber origin branch number) (PlayedFrom forms origin moves steps (with_sight sights session number) after) last places
+PlayedFrom forms origin moves (Ask branch query ∷ steps) sights after last places = TakesNone moves (IsAsked origin branch (forms.query_of query)) (PlayedFrom forms origin moves steps sights after) last places
+PlayedFrom forms origin moves (Do session op ∷ steps) sights after last places =
+    IfSees (sights session) (λ branch. TakesOne (IsDone moves branch (forms.op_of op)) (PlayedFrom forms origin moves steps sights after) last places)
+PlayedFrom forms origin moves (Fork new from ∷ steps) sights after last places =
+    TakesOne (IsForked origin moves new from) (PlayedFrom forms origin moves steps sights after) last places
+    ⊎ TakesNone moves (IsTaken origin new from) (PlayedFrom forms origin moves steps sights after) last places
+PlayedFrom forms origin moves (Merge session from ∷ steps) sights after last places =
     IfSees (sights session) (λ branch.
-    TakesOne (IsMerged origin moves branch from) (PlayedFrom op_of origin moves steps sights after) last places
-    ⊎ TakesNone moves (IsReached origin branch from) (PlayedFrom op_of origin moves steps sights after) last places)
-PlayedFrom op_of origin moves (Join session from ∷ steps) sights after last places =
+    TakesOne (IsMerged origin moves branch from) (PlayedFrom forms origin moves steps sights after) last places
+    ⊎ TakesNone moves (IsReached origin branch from) (PlayedFrom forms origin moves steps sights after) last places)
+PlayedFrom forms origin moves (Join session from ∷ steps) sights after last places =
     IfSees (sights session) (λ branch.
-    TakesOne (IsJoined origin moves branch from) (PlayedFrom op_of origin moves steps sights after) last places
-    ⊎ TakesNone moves (BringsNothing origin branch from) (PlayedFrom op_of origin moves steps sights after) last places)
-PlayedFrom op_of origin moves (Drop session ∷ steps) sights after last places =
-    IfSees (sights session) (λ branch. TakesOne (λ place. IsMoveAt moves place (move.Drop branch)) (PlayedFrom op_of origin moves steps sights after) last places)
+    TakesOne (IsJoined origin moves branch from) (PlayedFrom forms origin moves steps sights after) last places
+    ⊎ TakesNone moves (BringsNothing origin branch from) (PlayedFrom forms origin moves steps sights after) last places)
+PlayedFrom forms origin moves (Drop session ∷ steps) sights after last places =
+    IfSees (sights session) (λ branch. TakesOne (λ place. IsMoveAt moves place (move.Drop branch)) (PlayedFrom forms origin moves steps sights after) last places)
 
 -- The moves of a history of a store with this first origin at these places, behind its first so many, are those of a client's steps, in order: one for each operation; one for each fork, or none where
--- the name is taken; one for each merge and each join, or none where there is nothing to merge; one for each drop, of its session's branch. A look and a query make none. Each step that makes none was
+-- the name is taken; one for each merge and each join, or none where there is nothing to merge; one for each drop, of its session's branch. A look and a query make none; an
+-- operation or a query of a kind that the store lacks is never done. Each step that makes none was
 -- done after some first part of the history, no shorter than that of the step before it: of a look and a query, one that has the branch. A session's branch is the one that had the name at its last
 -- look, also where another has the name later. Behind the steps the sessions see this.
-unfoldable pub PlayedTo : {O R : Type 0} → (PlainOp → O) → ℕ → ℕ → List Step → List ℕ → List (Move O R) → Sights → Type 0
-PlayedTo op_of origin begun steps places moves after = PlayedFrom op_of origin moves steps no_sights after begun places
+unfoldable pub PlayedTo : {O R Q : Type 0} → Forms O Q → ℕ → ℕ → List Step → List ℕ → List (Move O R) → Sights → Type 0
+PlayedTo forms origin begun steps places moves after = PlayedFrom forms origin moves steps no_sights after begun places
 
 -- and they see something
-abbrev pub Played : {O R : Type 0} → (PlainOp → O) → ℕ → ℕ → List Step → List ℕ → List (Move O R) → Type 0
-Played op_of origin begun steps places moves = (after : Sights) × PlayedTo op_of origin begun steps places moves after
+abbrev pub Played : {O R Q : Type 0} → Forms O Q → ℕ → ℕ → List Step → List ℕ → List (Move O R) → Type 0
+Played forms origin begun steps places moves = (after : Sights) × PlayedTo forms origin begun steps places moves after
 
 -- what a history has of a client's steps, each longer one has
-abbrev pub StaysPlayed : {O : Type 0} (R : Type 0) → (PlainOp → O) → Type 0
-StaysPlayed {O} R op_of = (origin : ℕ) (moves later : List (Move O R)) (begun : ℕ) (steps : List Step) (places : List ℕ) → IsPrefix moves later → Played op_of origin begun steps places moves → Played op_of origin begun steps places later
+abbrev pub StaysPlayed : {O Q : Type 0} (R : Type 0) → Forms O Q → Type 0
+StaysPlayed {O} {Q} R forms = (origin : ℕ) (moves later : List (Move O R)) (begun : ℕ) (steps : List Step) (places : List ℕ) → IsPrefix moves later → Played forms origin begun steps places moves → Played forms origin begun steps places later

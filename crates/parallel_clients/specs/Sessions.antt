@@ -13,7 +13,6 @@ use Rattle.branch_history.specs.declared.moves.Move.{Move}
 use Rattle.branch_history.specs.declared.moves.Move.TheVariants as move
 use Rattle.branch_history.specs.History.{store_of}
 use Rattle.branch_history.specs.Steps as machine
-use Rattle.branch_doc.specs.declared.plain.PlainOp.{PlainOp}
 use Rattle.branch_script.specs.declared.step.Step.{Step}
 use Rattle.store_seen.specs.declared.answers.PairRefused.{PairRefused}
 use Rattle.store_seen.specs.declared.answers.PairRefused.TheVariants as pair_refusal
@@ -34,6 +33,7 @@ use Rattle.parallel_clients.specs.declared.outcome.ClientRefusal.TheVariants as 
 use Rattle.parallel_clients.specs.declared.outcome.Outcome.{Outcome}
 use Rattle.parallel_clients.specs.declared.outcome.Outcome.TheVariants as outcome
 use Rattle.parallel_clients.specs.declared.sessions.Session.{Session}
+use Rattle.parallel_clients.specs.Forms.{Forms}
 use Rattle.parallel_clients.specs.Played.{Sights, no_sights, WasHead, IsReached, Joins, BringsNothing, PlayedFrom}
 use Rattle.parallel_clients.specs.Outcomes.{Setting, ArePast, HasFailed, StepRefused, SeesNone}
 
@@ -71,28 +71,31 @@ pub record Stage (M : Type 0) : Type 0 where
   pub places : List ℕ
 
 -- where a client goes on from a stage, it has gone on so from an earlier one, by some steps and places in front
-abbrev pub GoesOn : {O R : Type 0} → (PlainOp → O) → ℕ → List Step → List ℕ → Stage (Move O R) → Stage (Move O R) → Type 0
-GoesOn {O} {R} op_of origin steps own old new =
-    (later : List (Move O R)) (rest : List Step) (after : Sights) (more : List ℕ) → IsPrefix new.moves later → PlayedFrom op_of origin later rest new.sights after (length new.moves) more
-    → PlayedFrom op_of origin later (steps ++ rest) old.sights after (length old.moves) (own ++ more)
+abbrev pub GoesOn : {O R Q : Type 0} → Forms O Q → ℕ → List Step → List ℕ → Stage (Move O R) → Stage (Move O R) → Type 0
+GoesOn {O} {R} {Q} forms origin steps own old new =
+    (later : List (Move O R)) (rest : List Step) (after : Sights) (more : List ℕ) → IsPrefix new.moves later → PlayedFrom forms origin later rest new.sights after (length new.moves) more
+    → PlayedFrom forms origin later (steps ++ rest) old.sights after (length old.moves) (own ++ more)
 
 -- a client came by these steps from one stage to another
-pub record PlaysOn {O R : Type 0} (op_of : PlainOp → O) (origin : ℕ) (steps : List Step) (old new : Stage (Move O R)) : Type 0 where
+pub record PlaysOn {O R Q : Type 0} (forms : Forms O Q) (origin : ℕ) (steps : List Step) (old new : Stage (Move O R)) : Type 0 where
   pub own : List ℕ
   pub grown : IsPrefix old.moves new.moves
   pub added : new.places ≡ old.places ++ own
   pub past : ArePast (length old.moves) own
-  pub goes_on : GoesOn op_of origin steps own old new
+  pub goes_on : GoesOn forms origin steps own old new
 
 abbrev pub stage_of : {M : Type 0} → PassView M → Sessions M → List ℕ → Stage M
 stage_of pass sessions places = record { moves = pass.moves; sights = sights_of sessions; places = places }
 
--- a client's pass has seen more, and counts the moves whose places were noted
+-- a client's pass has seen more, and counts the moves whose places were noted. Where its own moves were those noted, they are
+-- still, and it claims no others than before
 pub record Advances {M : Type 0} (old new : PassView M) (places after : List ℕ) : Type 0 where
   pub seen : IsPrefix old.moves new.moves
   pub faults : old.faults ≤ new.faults
   pub parts : new.parts ≡ old.parts
   pub counted : new.receipts + length places ≡ old.receipts + length after
+  pub mine : old.mine ≡ places → new.mine ≡ after
+  pub others : new.others ≡ old.others
 
 -- a move landed behind all that had been seen, and perhaps more, and its place was noted
 pub record HasMoved {M : Type 0} (made : M) (old new : PassView M) (places after : List ℕ) : Type 0 where
@@ -100,6 +103,8 @@ pub record HasMoved {M : Type 0} (made : M) (old new : PassView M) (places after
   pub seen : IsPrefix old.moves before
   pub last : new.moves ≡ before ++ made ∷ []
   pub noted : after ≡ places ++ length new.moves ∷ []
+  pub mine : new.mine ≡ old.mine ++ length new.moves ∷ []
+  pub others : new.others ≡ old.others
   pub receipts : new.receipts ≡ old.receipts + 1
   pub parts : new.parts ≡ old.parts
 
@@ -129,15 +134,17 @@ IsLandRefused on made new (client_refusal.Failed count) = (count ≡ length new.
 IsLandRefused on made new client_refusal.Memory = Unit {0}
 IsLandRefused on made new other = ⊥
 
--- an operation landed on the branch that a session sees
-pub record HasDone {O R : Type 0} (sight : Option ℕ) (op : O) (old new : PassView (Move O R)) (places after : List ℕ) : Type 0 where
+-- an operation landed on the branch that a session sees, where there is one
+pub record HasDone {O R : Type 0} (sight : Option ℕ) (op : Option O) (old new : PassView (Move O R)) (places after : List ℕ) : Type 0 where
   pub branch : ℕ
   pub sees : sight ≡ Some branch
+  pub operation : O
+  pub is : op ≡ Some operation
   pub reply : R
-  pub moved : HasMoved (move.Operation branch op reply) old new places after
+  pub moved : HasMoved (move.Operation branch operation reply) old new places after
 
 -- what came of a try to land it
-abbrev pub IsTried : {O R : Type 0} → Option ℕ → O → PassView (Move O R) → PassView (Move O R) → List ℕ → List ℕ → Landing → Type 0
+abbrev pub IsTried : {O R : Type 0} → Option ℕ → Option O → PassView (Move O R) → PassView (Move O R) → List ℕ → List ℕ → Landing → Type 0
 IsTried sight op old new places after Moved = HasDone sight op old new places after
 IsTried sight op old new places after Stale = HasStayed old new places after
 IsTried sight op old new places after Same = ⊥
@@ -251,8 +258,8 @@ pub record IsWaiting {O R : Type 0} (terms : Terms) (old new : PassView (Move O 
   pub noted : after ≡ places
 
 -- what a client has done so far, from a first pass on, of which the last look may have found no memory
-pub record IsPlaying {O R : Type 0} (op_of : PlainOp → O) (terms : Terms) (steps : List Step) (old new : PassView (Move O R)) (sessions : Sessions (Move O R)) (places : List ℕ) : Type 0 where
-  pub plays : PlaysOn op_of terms.origin steps (record { moves = old.moves; sights = no_sights; places = [] }) (stage_of new sessions places)
+pub record IsPlaying {O R Q : Type 0} (forms : Forms O Q) (terms : Terms) (steps : List Step) (old new : PassView (Move O R)) (sessions : Sessions (Move O R)) (places : List ℕ) : Type 0 where
+  pub plays : PlaysOn forms terms.origin steps (record { moves = old.moves; sights = no_sights; places = [] }) (stage_of new sessions places)
   pub sessions_are : AreSessions terms new.moves sessions
   pub advances : Advances old new [] places
 

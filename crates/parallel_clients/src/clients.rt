@@ -98,7 +98,8 @@ fn work<T: Plain, D: Disk + Drop, A: Address, N: Named<T::Op, T::Reply>, G: Gate
     requires drops { AllByRecursion (MayDrop N.drops) entrant.old.seat.steps.now }
     requires none { entrant.old.seat.places.items ≡ [] }
     requires room { length entrant.old.seat.steps.now ≤ vec_capacity entrant.old.seat.places }
-    ensures { HasWorked (setting (fix T.meaning N.terms A.address) T.op_of N.opened) entrant.old
+    ensures { HasWorked (setting (fix T.meaning N.terms A.address) T.op_of T.query_of N.opened)
+        entrant.old
         entrant.new }
 {
     let places = mem::replace(&mut entrant.seat.places, Vec::new(alloc));
@@ -129,7 +130,7 @@ fn work_all<
         ≤ vec_capacity (slice_index_or entrants.old i d).seat.places }
     ensures same { length entrants.new ≡ length entrants.old }
     ensures worked { (i : ℕ) (d : _) → i < length entrants.old
-        → HasWorked (setting (fix T.meaning N.terms A.address) T.op_of N.opened)
+        → HasWorked (setting (fix T.meaning N.terms A.address) T.op_of T.query_of N.opened)
         (slice_index_or entrants.old i d) (slice_index_or entrants.new i d) }
 {
     let threads = entrants.len().max(1);
@@ -141,7 +142,8 @@ fn work_all<
             requires { AllByRecursion (MayDrop N.drops) entrant.old.seat.steps.now
                 × (entrant.old.seat.places.items ≡ [])
                 × (length entrant.old.seat.steps.now ≤ vec_capacity entrant.old.seat.places) }
-            ensures { HasWorked (setting (fix T.meaning N.terms A.address) T.op_of N.opened)
+            ensures { HasWorked
+                (setting (fix T.meaning N.terms A.address) T.op_of T.query_of N.opened)
                 entrant.old entrant.new }
         {
             let client = Client {
@@ -163,11 +165,12 @@ fn leave_all<T: Plain, D: Disk + Drop, A: Address, N: Named<T::Op, T::Reply> + D
     mut outcomes: Vec<Outcome>,
 ) -> Vec<Outcome>
     requires ran { AllByRecursion
-        (HasRunOwn (setting (fix T.meaning N.terms A.address) T.op_of N.opened) pass.old)
+        (HasRunOwn (setting (fix T.meaning N.terms A.address) T.op_of T.query_of N.opened) pass.old)
         entrants.items }
     requires none { outcomes.items ≡ [] }
     requires room { length entrants.items ≤ vec_capacity outcomes }
-    ensures { HaveLeft (setting (fix T.meaning N.terms A.address) T.op_of N.opened) pass.old
+    ensures { HaveLeft (setting (fix T.meaning N.terms A.address) T.op_of T.query_of N.opened)
+        pass.old
         pass.new entrants.entry.items result.items }
 {
     for entrant in entrants {
@@ -190,8 +193,8 @@ fn leave_all<T: Plain, D: Disk + Drop, A: Address, N: Named<T::Op, T::Reply> + D
 ///
 /// There is one outcome for each script, in their order, by what the pass has seen when all are done: the moves of a
 /// client's steps, in order, all behind what the pass had seen before, and a moment from there on at which each step that
-/// made none was done. All memory for them is taken before any client starts: after `Memory` the pass is as it was, so no
-/// move was made.
+/// made none was done. No two clients have a place in common, and the pass claims the moves of all. All memory for them is
+/// taken before any client starts: after `Memory` the pass is as it was, so no move was made.
 pub fn run_clients<
     T: Plain + Send + Sync,
     D: Disk + Drop + Send,
@@ -210,7 +213,8 @@ pub fn run_clients<
     requires parts { 2 * length scripts.now < pass.old.parts }
     requires drops { MayDropIn N.drops scripts.now }
     ensures ran { IfOk result
-        (Ran (setting (fix T.meaning N.terms A.address) T.op_of N.opened) pass.old pass.new
+        (Ran (setting (fix T.meaning N.terms A.address) T.op_of T.query_of N.opened) pass.old
+        pass.new
         scripts.now) }
     ensures kept { OnErr result (pass.new ≡ pass.old) }
 {

@@ -76,7 +76,8 @@ impl<T: Plain, D: Disk + Drop, A: Address, N: Named<T::Op, T::Reply>, G: Gate, R
             (IsLanding (move_of prepared.seen.branch prepared.work) pass.old pass.new
             places.old.items places.new.items) }
         ensures refused { IfErr result (λ refusal.
-            IsLandRefused (setting (fix T.meaning N.terms A.address) T.op_of N.opened) prepared
+            IsLandRefused (setting (fix T.meaning N.terms A.address) T.op_of T.query_of N.opened)
+            prepared
             pass.new refusal × HasStayed pass.old pass.new places.old.items places.new.items) }
     {
         match self.shared.land(self.rt, pass, prepared) {

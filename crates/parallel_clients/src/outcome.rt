@@ -76,6 +76,9 @@ pub enum ClientRefusal {
         /// The bytes of the one that was to be stored.
         fresh: Bytes,
     },
+    /// The step is on a sequence, and the store has none.
+    #[error("the store has no sequences")]
+    NoSequences,
     /// The disk failed in the step.
     #[error("the disk failed")]
     DiskFault,
@@ -101,6 +104,7 @@ impl fmt::Debug for ClientRefusal {
             ClientRefusal::FullMoves { count } => write!(f, "FullMoves({count})"),
             ClientRefusal::ValueTooLarge { length } => write!(f, "ValueTooLarge({length})"),
             ClientRefusal::Collision { address, .. } => write!(f, "Collision({address:?})"),
+            ClientRefusal::NoSequences => write!(f, "NoSequences"),
             ClientRefusal::DiskFault => write!(f, "DiskFault"),
             ClientRefusal::Failed { moves } => write!(f, "Failed({moves})"),
             ClientRefusal::Memory => write!(f, "Memory"),

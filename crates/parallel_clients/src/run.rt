@@ -55,7 +55,8 @@ impl<T: Plain, D: Disk + Drop, A: Address, N: Named<T::Op, T::Reply>, G: Gate, R
         requires drops { AllByRecursion (MayDrop N.drops) steps.now }
         requires none { places.items ≡ [] }
         requires room { length steps.now ≤ vec_capacity places }
-        ensures became { IsOutcome (setting (fix T.meaning N.terms A.address) T.op_of N.opened)
+        ensures became { IsOutcome
+            (setting (fix T.meaning N.terms A.address) T.op_of T.query_of N.opened)
             pass.old.moves pass.new.moves pass.new.faults steps.now result }
         ensures advances { Advances pass.old pass.new [] (places_of result) }
         ensures valid { KeepsValid (fix T.meaning N.terms A.address) pass.old pass.new }

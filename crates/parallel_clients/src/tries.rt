@@ -21,6 +21,7 @@ use branch_history::laws::{keeps_order, raises_heads};
 use branch_machine::laws::makes_fewer_moves;
 use branch_names::Name;
 use branch_shared::{Named, Pass};
+use mrdt_model::Memory;
 use std::sync::Wait;
 use store_core::DropRefused;
 use store_seen::{PairPrepareRefused, PairRefused, PairStep, PrepareRefused, Seen};
@@ -77,7 +78,7 @@ impl<T: Plain, D: Disk + Drop, A: Address, N: Named<T::Op, T::Reply>, G: Gate, R
         ensures tried { IfOk result (IsTried (sights_of sessions.now.entries session.now)
             (T.op_of op.now) pass.old pass.new places.old.items places.new.items) }
         ensures stopped { IfErr result
-            (Stops (setting (fix T.meaning N.terms A.address) T.op_of N.opened)
+            (Stops (setting (fix T.meaning N.terms A.address) T.op_of T.query_of N.opened)
             (sights_of sessions.now.entries) (step.Do session.now op.now) pass.old pass.new
             places.old.items places.new.items) }
     {
@@ -85,8 +86,10 @@ impl<T: Plain, D: Disk + Drop, A: Address, N: Named<T::Op, T::Reply>, G: Gate, R
             return Err(Stop::Unseen);
         };
         self.gate.before_prepare(self.rt, self.number);
-        let Ok(op) = T::op(op) else {
-            return Err(Stop::Refused(ClientRefusal::Memory));
+        let op = match T::op(op) {
+            Ok(Some(op)) => op,
+            Ok(None) => return Err(Stop::Refused(ClientRefusal::NoSequences)),
+            Err(Memory) => return Err(Stop::Refused(ClientRefusal::Memory)),
         };
         let prepared = match at.seen.prepare(op) {
             Ok(prepared) => prepared,
@@ -123,7 +126,7 @@ impl<T: Plain, D: Disk + Drop, A: Address, N: Named<T::Op, T::Reply>, G: Gate, R
             (IsTriedMerge N.terms.origin (sights_of sessions.now.entries session.now) from.now
             pass.old pass.new places.old.items places.new.items) }
         ensures stopped { IfErr result
-            (Stops (setting (fix T.meaning N.terms A.address) T.op_of N.opened)
+            (Stops (setting (fix T.meaning N.terms A.address) T.op_of T.query_of N.opened)
             (sights_of sessions.now.entries) (step.Merge session.now from.now) pass.old pass.new
             places.old.items places.new.items) }
     {
@@ -209,7 +212,7 @@ impl<T: Plain, D: Disk + Drop, A: Address, N: Named<T::Op, T::Reply>, G: Gate, R
             (IsTriedJoin N.terms.origin (sights_of sessions.now.entries session.now) from.now
             pass.old pass.new places.old.items places.new.items) }
         ensures stopped { IfErr result
-            (Stops (setting (fix T.meaning N.terms A.address) T.op_of N.opened)
+            (Stops (setting (fix T.meaning N.terms A.address) T.op_of T.query_of N.opened)
             (sights_of sessions.now.entries) (step.Join session.now from.now) pass.old pass.new
             places.old.items places.new.items) }
     {
@@ -249,7 +252,7 @@ impl<T: Plain, D: Disk + Drop, A: Address, N: Named<T::Op, T::Reply>, G: Gate, R
         ensures tried { IfOk result (IsTriedDrop (sights_of sessions.now.entries session.now)
             pass.old pass.new places.old.items places.new.items) }
         ensures stopped { IfErr result
-            (Stops (setting (fix T.meaning N.terms A.address) T.op_of N.opened)
+            (Stops (setting (fix T.meaning N.terms A.address) T.op_of T.query_of N.opened)
             (sights_of sessions.now.entries) (step.Drop session.now)
             pass.old pass.new places.old.items places.new.items) }
     {
