@@ -33,7 +33,7 @@ module _ {S O R Q A : Type 0} (m : Meaning S O R Q A) (address : List ℕ → Li
 
   none_or_empty : (terms : Terms) (P : Terms → Type 0) → P terms → (c : Files) → NoneOrEmpty (fix m terms address) c → ReadsAsNoneOrEmpty m address P c
   none_or_empty terms P is c (inl none) = inl ((today address c NotAStore).0
-      (no_store present address c (λ there has. none (record { version = version; terms = there; kind = 0 }) has)))
+      (no_store present address c (λ there has. none (record { version = version; terms = there }) has)))
   none_or_empty terms P is c (inr empty) = inr (terms, is, stands terms address [] c (no_moves terms) empty)
 
   module _ {D : Type 0} (may_leave : D → Files → Type 0) (moment : D → ℕ) (left_since : D → ℕ → Files → Type 0) where

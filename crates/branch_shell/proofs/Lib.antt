@@ -16,4 +16,8 @@ pub mod Runs
 pub mod Drawn
 pub mod Worked
 pub mod Works
+pub mod Chosen
+pub mod Compactions
 pub mod Outcomes
+pub mod Heads
+pub mod Received

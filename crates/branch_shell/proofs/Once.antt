@@ -5,7 +5,7 @@ use Rattle.std.specs.Option.{ForSome}
 use Rattle.branch_io.specs.Causes.{HasCauseOf}
 use Rattle.mrdt_model.specs.Laws.{Meaning}
 use Rattle.branch_disk.specs.Disk.{Files}
-use Rattle.branch_files.specs.Reading.{ReadsAs, NotAStore, BadRecord, BadObject, BadCommit, Truncated}
+use Rattle.branch_files.specs.Reading.{ReadsAsOf, NotAStore, BadRecord, BadObject, BadCommit, Truncated}
 use Rattle.store_core.specs.Opens.{OpenRefusedAs, ReadsAsNone}
 use Rattle.store_core.specs.declared.answers.OpenRefused.{OpenRefused}
 use Rattle.store_core.specs.declared.answers.OpenRefused.TheVariants as refusal
@@ -58,7 +58,7 @@ answers_map success refused success' refused' f g status g0 g1 w = (w.0, w.1, wr
 module _ {S O R Q A T P X B C : Type 0} (meaning : Meaning S O R Q A) (old : Meaning T P X B C)
     (address : List ℕ → List ℕ) (told : Option Files) where
   pub says_refused : (u : Unopened) → ForSome told (UnopenedAs meaning old address u)
-      → (IsSome (unopened_text u) → ForSome told (ReadsAsNone meaning address))
+      → (IsSome (unopened_text u) → ForSome told (ReadsAsNone 0 meaning address))
       → (text : List ℕ) → unopened_text u ≡ Some text → SaysRefused meaning old address told text
   says_refused OldVersion is none text says = (
     NotAStore,
@@ -83,7 +83,7 @@ module _ {S O R Q A T P X B C : Type 0} (meaning : Meaning S O R Q A) (old : Mea
 
 -- what files read as no store read as in the old version too, so is why they are not opened
 pub unopened_so : {S O R Q A T P X B C : Type 0} (meaning : Meaning S O R Q A) (old : Meaning T P X B C)
-    (address : List ℕ → List ℕ) (u : Unopened) (files : Files) → ReadsAs meaning address files NotAStore
+    (address : List ℕ → List ℕ) (u : Unopened) (files : Files) → ReadsAsOf 0 meaning address files NotAStore
     → FoundAs old address u files → UnopenedAs meaning old address u files
 unopened_so meaning old address OldVersion files none found = (none, found)
 unopened_so meaning old address (Refused refusal.NotAStore) files none found = (none, found)
@@ -97,7 +97,7 @@ unopened_so meaning old address (Refused (refusal.Truncated part place)) files n
 -- and what is refused otherwise is refused so
 pub unopened_else : {S O R Q A T P X B C : Type 0} (meaning : Meaning S O R Q A) (old : Meaning T P X B C)
     (address : List ℕ → List ℕ) (r : OpenRefused) (files : Files) → r ≢ refusal.NotAStore
-    → OpenRefusedAs meaning address r files → UnopenedAs meaning old address (Refused r) files
+    → OpenRefusedAs 0 meaning address r files → UnopenedAs meaning old address (Refused r) files
 unopened_else meaning old address refusal.NotAStore files other is = absurd (other refl)
 unopened_else meaning old address refusal.DiskFault files other is = is
 unopened_else meaning old address refusal.Memory files other is = is

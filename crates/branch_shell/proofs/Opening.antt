@@ -4,15 +4,25 @@ use Rattle.branch_disk.specs.declared.disk.Disk.{Ghosts}
 use Rattle.branch_disk.specs.Disk.{Files}
 use Rattle.branch_disk.specs.Moments.{started}
 use Rattle.branch_doc.specs.Document.{document}
-use Rattle.branch_files.specs.Reading.{Opens}
+use Rattle.branch_files.specs.Reading.{Opens, ReadsAs, ReadsAsOf}
+use Rattle.branch_files.proofs.OfAKind.{own-kind}
+use Rattle.branch_files.proofs.Today.{today-reads}
+use Rattle.branch_machine.specs.Fixed.{present}
 use Rattle.branch_names.specs.declared.terms.Terms.{Terms}
 use Rattle.branch_engine.specs.Play.{History}
 use Rattle.branch_shell.specs.declared.status.Status.{Status}
 use Rattle.branch_shell.specs.declared.status.Status.TheVariants.{Done, Usage, StoreRefused, DiskFault, ReadFault, WriteFault, LineTooLong, InputTooLong, Memory}
 use Rattle.branch_shell.specs.Documents.{DocStore, SaysUnopened}
 use Rattle.branch_shell.specs.Once.{WroteOnce}
-use Rattle.branch_shell.specs.Ran.{LeavesAsBefore, HoldsStore, FailsToOpen}
+use Rattle.branch_shell.specs.Disks.{LeavesAsBefore}
+use Rattle.branch_shell.specs.Ran.{HoldsStore, FailsToOpen}
 use Rattle.branch_shell.specs.Stores.{IsOpenedAs}
+
+-- files that read as a store of the kind 0 read so for one that asks for this kind
+pub for_its_kind : (address : List ℕ → List ℕ) (files : Files) (terms : Terms) (history : History) → terms.kind ≡ 0
+    → ReadsAs document address files (Opens terms history) → ReadsAsOf 0 document address files (Opens terms history)
+for_its_kind address files terms history first reads =
+    own-kind present 0 document address files terms history first (today-reads document address files (Opens terms history) reads)
 
 module _ (address : List ℕ → List ℕ) {D : Type 0} (disk : Ghosts D)
     (counts_now : (d : D) (t : ℕ) (c : Files) → t ≤ disk.moment d → disk.may_leave d c → disk.left_since d t c)
@@ -38,7 +48,8 @@ module _ (address : List ℕ → List ℕ) {D : Type 0} (disk : Ghosts D)
   no_refusal : (old : D) (store : DocStore) (text : List ℕ) → HoldsStore disk address old store
       → SaysUnopened address (disk.contents old) text → ⊥
   no_refusal old store text holds says =
-      says.1.no_store holds.files holds.told store.terms store.history holds.reads
+      says.1.no_store holds.files holds.told store.terms store.history
+      (for_its_kind address holds.files store.terms store.history holds.kind holds.reads)
 
   -- what was written of a store that was not opened: nothing
   no_text : (old : D) (store : DocStore) (status : Status) (text : List ℕ) → HoldsStore disk address old store

@@ -7,7 +7,7 @@ use mathlib.Core.List.{IsPrefix}
 use Rattle.branch_io.specs.Causes.{Rose}
 use Rattle.branch_disk.specs.Disk.{Files}
 use Rattle.branch_doc.specs.Document.{document}
-use Rattle.branch_doc.specs.Forms.{doc_op}
+use Rattle.branch_doc.specs.Forms.{doc_op, doc_query}
 use Rattle.branch_files.specs.Laws.{ReadsWhatStands}
 use Rattle.branch_history.specs.declared.moves.Move.{Move}
 use Rattle.branch_machine.specs.Validity.{IsFullyValid}
@@ -104,6 +104,7 @@ module _ {S O R Q A : Type 0} (on : Setting S O R Q A) (old new : List (Move O R
   finds_branch client step (refused.FullMoves n) places h = tt
   finds_branch client step (refused.ValueTooLarge size) places h = tt
   finds_branch client step (refused.Collision address stored fresh) places h = tt
+  finds_branch client step refused.NoSequences places h = h.may
   finds_branch client step refused.DiskFault places h = tt
   finds_branch client step (refused.Failed n) places h = tt
   finds_branch client step refused.Memory places h = tt
@@ -127,6 +128,7 @@ module _ {S O R Q A : Type 0} (on : Setting S O R Q A) (old new : List (Move O R
   fault_of_step client step (refused.FullMoves n) places h fault = absurd fault
   fault_of_step client step (refused.ValueTooLarge size) places h fault = absurd fault
   fault_of_step client step (refused.Collision address stored fresh) places h fault = absurd fault
+  fault_of_step client step refused.NoSequences places h fault = absurd fault
   fault_of_step client step refused.DiskFault places h fault = h.is.comes.refused
   fault_of_step client step (refused.Failed n) places h fault = h.is.comes.refused.1
   fault_of_step client step refused.Memory places h fault = absurd fault
@@ -151,7 +153,7 @@ module _ (address : List ℕ → List ℕ) (reads : ReadsWhatStands document) (s
 
 -- the history that a store came to by clients, or by none
 pub came_together : {E : Type 0} (address : List ℕ → List ℕ) (store : DocStore) (clients : Clients) (history : History) (opened since : ℕ) (r : Result (List Outcome) E) → IsPrefix store.history history → IsFullyValid (fixed_of address store) history
-    → IfOk r (HaveWorked (setting (fixed_of address store) doc_op opened) store.history history since clients.count clients.work.steps clients.work.number) → OnErr r (history ≡ store.history) → CameTogether address store clients history
+    → IfOk r (HaveWorked (setting (fixed_of address store) doc_op doc_query opened) store.history history since clients.count clients.work.steps clients.work.number) → OnErr r (history ≡ store.history) → CameTogether address store clients history
 came_together address store clients history opened since (Ok outcomes) grown valid worked idle = inr (outcomes, record { opened = opened; since = since; grown = grown; valid = valid; worked = worked })
 came_together address store clients history opened since (Err e) grown valid worked idle = inl idle
 

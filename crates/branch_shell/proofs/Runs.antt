@@ -5,29 +5,31 @@ use Rattle.std.specs.Io.KnownBytes.{Appends}
 use Rattle.std.proofs.KnownBytes.{Consumes-nil, Appends-nil}
 use Rattle.branch_disk.specs.declared.disk.Disk.{Ghosts}
 use Rattle.branch_disk.specs.Disk.{Files}
-use Rattle.branch_disk.specs.Moments.{weakened}
+use Rattle.branch_disk.specs.Moments.{weakened, started}
+use Rattle.branch_names.specs.declared.terms.Terms.{Terms}
+use Rattle.store_core.specs.Inits.{IsEmpty}
 use Rattle.branch_doc.specs.Document.{document}
 use Rattle.store_core.specs.Opens.{ReadsAsNone}
-use Rattle.branch_command.specs.Numbers.{Numbers}
+use Rattle.branch_command.specs.Terms.{TermNumbers, AreTerms}
 use Rattle.branch_command.specs.Work.{Clients as ClientsGiven}
-use Rattle.branch_command.specs.Commands.{Said, Init, Script, Check, Generate, Clients, Upgrade, Help}
+use Rattle.branch_command.specs.Commands.{Said, Init, Script, Check, Generate, Clients, Upgrade, Compact, Address, Send, Receive, Help}
 use Rattle.branch_shell.specs.declared.status.Status.{Status}
-use Rattle.branch_shell.specs.declared.status.Status.TheVariants.{Done, Usage, StoreRefused, Memory}
+use Rattle.branch_shell.specs.declared.status.Status.TheVariants.{Done, Usage, StoreRefused, DiskFault, Memory}
 use Rattle.branch_shell.specs.Reading.{Exchanges}
 use Rattle.branch_shell.specs.Once.{WroteOnce, Answers, Says}
-use Rattle.branch_shell.specs.Stores.{SaysReady, SaysNotEmpty, SaysReport, ReadsAsNoneOrEmpty}
+use Rattle.branch_shell.specs.Stores.{SaysReport, ReadsAsNoneOrEmpty}
 use Rattle.branch_shell.specs.Documents.{DocStore, SaysUnopened}
 use Rattle.branch_shell.specs.Together.{RanTogether, SaysTogether, LeftTogether}
-use Rattle.branch_shell.specs.Upgrading.{RanUpgrade, Gives}
+use Rattle.branch_shell.specs.Bundling.{SaysAddress, SaysBundle, SaysNoBranch}
+use Rattle.mrdt_old_doc.specs.OldDocument.{old_document}
 use Rattle.branch_shell.specs.Statuses.{Wrote, ScriptWrote, Holds}
-use Rattle.branch_shell.specs.Ran.{AreTerms, LeavesAsBefore, LeavesInit, LeavesChecked, Ran, Disks, RanOverBoth}
+use Rattle.store_compact.specs.declared.answers.Which.{Which}
+use Rattle.branch_shell.specs.Disks.{Disks, LeavesAsBefore, StaysSame, NoneChosen}
+use Rattle.branch_shell.specs.Ran.{LeavesInit, LeavesChecked, SaysMade, SaysNotMade, RanInit, RanChosen, RanOverBoth}
 use Rattle.branch_shell.proofs.Once.{wrote_map}
 use Rattle.branch_shell.proofs.Said.{one_command}
-use Rattle.branch_shell.proofs.Inits.{empty_reads}
-use Rattle.branch_shell.proofs.Opening.{untouched}
+use Rattle.branch_shell.proofs.Inits.{empty_reads, empty_map, none_or_empty_map}
 use Rattle.branch_shell.proofs.Outcomes.{says_ran}
-use Rattle.branch_shell.proofs.Scripts.{script_refused}
-use Rattle.branch_shell.proofs.Works.{work_refused}
 
 -- a script tells no misuse
 script_usage : (address : List ℕ → List ℕ) (told : Option Files) (left : Option (List ℕ)) (input text : List ℕ) → ScriptWrote address told left Usage input text → ⊥
@@ -56,44 +58,86 @@ text_given : (text : List ℕ) (result : Status) (g0 g1 : Option (List ℕ)) (be
 text_given text result g0 g1 before now (inl (is, gave, same)) = (text, gave)
 text_given text result g0 g1 before now (inr (is, gives, rose)) = (gives.part, gives.given)
 
--- and help is not refused
-help_goes : (text : List ℕ) (result : Status) (g0 g1 : Option (List ℕ)) (before now : ℕ) → Says text Done result g0 g1 before now → result ≡ StoreRefused → ⊥
-help_goes text result g0 g1 before now (inl (is, gave, same)) refused = cc (is, refused)
-help_goes text result g0 g1 before now (inr (is, gives, rose)) refused = cc (is, refused)
-
-module _ (address : List ℕ → List ℕ) {D : Type 0} (disk : Ghosts D)
-    (counts_now : (d : D) (t : ℕ) (c : Files) → t ≤ disk.moment d → disk.may_leave d c → disk.left_since d t c)
-    (only_now : (d : D) (c : Files) → disk.left_since d (disk.moment d) c → disk.may_leave d c) where
+module _ (address : List ℕ → List ℕ) {D : Type 0} (disk : Ghosts D) where
   -- what a run did of one command, by the words that say it
   pub said_ran : (words : Option Said) (this command : Said) → words ≡ Some this → words ≡ Some command
-      → (old new : D) (l0 l1 g0 g1 : Option (List ℕ)) (status : Status) → Exchanges l0 l1 g0 g1 (Ran disk address this old new l1 status)
-      → Exchanges l0 l1 g0 g1 (Ran disk address command old new l1 status)
+      → (old new : Disks D) (l0 l1 g0 g1 : Option (List ℕ)) (status : Status) → Exchanges l0 l1 g0 g1 (RanOverBoth disk address this old new l1 status)
+      → Exchanges l0 l1 g0 g1 (RanOverBoth disk address command old new l1 status)
   said_ran words this command is said old new l0 l1 g0 g1 status e =
-      (e.0, e.1, e.2, e.3, subst (λ (k : Said). Ran disk address k old new l1 status e.0 e.1) (one_command words this command is said) e.4)
+      (e.0, e.1, e.2, e.3, subst (λ (k : Said). RanOverBoth disk address k old new l1 status e.0 e.1) (one_command words this command is said) e.4)
 
-  module _ (old new : D) (status : Status) (l g0 g1 : Option (List ℕ)) where
-    pub init_ran : (n : Numbers) → Answers (SaysReady (disk.contents old)) (SaysNotEmpty (disk.contents old)) status g0 g1
-        → LeavesInit disk address (AreTerms n) old new status → (status ≡ StoreRefused → LeavesAsBefore disk old new)
-        → Exchanges l l g0 g1 (Ran disk address (Init n) old new l status)
-    init_ran n w leaves refused = ([], w.0, Consumes-nil l, w.1, record { wrote = (refl, w.2); leaves = leaves; refused = refused })
+  pub help_ran : (old : Disks D) (text : List ℕ) (status : Status) (l g0 g1 : Option (List ℕ)) (before now : ℕ) → Says text Done status g0 g1 before now
+      → Exchanges l l g0 g1 (RanOverBoth disk address Help old old l status)
+  help_ran old text status l g0 g1 before now says =
+      let given = text_given text status g0 g1 before now says in
+      ([], given.0, Consumes-nil l, given.1, (refl, refl))
 
-    pub check_ran : Answers (SaysReport document address (disk.contents old)) (SaysUnopened address (disk.contents old)) status g0 g1
-        → LeavesChecked disk address old new status → Exchanges l l g0 g1 (Ran disk address Check old new l status)
-    check_ran w leaves = ([], w.0, Consumes-nil l, w.1, record { wrote = (refl, w.2); leaves = leaves; refused = λ refused. leaves.any_moment })
+  -- a store that is made under terms of which this is true, and so that
+  pub init_ran : (n : TermNumbers) (P : Terms → Type 0) → ((terms : Terms) → P terms → AreTerms n terms)
+      → (old new : Disks D) (status : Status) (l g0 g1 : Option (List ℕ))
+      → Answers (SaysMade (disk.contents old.first) (disk.contents old.second)) (SaysNotMade (disk.contents old.first) (disk.contents old.second)) status g0 g1
+      → LeavesInit disk address P old.first new.first status → (status ≡ StoreRefused → LeavesAsBefore disk old.first new.first)
+      → ((files : Files) → disk.contents old.second ≡ Some files → ¬ IsEmpty files → new.first ≡ old.first)
+      → StaysSame disk old.second new.second
+      → Exchanges l l g0 g1 (RanOverBoth disk address (Init n) old new l status)
+  init_ran n P are old new status l g0 g1 w leaves refused full second = (
+    [],
+    w.0,
+    Consumes-nil l,
+    w.1,
+    (
+      refl,
+      record {
+        wrote = w.2;
+        leaves = record {
+          any_moment = λ empty. weakened disk.moment disk.left_since old.first new.first (ReadsAsNoneOrEmpty document address P) (ReadsAsNoneOrEmpty document address (AreTerms n))
+              (leaves.any_moment empty) (none_or_empty_map document address P (AreTerms n) are);
+          made = λ done c image. empty_map document address P (AreTerms n) are c (leaves.made done c image);
+          kept = leaves.kept;
+        };
+        refused = refused;
+        full = full;
+        second = second;
+      },
+    ),
+  )
 
-    pub clients_ran : (clients : ClientsGiven)
-        → Answers (RanTogether disk.may_leave address (disk.contents old) clients new) (SaysUnopened address (disk.contents old)) status g0 g1
-        → ((store : DocStore) → Holds disk.contents disk.may_leave address old store → LeftTogether disk.may_leave address store clients status new)
-        → ((files : Files) → disk.contents old ≡ Some files → ReadsAsNone document address files → LeavesAsBefore disk old new)
-        → (status ≡ StoreRefused → LeavesAsBefore disk old new)
-        → Exchanges l l g0 g1 (Ran disk address (Clients clients) old new l status)
-    clients_ran clients w crashes none refused =
-        let told = disk.contents old in
-        let Ran_so : List ℕ → Type 0 = RanTogether disk.may_leave address told clients new in (
-          [],
-          w.0,
-          Consumes-nil l,
-          w.1,
+  -- a run over the current disk alone, which leaves the other as it was
+  pub check_ran : (which : Which) (old new aside : D) (status : Status) (l g0 g1 : Option (List ℕ))
+      → Answers (SaysReport document address (disk.contents old)) (SaysUnopened address (disk.contents old)) status g0 g1
+      → LeavesChecked disk address old new status
+      → Exchanges l l g0 g1 (RanChosen disk address Check which old new aside aside l status)
+  check_ran which old new aside status l g0 g1 w leaves =
+      ([], w.0, Consumes-nil l, w.1, (record { wrote = (refl, w.2); leaves = leaves; refused = λ refused. leaves.any_moment }, refl))
+
+  pub address_ran : (which : Which) (old new aside : D) (status : Status) (l g0 g1 : Option (List ℕ)) (branch : List ℕ)
+      → Answers (SaysAddress document address (disk.contents old) branch) (SaysNoBranch document old_document address (disk.contents old) branch) status g0 g1
+      → LeavesChecked disk address old new status
+      → Exchanges l l g0 g1 (RanChosen disk address (Address branch) which old new aside aside l status)
+  address_ran which old new aside status l g0 g1 branch w leaves =
+      ([], w.0, Consumes-nil l, w.1, (record { wrote = (refl, w.2); leaves = leaves; refused = λ refused. leaves.any_moment }, refl))
+
+  pub send_ran : (which : Which) (old new aside : D) (status : Status) (l g0 g1 : Option (List ℕ)) (branch : List ℕ) (here : List (List ℕ))
+      → Answers (SaysBundle document address (disk.contents old) branch here) (SaysNoBranch document old_document address (disk.contents old) branch) status g0 g1
+      → LeavesChecked disk address old new status
+      → Exchanges l l g0 g1 (RanChosen disk address (Send (record { branch = branch; here = here })) which old new aside aside l status)
+  send_ran which old new aside status l g0 g1 branch here w leaves =
+      ([], w.0, Consumes-nil l, w.1, (record { wrote = (refl, w.2); leaves = leaves; refused = λ refused. leaves.any_moment }, refl))
+
+  pub clients_ran : (which : Which) (old new aside : D) (status : Status) (l g0 g1 : Option (List ℕ)) (clients : ClientsGiven)
+      → Answers (RanTogether disk.may_leave address (disk.contents old) clients new) (SaysUnopened address (disk.contents old)) status g0 g1
+      → ((store : DocStore) → Holds disk.contents disk.may_leave address old store → LeftTogether disk.may_leave address store clients status new)
+      → ((files : Files) → disk.contents old ≡ Some files → ReadsAsNone 0 document address files → LeavesAsBefore disk old new)
+      → (status ≡ StoreRefused → LeavesAsBefore disk old new)
+      → Exchanges l l g0 g1 (RanChosen disk address (Clients clients) which old new aside aside l status)
+  clients_ran which old new aside status l g0 g1 clients w crashes none refused =
+      let told = disk.contents old in
+      let Ran_so : List ℕ → Type 0 = RanTogether disk.may_leave address told clients new in (
+        [],
+        w.0,
+        Consumes-nil l,
+        w.1,
+        (
           record {
             wrote = (
               refl,
@@ -107,152 +151,54 @@ module _ (address : List ℕ → List ℕ) {D : Type 0} (disk : Ghosts D)
             };
             refused = refused;
           },
-        )
-
-  pub help_ran : (old : D) (text : List ℕ) (status : Status) (l g0 g1 : Option (List ℕ)) (before now : ℕ) → Says text Done status g0 g1 before now
-      → Exchanges l l g0 g1 (Ran disk address Help old old l status)
-  help_ran old text status l g0 g1 before now says =
-      let given = text_given text status g0 g1 before now says in (
-        [],
-        given.0,
-        Consumes-nil l,
-        given.1,
-        record {
-          wrote = refl;
-          leaves = refl;
-          refused = λ refused. absurd {A = LeavesAsBefore disk old old} (help_goes text status g0 g1 before now says refused);
-        },
+          refl,
+        ),
       )
+
+module _ (address : List ℕ → List ℕ) {D : Type 0} (disk : Ghosts D)
+    (only_now : (d : D) (c : Files) → disk.left_since d (disk.moment d) c → disk.may_leave d c) where
+  -- nothing was done
+  pub untouched : (old : D) → StaysSame disk old old
+  untouched old = record { same = refl; kept = started disk.moment disk.left_since old (disk.may_leave old) (only_now old) }
+
+  idle : (old : Disks D) (status : Status) → (status ≡ DiskFault) ⊎ (status ≡ Memory) → NoneChosen disk old old status [] []
+  idle old status why = record { why = why; no_input = refl; no_text = refl; first = untouched old.first; second = untouched old.second }
+
+  idle_init : (n : TermNumbers) (old : Disks D) → RanInit disk address (AreTerms n) old old Memory []
+  idle_init n old =
+      let same = (untouched old.first).kept in
+      record {
+        wrote = refl;
+        leaves = record {
+          any_moment = λ empty. weakened disk.moment disk.left_since old.first old.first (disk.may_leave old.first) (ReadsAsNoneOrEmpty document address (AreTerms n))
+              same (λ c was. empty_reads document address (AreTerms n) c (empty c was));
+          made = λ done. absurd (cc);
+          kept = λ files told full. same;
+        };
+        refused = λ refused. same;
+        full = λ files told full. refl;
+        second = untouched old.second;
+      }
 
   -- for want of memory to read the words
-  memory_ran : (old : D) (l g : Option (List ℕ)) (command : Said) → command ≢ Upgrade
-      → Exchanges l l g g (Ran disk address command old old l Memory)
-  memory_ran old l g (Init n) one =
-      let same = untouched address disk counts_now only_now old in (
-        [],
-        [],
-        Consumes-nil l,
-        Appends-nil g,
-        record {
-          wrote = (refl, refl);
-          leaves = record {
-            any_moment = λ empty. weakened disk.moment disk.left_since old old (disk.may_leave old) (ReadsAsNoneOrEmpty document address (AreTerms n))
-                same (λ c was. empty_reads document address (AreTerms n) c (empty c was));
-            made = λ done. absurd (cc);
-            kept = λ files told full. same;
-          };
-          refused = λ refused. same;
-        },
-      )
-  memory_ran old l g Script one =
-      ([], [], Consumes-nil l, Appends-nil g, script_refused address disk counts_now only_now old old l Memory [] (untouched address disk counts_now only_now old) refl)
-  memory_ran old l g Check one =
-      let same = untouched address disk counts_now only_now old in (
-        [],
-        [],
-        Consumes-nil l,
-        Appends-nil g,
-        record {
-          wrote = (refl, refl);
-          leaves = record { any_moment = same; keeps = λ done. absurd (cc) };
-          refused = λ refused. same;
-        },
-      )
-  memory_ran old l g (Generate work) one =
-      ([], [], Consumes-nil l, Appends-nil g, work_refused address disk counts_now only_now work l old old Memory [] (untouched address disk counts_now only_now old) refl)
-  memory_ran old l g (Clients clients) one =
-      let same = untouched address disk counts_now only_now old in (
-        [],
-        [],
-        Consumes-nil l,
-        Appends-nil g,
-        record {
-          wrote = (refl, refl);
-          leaves = record {
-            ran = λ done. absurd (cc);
-            crashes = λ store holds. record { history = store.history; came = inl refl; reads = λ c left. inl (holds.images c left) };
-            none = λ files told none. same;
-          };
-          refused = λ refused. same;
-        },
-      )
-  memory_ran old l g Help one =
-      ([], [], Consumes-nil l, Appends-nil g, record { wrote = refl; leaves = refl; refused = λ refused. untouched address disk counts_now only_now old })
-  memory_ran old l g Upgrade one = absurd (one refl)
+  idle_over : (old : Disks D) (l : Option (List ℕ)) (command : Said) → RanOverBoth disk address command old old l Memory [] []
+  idle_over old l (Init n) = (refl, idle_init n old)
+  idle_over old l Script = inl (idle old Memory (inr refl))
+  idle_over old l Check = inl (idle old Memory (inr refl))
+  idle_over old l (Generate work) = inl (idle old Memory (inr refl))
+  idle_over old l (Clients clients) = inl (idle old Memory (inr refl))
+  idle_over old l Upgrade = inl (idle old Memory (inr refl))
+  idle_over old l Compact = inl (idle old Memory (inr refl))
+  idle_over old l (Address branch) = inl (idle old Memory (inr refl))
+  idle_over old l (Send sending) = inl (idle old Memory (inr refl))
+  idle_over old l (Receive name) = inl (idle old Memory (inr refl))
+  idle_over old l Help = (refl, refl)
 
-  -- a run over the first disk is one over both, which leaves the second as it was
-  module _ (old new second : D) (l : Option (List ℕ)) (status : Status) where
-    abbrev were : Disks D
-    were = record { first = old; second = second }
+  pub both_memory : (old : Disks D) (l g : Option (List ℕ)) (command : Said)
+      → Exchanges l l g g (RanOverBoth disk address command old old l Memory)
+  both_memory old l g command = ([], [], Consumes-nil l, Appends-nil g, idle_over old l command)
 
-    abbrev are : Disks D
-    are = record { first = new; second = second }
-
-    over_both : (command : Said) (input text : List ℕ)
-        → Ran disk address command old new l status input text
-        → RanOverBoth disk address command were are l status input text
-    over_both (Init n) input text ran = (ran, refl)
-    over_both Script input text ran = (ran, refl)
-    over_both Check input text ran = (ran, refl)
-    over_both (Generate work) input text ran = (ran, refl)
-    over_both (Clients clients) input text ran = (ran, refl)
-    over_both Upgrade input text ran = absurd ran.wrote
-    over_both Help input text ran = (ran, refl)
-
-    pub both_ran : (command : Said) (l0 g0 g1 : Option (List ℕ))
-        → Exchanges l0 l g0 g1 (Ran disk address command old new l status)
-        → Exchanges l0 l g0 g1 (RanOverBoth disk address command were are l status)
-    both_ran command l0 g0 g1 e = (e.0, e.1, e.2, e.3, over_both command e.0 e.1 e.4)
-
-  -- an upgrade for which memory was short before anything was done
-  idle_upgrade : (old second : D) → RanUpgrade disk address old old second second Memory []
-  idle_upgrade old second = record {
-    wrote = refl;
-    same = refl;
-    kept = untouched address disk counts_now only_now old;
-    begun = inl refl;
-  }
-
-  pub both_memory : (old second : D) (l g : Option (List ℕ)) (command : Said)
-      → Exchanges l l g g (RanOverBoth disk address command
-      (record { first = old; second = second }) (record { first = old; second = second }) l Memory)
-  both_memory old second l g Upgrade =
-      ([], [], Consumes-nil l, Appends-nil g, (refl, idle_upgrade old second))
-  both_memory old second l g (Init n) =
-      both_ran old old second l Memory (Init n) l g g (memory_ran old l g (Init n) (λ e. cc e))
-  both_memory old second l g Script =
-      both_ran old old second l Memory Script l g g (memory_ran old l g Script (λ e. cc e))
-  both_memory old second l g Check =
-      both_ran old old second l Memory Check l g g (memory_ran old l g Check (λ e. cc e))
-  both_memory old second l g (Generate work) =
-      both_ran old old second l Memory (Generate work) l g g
-      (memory_ran old l g (Generate work) (λ e. cc e))
-  both_memory old second l g (Clients clients) =
-      both_ran old old second l Memory (Clients clients) l g g
-      (memory_ran old l g (Clients clients) (λ e. cc e))
-  both_memory old second l g Help =
-      both_ran old old second l Memory Help l g g (memory_ran old l g Help (λ e. cc e))
-
-  -- and an upgrade is one over both
-  pub upgrade_ran : (words : Option Said) (command : Said) → words ≡ Some Upgrade
-      → words ≡ Some command → (old new second_old second_new : D) (l g0 g1 : Option (List ℕ))
-      (status : Status)
-      → Gives g0 g1 (RanUpgrade disk address old new second_old second_new status)
-      → Exchanges l l g0 g1 (RanOverBoth disk address command
-      (record { first = old; second = second_old })
-      (record { first = new; second = second_new }) l status)
-  upgrade_ran words command is said old new second_old second_new l g0 g1 status did = (
-    [],
-    did.0,
-    Consumes-nil l,
-    did.1,
-    subst (λ (k : Said). RanOverBoth disk address k
-        (record { first = old; second = second_old })
-        (record { first = new; second = second_new }) l status [] did.0)
-        (one_command words Upgrade command is said) (refl, did.2),
-  )
-
--- where the second disk stays as it was
+-- where the other disk stays as it was
 pub both_behind : (same also E : Type 0) → also → same ⊎ E → (same × also) ⊎ E
 both_behind same also E stays (inl is) = inl (is, stays)
 both_behind same also E stays (inr e) = inr e

@@ -1,26 +1,30 @@
 -- A command that was read is the one that the words say.
 use Rattle.std.proofs.Common.{◌≡◌, ℕ, refl, sym, subst, ◌∙◌, ap}
-use Rattle.std.specs.Prelude.{Option, Some, None, IfSome, IfNone, String}
+use Rattle.std.specs.Prelude.{List, Option, Some, None, IfSome, IfNone, String}
 use Rattle.std.specs.declared.alloc.Global.{Global}
-use Rattle.branch_names.specs.declared.limits.Limits.{Limits}
 use Rattle.branch_names.specs.declared.terms.Terms.{Terms}
 use Rattle.branch_command.specs.declared.command.Command.{Command}
 use Rattle.branch_command.specs.declared.command.Command.TheVariants as read
-use Rattle.branch_command.specs.Numbers.{Numbers, AreLimits}
+use Rattle.branch_command.specs.declared.command.Named.{Named}
+use Rattle.branch_command.specs.declared.command.Sending.{Sending}
+use Rattle.branch_command.specs.Terms.{TermNumbers, AreTerms}
 use Rattle.branch_command.specs.Work.{Work, Clients as ClientsGiven}
-use Rattle.branch_command.specs.Commands.{Said, Init, Script, Check, Generate, Clients, Upgrade, Help, Means}
+use Rattle.branch_command.specs.Commands.{Said, Init, Script, Check, Generate, Clients, Upgrade, Compact, Address, Send, Receive, Help, Means}
 use Rattle.branch_shell.specs.Alone.{alone}
-use Rattle.branch_shell.specs.Stores.{AreUnder}
-use Rattle.branch_shell.specs.Ran.{AreTerms}
+use Rattle.branch_shell.specs.Stores.{AreThese}
 
-is_init : (said : Said) (limits : Limits) → Means said (read.Init limits) → (n : Numbers) × (said ≡ Init n) × AreLimits n limits
-is_init (Init n) limits means = (n, refl, means)
-is_init Script limits means = absurd means
-is_init Check limits means = absurd means
-is_init (Generate work) limits means = absurd means
-is_init (Clients given) limits means = absurd means
-is_init Upgrade limits means = absurd means
-is_init Help limits means = absurd means
+is_init : (said : Said) (terms : Terms) → Means said (read.Init terms) → (n : TermNumbers) × (said ≡ Init n) × AreTerms n terms
+is_init (Init n) terms means = (n, refl, means)
+is_init Script terms means = absurd means
+is_init Check terms means = absurd means
+is_init (Generate work) terms means = absurd means
+is_init (Clients given) terms means = absurd means
+is_init Upgrade terms means = absurd means
+is_init Compact terms means = absurd means
+is_init (Address branch) terms means = absurd means
+is_init (Send given) terms means = absurd means
+is_init (Receive name) terms means = absurd means
+is_init Help terms means = absurd means
 
 is_script : (said : Said) → Means said read.Script → said ≡ Script
 is_script (Init n) means = absurd means
@@ -29,6 +33,10 @@ is_script Check means = absurd means
 is_script (Generate work) means = absurd means
 is_script (Clients given) means = absurd means
 is_script Upgrade means = absurd means
+is_script Compact means = absurd means
+is_script (Address branch) means = absurd means
+is_script (Send given) means = absurd means
+is_script (Receive name) means = absurd means
 is_script Help means = absurd means
 
 is_check : (said : Said) → Means said read.Check → said ≡ Check
@@ -38,6 +46,10 @@ is_check Check means = refl
 is_check (Generate work) means = absurd means
 is_check (Clients given) means = absurd means
 is_check Upgrade means = absurd means
+is_check Compact means = absurd means
+is_check (Address branch) means = absurd means
+is_check (Send given) means = absurd means
+is_check (Receive name) means = absurd means
 is_check Help means = absurd means
 
 is_generate : (said : Said) (steps number : ℕ) → Means said (read.Generate steps number) → said ≡ Generate (record { steps = steps; number = number })
@@ -47,6 +59,10 @@ is_generate Check steps number means = absurd means
 is_generate (Generate work) steps number means = ap Generate means
 is_generate (Clients given) steps number means = absurd means
 is_generate Upgrade steps number means = absurd means
+is_generate Compact steps number means = absurd means
+is_generate (Address branch) steps number means = absurd means
+is_generate (Send given) steps number means = absurd means
+is_generate (Receive name) steps number means = absurd means
 is_generate Help steps number means = absurd means
 
 is_clients : (said : Said) (count steps number : ℕ) → Means said (read.Clients count steps number) → said ≡ Clients (record { count = count; work = record { steps = steps; number = number } })
@@ -56,6 +72,10 @@ is_clients Check count steps number means = absurd means
 is_clients (Generate work) count steps number means = absurd means
 is_clients (Clients given) count steps number means = ap Clients means
 is_clients Upgrade count steps number means = absurd means
+is_clients Compact count steps number means = absurd means
+is_clients (Address branch) count steps number means = absurd means
+is_clients (Send given) count steps number means = absurd means
+is_clients (Receive name) count steps number means = absurd means
 is_clients Help count steps number means = absurd means
 
 is_help : (said : Said) (text : String Global) → Means said (read.Tell text) → said ≡ Help
@@ -65,6 +85,10 @@ is_help Check text means = absurd means
 is_help (Generate work) text means = absurd means
 is_help (Clients given) text means = absurd means
 is_help Upgrade text means = absurd means
+is_help Compact text means = absurd means
+is_help (Address branch) text means = absurd means
+is_help (Send given) text means = absurd means
+is_help (Receive name) text means = absurd means
 is_help Help text means = refl
 
 is_upgrade : (said : Said) → Means said read.Upgrade → said ≡ Upgrade
@@ -74,15 +98,71 @@ is_upgrade Check means = absurd means
 is_upgrade (Generate work) means = absurd means
 is_upgrade (Clients given) means = absurd means
 is_upgrade Upgrade means = refl
+is_upgrade Compact means = absurd means
+is_upgrade (Address branch) means = absurd means
+is_upgrade (Send given) means = absurd means
+is_upgrade (Receive name) means = absurd means
 is_upgrade Help means = absurd means
+
+is_compact : (said : Said) → Means said read.Compact → said ≡ Compact
+is_compact (Init n) means = absurd means
+is_compact Script means = absurd means
+is_compact Check means = absurd means
+is_compact (Generate work) means = absurd means
+is_compact (Clients given) means = absurd means
+is_compact Upgrade means = absurd means
+is_compact Compact means = refl
+is_compact (Address branch) means = absurd means
+is_compact (Send given) means = absurd means
+is_compact (Receive name) means = absurd means
+is_compact Help means = absurd means
+
+is_address : (said : Said) (named : Named) → Means said (read.Address named) → said ≡ Address named.name
+is_address (Init n) named means = absurd means
+is_address Script named means = absurd means
+is_address Check named means = absurd means
+is_address (Generate work) named means = absurd means
+is_address (Clients given) named means = absurd means
+is_address Upgrade named means = absurd means
+is_address Compact named means = absurd means
+is_address (Address word) named means = ap Address means
+is_address (Send sending) named means = absurd means
+is_address (Receive word) named means = absurd means
+is_address Help named means = absurd means
+
+is_send : (said : Said) (sending : Sending) → Means said (read.Send sending) → said ≡ Send (record { branch = sending.branch; here = sending.here })
+is_send (Init n) sending means = absurd means
+is_send Script sending means = absurd means
+is_send Check sending means = absurd means
+is_send (Generate work) sending means = absurd means
+is_send (Clients given) sending means = absurd means
+is_send Upgrade sending means = absurd means
+is_send Compact sending means = absurd means
+is_send (Address word) sending means = absurd means
+is_send (Send given) sending means = ap Send means
+is_send (Receive word) sending means = absurd means
+is_send Help sending means = absurd means
+
+is_receive : (said : Said) (named : Named) → Means said (read.Receive named) → said ≡ Receive named.name
+is_receive (Init n) named means = absurd means
+is_receive Script named means = absurd means
+is_receive Check named means = absurd means
+is_receive (Generate work) named means = absurd means
+is_receive (Clients given) named means = absurd means
+is_receive Upgrade named means = absurd means
+is_receive Compact named means = absurd means
+is_receive (Address word) named means = absurd means
+is_receive (Send sending) named means = absurd means
+is_receive (Receive word) named means = ap Receive means
+is_receive Help named means = absurd means
 
 -- what was said, of the command that was read
 abbrev pub Reads : Option Said → Command → Type 0
 Reads words command = (said : Said) × (words ≡ Some said) × Means said command
 
 module _ (words : Option Said) where
-  pub said_init : (command : Command) (limits : Limits) → command ≡ read.Init limits → Reads words command → (n : Numbers) × (words ≡ Some (Init n)) × AreLimits n limits
-  said_init command limits is r = let i = is_init r.0 limits (subst (Means r.0) is r.2) in (i.0, r.1 ∙ ap Some i.1, i.2)
+  pub said_init : (command : Command) (terms : Terms) → command ≡ read.Init terms → Reads words command → (n : TermNumbers) × (words ≡ Some (Init n)) × AreTerms n terms
+  said_init command terms is r = let i = is_init r.0 terms (subst (Means r.0) is r.2) in (i.0, r.1 ∙ ap Some i.1, i.2)
 
   pub said_script : (command : Command) → command ≡ read.Script → Reads words command → words ≡ Some Script
   said_script command is r = r.1 ∙ ap Some (is_script r.0 (subst (Means r.0) is r.2))
@@ -92,6 +172,9 @@ module _ (words : Option Said) where
 
   pub said_upgrade : (command : Command) → command ≡ read.Upgrade → Reads words command → words ≡ Some Upgrade
   said_upgrade command is r = r.1 ∙ ap Some (is_upgrade r.0 (subst (Means r.0) is r.2))
+
+  pub said_compact : (command : Command) → command ≡ read.Compact → Reads words command → words ≡ Some Compact
+  said_compact command is r = r.1 ∙ ap Some (is_compact r.0 (subst (Means r.0) is r.2))
 
   pub said_generate : (command : Command) (steps number : ℕ) → command ≡ read.Generate steps number → Reads words command → words ≡ Some (Generate (record { steps = steps; number = number }))
   said_generate command steps number is r = r.1 ∙ ap Some (is_generate r.0 steps number (subst (Means r.0) is r.2))
@@ -113,18 +196,23 @@ module _ (words : Option Said) where
   pub one_command : (a b : Said) → words ≡ Some a → words ≡ Some b → a ≡ b
   one_command a b x y = cc (x, y)
 
-  pub same_numbers : (m n : Numbers) → words ≡ Some (Init m) → words ≡ Some (Init n) → m ≡ n
-  same_numbers m n x y = cc (x, y)
+  pub said_address : (command : Command) (named : Named) → command ≡ read.Address named → Reads words command → words ≡ Some (Address named.name)
+  said_address command named is r = r.1 ∙ ap Some (is_address r.0 named (subst (Means r.0) is r.2))
 
-  -- terms under the limits of the command have the numbers that were said
-  pub terms_said : (command : Command) (limits : Limits) → command ≡ read.Init limits → Reads words command → (n : Numbers) → words ≡ Some (Init n) → (terms : Terms) → AreUnder limits terms → AreTerms n terms
-  terms_said command limits is r n said terms under =
-      let i = said_init command limits is r in
-      let numbers : i.0 ≡ n = same_numbers i.0 n i.1 said in
-      record {
-        limits = subst (AreLimits n) (sym under.limits_are) (subst (λ (m : Numbers). AreLimits m limits) numbers i.2);
-        origin = under.origin;
-      }
+  pub said_send : (command : Command) (sending : Sending) → command ≡ read.Send sending → Reads words command
+      → words ≡ Some (Send (record { branch = sending.branch; here = sending.here }))
+  said_send command sending is r = r.1 ∙ ap Some (is_send r.0 sending (subst (Means r.0) is r.2))
+
+  pub said_receive : (command : Command) (named : Named) → command ≡ read.Receive named → Reads words command → words ≡ Some (Receive named.name)
+  said_receive command named is r = r.1 ∙ ap Some (is_receive r.0 named (subst (Means r.0) is r.2))
+
+  -- the terms of the command have the numbers that were said
+  pub terms_said : (command : Command) (given : Terms) → command ≡ read.Init given → Reads words command → (n : TermNumbers) → words ≡ Some (Init n) → (terms : Terms) → AreThese given terms → AreTerms n terms
+  terms_said command given is r n said terms these =
+      let i = said_init command given is r in
+      let both : Some (Init i.0) ≡ Some (Init n) = sym i.1 ∙ said in
+      let numbers : i.0 ≡ n = cc both in
+      subst (AreTerms n) (sym these) (subst (λ (m : TermNumbers). AreTerms m given) numbers i.2)
 
 -- clients are no command that needs no threads
 pub never_alone : (words : Option Said) (clients : ClientsGiven) → alone words ≡ Some (Clients clients) → ⊥
@@ -135,6 +223,10 @@ never_alone (Some Check) clients is = cc is
 never_alone (Some (Generate work)) clients is = cc is
 never_alone (Some (Clients given)) clients is = cc is
 never_alone (Some Upgrade) clients is = cc is
+never_alone (Some Compact) clients is = cc is
+never_alone (Some (Address branch)) clients is = cc is
+never_alone (Some (Send given)) clients is = cc is
+never_alone (Some (Receive name)) clients is = cc is
 never_alone (Some Help) clients is = cc is
 
 -- a command that was read and needs no threads is the one that the words say
@@ -147,14 +239,22 @@ same_said (Init n) command none means = refl
 same_said Script command none means = refl
 same_said Check command none means = refl
 same_said (Generate work) command none means = refl
-same_said (Clients given) (read.Init limits) none means = absurd means
+same_said (Clients given) (read.Init terms) none means = absurd means
 same_said (Clients given) read.Script none means = absurd means
 same_said (Clients given) read.Check none means = absurd means
 same_said (Clients given) (read.Generate steps number) none means = absurd means
 same_said (Clients given) (read.Clients count steps number) none means = absurd none
 same_said (Clients given) read.Upgrade none means = absurd means
+same_said (Clients given) read.Compact none means = absurd means
+same_said (Clients given) (read.Address named) none means = absurd means
+same_said (Clients given) (read.Send sending) none means = absurd means
+same_said (Clients given) (read.Receive named) none means = absurd means
 same_said (Clients given) (read.Tell text) none means = absurd means
 same_said Upgrade command none means = refl
+same_said Compact command none means = refl
+same_said (Address branch) command none means = refl
+same_said (Send given) command none means = refl
+same_said (Receive name) command none means = refl
 same_said Help command none means = refl
 
 pub same_alone : (words : Option Said) (command : Command) → NeedsNone command → Reads words command → alone words ≡ words

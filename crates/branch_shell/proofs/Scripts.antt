@@ -17,11 +17,12 @@ use Rattle.branch_shell.specs.Reading.{IsFirstPart, Exchanges}
 use Rattle.branch_shell.specs.Stores.{IsOpenedAs}
 use Rattle.branch_shell.specs.Once.{WroteOnce}
 use Rattle.branch_shell.specs.Documents.{DocStore, fixed_of, script_text, SaysUnopened}
-use Rattle.branch_shell.specs.Ran.{LeavesAsBefore, HoldsStore, LeavesScript, Ran}
+use Rattle.branch_shell.specs.Disks.{LeavesAsBefore}
+use Rattle.branch_shell.specs.Ran.{HoldsStore, LeavesScript, Ran}
 use Rattle.branch_shell.specs.Statuses.{WroteOver, Wrote, Holds, Runs, TellsWholeLines, TellsPart}
 use Rattle.branch_shell.proofs.Told.{whole_part, text_from-append}
 use Rattle.branch_shell.proofs.Ends.{script_text-is}
-use Rattle.branch_shell.proofs.Opening.{store_read, failed}
+use Rattle.branch_shell.proofs.Opening.{for_its_kind, store_read, failed}
 
 pub exchanges_map : (l0 l1 g0 g1 : Option (List ℕ)) (P Q : List ℕ → List ℕ → Type 0) → ((input text : List ℕ) → P input text → Q input text) → Exchanges l0 l1 g0 g1 P → Exchanges l0 l1 g0 g1 Q
 exchanges_map l0 l1 g0 g1 P Q f e = (e.0, e.1, e.2, e.3, f e.0 e.1 e.4)
@@ -117,7 +118,7 @@ module _ (address : List ℕ → List ℕ) where
         leaves = record {
           over = script_over;
           none = λ files told none. absurd {A = LeavesAsBefore disk old new}
-              (none found.terms found.history (is.reads files told));
+              (none found.terms found.history (for_its_kind address files found.terms found.history is.kind (is.reads files told)));
         };
         refused = λ refused. absurd {A = LeavesAsBefore disk old new} (never_refused refused);
       }

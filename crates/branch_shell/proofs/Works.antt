@@ -15,16 +15,17 @@ use Rattle.branch_command.specs.Commands.{Generate}
 use Rattle.branch_command.specs.Work.{Work}
 use Rattle.branch_shell.specs.declared.status.Status.{Status}
 use Rattle.branch_shell.specs.declared.status.Status.TheVariants.{Done, Usage, StoreRefused, DiskFault, ReadFault, WriteFault, LineTooLong, InputTooLong, Memory}
-use Rattle.branch_shell.specs.Counts.{StopsCounting}
+use Rattle.branch_shell.specs.Counts.{StopsCounting, HasReason}
 use Rattle.branch_shell.specs.Stores.{ReadsAsStore, IsOpenedAs}
 use Rattle.branch_shell.specs.Once.{WroteOnce, Answers}
 use Rattle.branch_shell.specs.Documents.{DocStore, fixed_of, replies_over, SaysUnopened}
 use Rattle.branch_shell.specs.Telling.{TellsLines, LeavesSome}
 use Rattle.branch_shell.specs.Generated.{drawn_lines, work_text, SaysWork, HoldsAfterSome, SurvivesWork}
-use Rattle.branch_shell.specs.Ran.{LeavesAsBefore, HoldsStore, LeavesWork, Ran}
+use Rattle.branch_shell.specs.Disks.{LeavesAsBefore}
+use Rattle.branch_shell.specs.Ran.{HoldsStore, LeavesWork, Ran}
 use Rattle.branch_shell.proofs.Ends.{after_lines-is}
 use Rattle.branch_shell.proofs.Once.{wrote_map}
-use Rattle.branch_shell.proofs.Opening.{store_read, failed}
+use Rattle.branch_shell.proofs.Opening.{for_its_kind, store_read, failed}
 
 -- what stopped the lines is not that all was done
 pub stopped_undone : (before now : ℕ) (status : Status) → StopsCounting before now status → status ≢ Done
@@ -37,6 +38,19 @@ stopped_undone before now WriteFault stops done = stops
 stopped_undone before now LineTooLong stops done = stops
 stopped_undone before now InputTooLong stops done = stops
 stopped_undone before now Memory stops done = cc done
+
+-- and of all counts it raised none but that of the disk
+pub stopped_reason : (n k before now : ℕ) (status : Status) → StopsCounting before now status
+    → HasReason (record { source = n; sink = k; disk = before }) (record { source = n; sink = k; disk = now }) status
+stopped_reason n k before now Done stops = absurd stops
+stopped_reason n k before now Usage stops = absurd stops
+stopped_reason n k before now StoreRefused stops = absurd stops
+stopped_reason n k before now DiskFault stops = (stops, refl, refl)
+stopped_reason n k before now ReadFault stops = absurd stops
+stopped_reason n k before now WriteFault stops = absurd stops
+stopped_reason n k before now LineTooLong stops = absurd stops
+stopped_reason n k before now InputTooLong stops = absurd stops
+stopped_reason n k before now Memory stops = (refl, refl, stops)
 
 -- and then nothing was written
 pub nothing_said : (success refusal : List ℕ → Type 0) (before now : ℕ) (status : Status) → StopsCounting before now status → WroteOnce success refusal status []
@@ -113,7 +127,7 @@ module _ (address : List ℕ → List ℕ) where
         leaves = record {
           over = work_over;
           none = λ files says none. absurd {A = LeavesAsBefore disk old new}
-              (none found.terms found.history (is.reads files says));
+              (none found.terms found.history (for_its_kind address files found.terms found.history is.kind (is.reads files says)));
         };
         refused = λ refused. absurd {A = LeavesAsBefore disk old new}
             (subst (λ (s : Status). WroteOnce (λ whole. whole ≡ work_text address found (drawn_lines work)) (λ whole. ⊥) s text) refused w);

@@ -7,6 +7,10 @@ pub mod Telling
 pub mod Generated
 pub mod Together
 pub mod Upgrading
+pub mod Disks
+pub mod Bundling
+pub mod Compacting
+pub mod Tasks
 pub mod Statuses
 pub mod Ran
 pub mod Alone

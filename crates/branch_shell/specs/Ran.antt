@@ -2,6 +2,7 @@
 -- its disk.
 use Rattle.std.specs.Prelude.{◌≡◌, ◌⊎◌, ℕ, List, [], Some}
 use Rattle.std.specs.declared.option.Option.{Option}
+use Rattle.std.specs.Option.{ForSome}
 use Rattle.branch_disk.specs.declared.disk.Disk.{Ghosts}
 use Rattle.branch_disk.specs.Disk.{Files, LeavesOnly}
 use Rattle.branch_doc.specs.Document.{document}
@@ -9,27 +10,30 @@ use Rattle.branch_names.specs.declared.terms.Terms.{Terms}
 use Rattle.branch_script.specs.Lines.{lines_of}
 use Rattle.store_core.specs.Inits.{IsEmpty}
 use Rattle.store_core.specs.Opens.{ReadsAsNone}
-use Rattle.branch_command.specs.Commands.{Said, Init, Script, Check, Generate, Clients, Upgrade, Help}
-use Rattle.branch_command.specs.Numbers.{Numbers, AreLimits}
+use Rattle.branch_command.specs.Commands.{Said, Init, Script, Check, Generate, Clients, Upgrade, Compact, Address, Send, Receive, Help}
+use Rattle.branch_command.specs.Terms.{AreTerms}
 use Rattle.branch_command.specs.Work.{Clients as ClientsGiven}
 use Rattle.branch_shell.specs.declared.status.Status.{Status}
 use Rattle.branch_shell.specs.declared.status.Status.TheVariants.{Done, StoreRefused, DiskFault, Memory}
 use Rattle.branch_shell.specs.Documents.{DocStore, store_after}
 use Rattle.branch_shell.specs.Generated.{drawn_lines, HoldsAfterSome}
 use Rattle.branch_shell.specs.Statuses.{Wrote, Holds, HoldsSome, HoldsAnswered}
-use Rattle.branch_shell.specs.Stores.{ReadsAsStore, ReadsAsEmpty, ReadsAsNoneOrEmpty}
+use Rattle.branch_shell.specs.Once.{WroteOnce}
+use Rattle.branch_shell.specs.Stores.{ReadsAsStore, ReadsAsEmpty, ReadsAsNoneOrEmpty, SaysReady, SaysNotEmpty}
+use Rattle.branch_shell.specs.Disks.{Disks, held, other, LeavesAsBefore, StaysSame, AreChosen, NoneChosen}
+use Rattle.branch_shell.specs.Compacting.{RanCompact}
+use Rattle.store_compact.specs.declared.answers.Which.{Which}
 use Rattle.branch_shell.specs.Together.{RanTogether, LeftTogether}
 use Rattle.branch_shell.specs.Upgrading.{RanUpgrade}
+use Rattle.branch_shell.specs.Bundling.{RanReceive}
+use Rattle.mrdt_old_doc.specs.OldDocument.{old_document}
 
--- at each moment of a run a crash leaves only what one might have left at its start
-abbrev pub LeavesAsBefore : {D : Type 0} → Ghosts D → D → D → Type 0
-LeavesAsBefore disk old new = LeavesOnly disk.moment disk.left_since old new (disk.may_leave old)
-
--- the disk tells files that read as the store
+-- the disk tells files that read as the store, whose values are of the kind 0
 pub record HoldsStore {D : Type 0} (disk : Ghosts D) (address : List ℕ → List ℕ) (old : D)
     (store : DocStore) : Type 0 where
   pub files : Files
   pub told : disk.contents old ≡ Some files
+  pub kind : store.terms.kind ≡ 0
   pub reads : ReadsAsStore document address store files
 
 -- The store was not opened, since the disk failed or memory was short: nothing was read or written,
@@ -78,7 +82,7 @@ LeavesWork disk address store lines old new status input text =
 pub record LeavesStore {D : Type 0} (disk : Ghosts D) (address : List ℕ → List ℕ) (old new : D)
     (P : DocStore → Type 0) : Type 0 where
   pub over : (store : DocStore) → HoldsStore disk address old store → P store
-  pub none : (files : Files) → disk.contents old ≡ Some files → ReadsAsNone document address files
+  pub none : (files : Files) → disk.contents old ≡ Some files → ReadsAsNone 0 document address files
       → LeavesAsBefore disk old new
 
 -- What `init` leaves: where each image was empty, no store or one of no moves at each moment; after
@@ -91,7 +95,7 @@ pub record LeavesInit {D : Type 0} (disk : Ghosts D) (address : List ℕ → Lis
   pub kept : (files : Files) → disk.contents old ≡ Some files → ¬ IsEmpty files
       → LeavesAsBefore disk old new
 
--- What `check` leaves: only what a crash might have left before; and after `Done` the store,
+-- What `check`, `address` and `send` leave: only what a crash might have left before; and after `Done` the store,
 -- whatever might have been left of it.
 pub record LeavesChecked {D : Type 0} (disk : Ghosts D) (address : List ℕ → List ℕ) (old new : D)
     (status : Status) : Type 0 where
@@ -107,19 +111,12 @@ pub record LeavesTogether {D : Type 0} (disk : Ghosts D) (address : List ℕ →
   pub ran : status ≡ Done → RanTogether disk.may_leave address (disk.contents old) clients new text
   pub crashes : (store : DocStore) → Holds disk.contents disk.may_leave address old store
       → LeftTogether disk.may_leave address store clients status new
-  pub none : (files : Files) → disk.contents old ≡ Some files → ReadsAsNone document address files
+  pub none : (files : Files) → disk.contents old ≡ Some files → ReadsAsNone 0 document address files
       → LeavesAsBefore disk old new
-
--- the terms of a new store: its limits have the numbers that were said, and its first origin is 0
-pub record AreTerms (numbers : Numbers) (terms : Terms) : Type 0 where
-  pub limits : AreLimits numbers terms.limits
-  pub origin : terms.origin ≡ 0
 
 -- what a crash leaves of the disk of a command over one disk
 abbrev pub Leaves : {D : Type 0} → Ghosts D → (List ℕ → List ℕ) → Said → D → D → Option (List ℕ)
     → Status → List ℕ → List ℕ → Type 0
-Leaves disk address (Init numbers) old new left status input text =
-    LeavesInit disk address (AreTerms numbers) old new status
 Leaves disk address Script old new left status input text =
     LeavesStore disk address old new
     (λ store. LeavesScript disk address store old new left status input text)
@@ -129,29 +126,78 @@ Leaves disk address (Generate work) old new left status input text =
     (λ store. LeavesWork disk address store (drawn_lines work) old new status input text)
 Leaves disk address (Clients clients) old new left status input text =
     LeavesTogether disk address clients old new status text
+Leaves disk address (Init numbers) old new left status input text = ⊥
 Leaves disk address Upgrade old new left status input text = ⊥
-Leaves disk address Help old new left status input text = new ≡ old
+Leaves disk address Compact old new left status input text = ⊥
+Leaves disk address (Address branch) old new left status input text =
+    LeavesChecked disk address old new status
+Leaves disk address (Send sending) old new left status input text =
+    LeavesChecked disk address old new status
+Leaves disk address (Receive name) old new left status input text = ⊥
+Leaves disk address Help old new left status input text = ⊥
 
--- What a run of a command over one disk did, which ended with this status: what it wrote of the input that it
--- read, behind which this is left of its source; and what a crash leaves of its disk, of which it
--- changed nothing where it was refused.
+-- What a run of a command over one disk did, which ended with this status: what it wrote of the
+-- input that it read, behind which this is left of its source; and what a crash leaves of its disk,
+-- of which it changed nothing where it was refused.
 pub record Ran {D : Type 0} (disk : Ghosts D) (address : List ℕ → List ℕ) (command : Said)
     (old new : D) (left : Option (List ℕ)) (status : Status) (input text : List ℕ) : Type 0 where
   pub wrote : Wrote address command (disk.contents old) left status input text
   pub leaves : Leaves disk address command old new left status input text
   pub refused : status ≡ StoreRefused → LeavesAsBefore disk old new
 
--- two disks: the one whose store a command works on, and the one on which `upgrade` makes a store
-pub record Disks (D : Type 0) : Type 0 where
-  pub first : D
-  pub second : D
+-- neither disk has a byte, and the text says that a store is made
+abbrev pub SaysMade : Option Files → Option Files → List ℕ → Type 0
+SaysMade first second text = ForSome second IsEmpty × SaysReady first text
 
--- What a run of a command did over two disks: `upgrade` works on both, and every other command
--- leaves the second as it was.
+-- one of the disks has a byte, and the text says so
+abbrev pub SaysNotMade : Option Files → Option Files → List ℕ → Type 0
+SaysNotMade first second text = SaysNotEmpty first text ⊎ SaysNotEmpty second text
+
+-- What `init` did, which makes a store of such terms on the first disk, where neither has a byte.
+-- Where the second has one, the first is as it was. Nothing is written to the second.
+pub record RanInit {D : Type 0} (disk : Ghosts D) (address : List ℕ → List ℕ) (P : Terms → Type 0)
+    (old new : Disks D) (status : Status) (text : List ℕ) : Type 0 where
+  pub wrote : WroteOnce (SaysMade (disk.contents old.first) (disk.contents old.second))
+      (SaysNotMade (disk.contents old.first) (disk.contents old.second)) status text
+  pub leaves : LeavesInit disk address P old.first new.first status
+  pub refused : status ≡ StoreRefused → LeavesAsBefore disk old.first new.first
+  pub full : (files : Files) → disk.contents old.second ≡ Some files → ¬ IsEmpty files
+      → new.first ≡ old.first
+  pub second : StaysSame disk old.second new.second
+
+-- What a command did to the current disk, this one of the two, and to the other: `upgrade` and
+-- `compact` work on both, and every other command leaves the other as it was. `receive` may end
+-- refused with moves made.
+abbrev pub RanChosen : {D : Type 0} → Ghosts D → (List ℕ → List ℕ) → Said → Which → D → D → D → D
+    → Option (List ℕ) → Status → List ℕ → List ℕ → Type 0
+RanChosen disk address Upgrade which old new aside aside_new left status input text =
+    (input ≡ []) × RanUpgrade disk address old new aside aside_new status text
+RanChosen disk address Compact which old new aside aside_new left status input text =
+    (input ≡ []) × RanCompact disk address which old new aside aside_new status text
+RanChosen disk address (Receive name) which old new aside aside_new left status input text =
+    RanReceive disk document old_document address name old new left status input text
+    × (aside_new ≡ aside)
+RanChosen disk address command which old new aside aside_new left status input text =
+    Ran disk address command old new left status input text × (aside_new ≡ aside)
+
+-- What a command did that works on the current disk: it was chosen, and there the disks were as
+-- they are in between.
+pub record RanOnCurrent {D : Type 0} (disk : Ghosts D) (address : List ℕ → List ℕ) (command : Said)
+    (old new : Disks D) (left : Option (List ℕ)) (status : Status) (input text : List ℕ)
+    : Type 0 where
+  pub which : Which
+  pub between : Disks D
+  pub chosen : AreChosen disk old between which
+  pub ran : RanChosen disk address command which (held which between) (held which new)
+      (other which between) (other which new) left status input text
+
+-- What a run of a command did over two disks: `init` works on the first, help on none, and every
+-- other command on the current one, unless none was chosen.
 abbrev pub RanOverBoth : {D : Type 0} → Ghosts D → (List ℕ → List ℕ) → Said → Disks D → Disks D
     → Option (List ℕ) → Status → List ℕ → List ℕ → Type 0
-RanOverBoth disk address Upgrade old new left status input text = (input ≡ [])
-    × RanUpgrade disk address old.first new.first old.second new.second status text
+RanOverBoth disk address (Init numbers) old new left status input text = (input ≡ [])
+    × RanInit disk address (AreTerms numbers) old new status text
+RanOverBoth disk address Help old new left status input text = (input ≡ []) × (new ≡ old)
 RanOverBoth disk address command old new left status input text =
-    Ran disk address command old.first new.first left status input text
-    × (new.second ≡ old.second)
+    NoneChosen disk old new status input text
+    ⊎ RanOnCurrent disk address command old new left status input text

@@ -2,7 +2,7 @@
 use Rattle.std.specs.Prelude.{ℕ, List, Some, None}
 use Rattle.mrdt_model.specs.Laws.{Meaning}
 use Rattle.branch_disk.specs.Disk.{Files}
-use Rattle.branch_files.specs.Reading.{NotAStore, ReadsAs, ReadsIn}
+use Rattle.branch_files.specs.Reading.{NotAStore, ReadsAsOf, ReadsIn}
 use Rattle.store_core.specs.Opens.{old_form, OpenRefusedAs}
 use Rattle.branch_shell.specs.Stores.{IsOldVersion}
 use Rattle.std.specs.declared.option.Option.{Option}
@@ -38,8 +38,8 @@ FoundAs old address (Refused why) files = ⊥
 -- the files read as the refusal says; those that read as no store, also in the old version
 abbrev pub UnopenedAs : {S O R Q A T P X B C : Type 0} → Meaning S O R Q A → Meaning T P X B C
     → (List ℕ → List ℕ) → Unopened → Files → Type 0
-UnopenedAs meaning old address OldVersion files = ReadsAs meaning address files NotAStore
+UnopenedAs meaning old address OldVersion files = ReadsAsOf 0 meaning address files NotAStore
     × IsOldVersion old address files
 UnopenedAs meaning old address (Refused refusal.NotAStore) files =
-    ReadsAs meaning address files NotAStore × ReadsIn old_form old address files NotAStore
-UnopenedAs meaning old address (Refused why) files = OpenRefusedAs meaning address why files
+    ReadsAsOf 0 meaning address files NotAStore × ReadsIn old_form old address files NotAStore
+UnopenedAs meaning old address (Refused why) files = OpenRefusedAs 0 meaning address why files

@@ -6,16 +6,18 @@ use Rattle.branch_disk.specs.Disk.{Files, LeavesOnly}
 use Rattle.branch_doc.specs.Document.{document}
 use Rattle.branch_script.specs.Lines.{lines_of}
 use Rattle.branch_engine.specs.Play.{begins}
-use Rattle.branch_command.specs.Commands.{Said, Init, Script, Check, Generate, Clients, Upgrade, Help}
+use Rattle.branch_command.specs.Commands.{Said, Init, Script, Check, Generate, Clients, Upgrade, Compact, Address, Send, Receive, Help}
 use Rattle.branch_shell.specs.declared.status.Status.{Status}
 use Rattle.branch_shell.specs.declared.status.Status.TheVariants.{Done, Usage, StoreRefused, DiskFault, ReadFault, WriteFault, LineTooLong, InputTooLong, Memory}
 use Rattle.branch_shell.specs.Reading.{IsCut, AreShort, WereRead, IsFirstPart}
-use Rattle.branch_shell.specs.Stores.{ReadsAsStore, IsOpenedAs, SaysReport, SaysReady, SaysNotEmpty}
+use Rattle.branch_shell.specs.Stores.{ReadsAsStore, IsOpenedAs, SaysReport}
 use Rattle.branch_shell.specs.Once.{WroteOnce}
 use Rattle.branch_shell.specs.Telling.{ReadsAfterSome}
 use Rattle.branch_shell.specs.Documents.{DocStore, fixed_of, script_text, store_after, SaysUnopened}
 use Rattle.branch_shell.specs.Generated.{SaysWork}
 use Rattle.branch_shell.specs.Together.{SaysTogether}
+use Rattle.branch_shell.specs.Bundling.{SaysAddress, SaysBundle, SaysNoBranch}
+use Rattle.mrdt_old_doc.specs.OldDocument.{old_document}
 
 -- the text is that of the input's whole lines, behind which this is left
 pub record TellsWholeLines (address : List ℕ → List ℕ) (store : DocStore) (input text rest : List ℕ)
@@ -65,12 +67,11 @@ ScriptWrote address told left status input text =
     ⊎ ((store : DocStore) × IsOpenedAs document address told store × (length input ≤ 2 ^ 32)
     × WroteOver address store left status input text)
 
--- What a command over one disk wrote of the input that it read, by the status that it ended with.
--- The text of help is left open. `upgrade` is the command that works over two disks.
+-- What a command over one disk wrote of the input that it read, by the status that it ended with;
+-- `init`, `upgrade` and `compact` work over two disks, and help over none; what `receive` wrote is said
+-- with what it leaves.
 abbrev pub Wrote : (List ℕ → List ℕ) → Said → Option Files → Option (List ℕ) → Status → List ℕ
     → List ℕ → Type 0
-Wrote address (Init numbers) told left status input text = (input ≡ [])
-    × WroteOnce (SaysReady told) (SaysNotEmpty told) status text
 Wrote address Script told left status input text = ScriptWrote address told left status input text
 Wrote address Check told left status input text = (input ≡ [])
     × WroteOnce (SaysReport document address told) (SaysUnopened address told) status text
@@ -78,8 +79,17 @@ Wrote address (Generate work) told left status input text = (input ≡ [])
     × WroteOnce (SaysWork address told work) (SaysUnopened address told) status text
 Wrote address (Clients clients) told left status input text = (input ≡ [])
     × WroteOnce (SaysTogether address told clients) (SaysUnopened address told) status text
+Wrote address (Init numbers) told left status input text = ⊥
 Wrote address Upgrade told left status input text = ⊥
-Wrote address Help told left status input text = input ≡ []
+Wrote address Compact told left status input text = ⊥
+Wrote address (Address branch) told left status input text = (input ≡ [])
+    × WroteOnce (SaysAddress document address told branch)
+    (SaysNoBranch document old_document address told branch) status text
+Wrote address (Send sending) told left status input text = (input ≡ [])
+    × WroteOnce (SaysBundle document address told sending.branch sending.here)
+    (SaysNoBranch document old_document address told sending.branch) status text
+Wrote address (Receive name) told left status input text = ⊥
+Wrote address Help told left status input text = ⊥
 
 -- at the start the disk tells files that read as the store, and so does each image
 pub record Holds {D : Type 0} (contents : D → Option Files) (may_leave : D → Files → Type 0)

@@ -4,12 +4,11 @@ use Rattle.std.specs.declared.option.Option.{Option}
 use Rattle.std.specs.Option.{ForSome}
 use Rattle.mrdt_model.specs.Laws.{Meaning}
 use Rattle.branch_disk.specs.Disk.{Files}
-use Rattle.branch_names.specs.declared.limits.Limits.{Limits}
 use Rattle.branch_names.specs.declared.terms.Terms.{Terms}
 use Rattle.branch_history.specs.declared.moves.Move.{Move}
 use Rattle.branch_machine.specs.Fixed.{fix}
 use Rattle.branch_machine.specs.Validity.{IsFullyValid}
-use Rattle.branch_files.specs.Reading.{Answer, Opens, NotAStore, BadRecord, BadObject, BadCommit, Truncated, ReadsAs, ReadsIn}
+use Rattle.branch_files.specs.Reading.{Answer, Opens, NotAStore, BadRecord, BadObject, BadCommit, Truncated, ReadsAs, ReadsAsOf, ReadsIn}
 use Rattle.branch_print.specs.Reports.{report_text, ready_text, not_empty_text, no_store_text, old_version_text, bad_record_text, bad_object_text, bad_commit_text, truncated_text}
 use Rattle.store_core.specs.Inits.{IsEmpty}
 use Rattle.store_core.specs.Opens.{old_form, ReadsOnlyAs, ReadsAsNone}
@@ -25,19 +24,21 @@ abbrev pub ReadsAsStore : {S O R Q A : Type 0} → Meaning S O R Q A → (List �
 ReadsAsStore meaning address store files = ReadsAs meaning address files
     (Opens store.terms store.history)
 
--- The store that opening found: its history is valid and, of a disk that tells, the files read as
--- the store and as nothing else.
+-- The store that opening found: its history is valid, its values are of the kind 0 and, of a disk
+-- that tells, the files read as the store and as nothing else.
 pub record IsOpenedAs {S O R Q A : Type 0} (meaning : Meaning S O R Q A) (address : List ℕ → List ℕ)
     (told : Option Files) (store : Stored O R) : Type 0 where
   pub valid : IsFullyValid (fix meaning store.terms address) store.history
+  pub kind : store.terms.kind ≡ 0
   pub reads : ForSome told (ReadsAsStore meaning address store)
   pub only : ForSome told (ReadsOnlyAs meaning address (Opens store.terms store.history))
 
--- Why opening was refused: of a disk that tells, the files read as this answer, and as no store.
+-- Why opening was refused: of a disk that tells, the files read as this answer for one that asks
+-- for the kind 0, and as no store.
 pub record IsRefusedAs {S O R Q A : Type 0} (meaning : Meaning S O R Q A)
     (address : List ℕ → List ℕ) (told : Option Files) (answer : Answer O R) : Type 0 where
-  pub reads : ForSome told (λ files. ReadsAs meaning address files answer)
-  pub no_store : ForSome told (ReadsAsNone meaning address)
+  pub reads : ForSome told (λ files. ReadsAsOf 0 meaning address files answer)
+  pub no_store : ForSome told (ReadsAsNone 0 meaning address)
 
 -- the files are a store's of the old version, as far as their beginning goes
 abbrev pub IsOldVersion : {S O R Q A : Type 0} → Meaning S O R Q A → (List ℕ → List ℕ) → Files
@@ -75,10 +76,9 @@ SaysReady told text = ForSome told IsEmpty × (text ≡ ready_text)
 abbrev pub SaysNotEmpty : Option Files → List ℕ → Type 0
 SaysNotEmpty told text = ForSome told (λ files. ¬ IsEmpty files) × (text ≡ not_empty_text)
 
--- the terms whose limits are these, and whose first origin is 0
-pub record AreUnder (limits : Limits) (terms : Terms) : Type 0 where
-  pub limits_are : terms.limits ≡ limits
-  pub origin : terms.origin ≡ 0
+-- these terms, and no others
+abbrev pub AreThese : Terms → Terms → Type 0
+AreThese these terms = terms ≡ these
 
 -- the files read as a store of no moves, of whose terms this is true
 abbrev pub ReadsAsEmpty : {S O R Q A : Type 0} → Meaning S O R Q A → (List ℕ → List ℕ)

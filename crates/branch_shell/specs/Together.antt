@@ -4,7 +4,7 @@ use Rattle.std.specs.declared.option.Option.{Option}
 use mathlib.Core.List.{IsPrefix}
 use Rattle.branch_disk.specs.Disk.{Files}
 use Rattle.branch_doc.specs.Document.{document}
-use Rattle.branch_doc.specs.Forms.{DocOp, DocReply, doc_op}
+use Rattle.branch_doc.specs.Forms.{DocOp, DocReply, doc_op, doc_query}
 use Rattle.branch_history.specs.declared.moves.Move.{Move}
 use Rattle.branch_history.specs.Steps as machine
 use Rattle.branch_machine.specs.Validity.{IsFullyValid}
@@ -24,7 +24,7 @@ use Rattle.branch_shell.specs.declared.status.Status.TheVariants.{DiskFault, Mem
 use Rattle.branch_shell.specs.Stores.{ReadsAsStore, IsOpenedAs}
 use Rattle.branch_shell.specs.Documents.{DocStore, fixed_of}
 
--- the machine's refusal of a client's step; none, where the disk failed or memory was short
+-- the machine's refusal of a client's step; none, where the disk failed or memory was short, nor of a step on sequences, which no client of drawn steps has
 abbrev pub machine_refusal : ClientRefusal → Option machine.Refusal
 machine_refusal (refused.UnknownBranch name) = Some (machine.UnknownBranch name)
 machine_refusal (refused.Dropped branch) = Some (machine.Dropped branch)
@@ -35,6 +35,7 @@ machine_refusal (refused.FullBranches count) = Some (machine.FullBranches count)
 machine_refusal (refused.FullMoves count) = Some (machine.FullMoves count)
 machine_refusal (refused.ValueTooLarge size) = Some (machine.ValueTooLarge size)
 machine_refusal (refused.Collision address stored fresh) = Some (machine.Collision address stored fresh)
+machine_refusal refused.NoSequences = None
 machine_refusal refused.DiskFault = None
 machine_refusal (refused.Failed count) = None
 machine_refusal refused.Memory = None
@@ -66,14 +67,14 @@ pub record TellsClients (origin : ℕ) (outcomes : List Outcome) (history : Hist
   pub told : client_lines 0 outcomes ≡ Some lines
   pub text_is : text ≡ lines ++ report_text origin history
 
--- Clients worked on the store, which came to this history. How many faults the disk had had when the store was opened, and how many since, matters only to refusals
--- that have no line.
+-- Clients worked on the store, which came to this history. Their places are the numbers of the moves behind the old one, each once. How many faults the disk had had
+-- when the store was opened, and how many since, matters only to refusals that have no line.
 pub record WorkedTogether (address : List ℕ → List ℕ) (store : DocStore) (clients : Clients) (history : History) (outcomes : List Outcome) : Type 0 where
   pub opened : ℕ
   pub since : ℕ
   pub grown : IsPrefix store.history history
   pub valid : IsFullyValid (fixed_of address store) history
-  pub worked : HaveWorked (setting (fixed_of address store) doc_op opened) store.history history since clients.count clients.work.steps clients.work.number outcomes
+  pub worked : HaveWorked (setting (fixed_of address store) doc_op doc_query opened) store.history history since clients.count clients.work.steps clients.work.number outcomes
 
 -- clients worked on the store, which came to this history, and this is their text
 pub record ToldTogether (address : List ℕ → List ℕ) (store : DocStore) (clients : Clients) (history : History) (text : List ℕ) : Type 0 where
@@ -122,6 +123,7 @@ pub record LeftTogether {D : Type 0} (may_leave : D → Files → Type 0) (addre
 -- a client's step was not refused for a branch that is not there
 abbrev pub FindsBranch : ClientRefusal → Type 0
 FindsBranch (refused.UnknownBranch name) = ⊥
+FindsBranch refused.NoSequences = ⊥
 FindsBranch refusal = Unit {0}
 
 -- no step of a client named a branch that is not there, or a session that has not looked

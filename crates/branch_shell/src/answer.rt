@@ -1,26 +1,29 @@
 // The commands that take no input, and what they write.
-ghost use Rattle.std.specs.Prelude.{◌≡◌, ◌⊎◌, ◌<◌, ◌++◌, [], ℕ, List, length, slice_get, Some, Err, OnOk, IfErr, IfSome, IsSome, ◌↔◌};
+ghost use Rattle.std.specs.Prelude.{◌≡◌, ◌⊎◌, ◌<◌, ◌++◌, [], ℕ, List, length, slice_get, true, false, Some, Err, OnOk, IfOk, IfErr, IfSome, IsSome, ◌↔◌};
 ghost use Rattle.std.specs.Io.KnownBytes.{Keeps};
 ghost use Rattle.branch_io.specs.Causes.{Rose};
+ghost use Rattle.std.specs.Option.{ForSome};
 ghost use Rattle.branch_disk.specs.Disk.{Files, LeavesOnly};
 ghost use Rattle.branch_history.specs.History.{store_of};
 ghost use Rattle.branch_print.specs.Reports.{branch_line, report_text};
 ghost use Rattle.store_core.specs.Inits.{IsEmpty};
 ghost use Rattle.store_core.specs.Opens.{ReadsAsNone};
-ghost use Rattle.branch_shell.specs.Counts.{HasReason, SaysReason};
+ghost use Rattle.branch_shell.specs.Counts.{HasReason, HaveReason, SaysReason};
+ghost use Rattle.branch_shell.specs.Disks.{StaysSame};
+ghost use Rattle.branch_shell.specs.Ran.{SaysMade, SaysNotMade};
 ghost use Rattle.branch_shell.specs.Refusals.{open_refusal_text, unopened_text};
-ghost use Rattle.branch_shell.specs.Stores.{Stored, AreUnder, ReadsAsStore, SaysRefused, SaysReport, SaysReady, SaysNotEmpty, ReadsAsEmpty, ReadsAsNoneOrEmpty};
+ghost use Rattle.branch_shell.specs.Stores.{Stored, AreThese, ReadsAsStore, SaysRefused, SaysReport, SaysReady, SaysNotEmpty, ReadsAsEmpty, ReadsAsNoneOrEmpty};
 ghost use Rattle.branch_shell.specs.Once.{Answers, Says};
 
 use crate::script::give_all;
 use crate::status::Status;
 use crate::unopened::{Unopened, open_store};
 use branch_address::Address;
-use branch_disk::Disk;
+use branch_disk::{Disk, DiskFailed, Part};
 use branch_files::forms::reads_as_today;
 use branch_files::laws::reads_what_stands;
 use branch_io::{Sink, SinkFailed};
-use branch_names::{Limits, Terms};
+use branch_names::Terms;
 use branch_print::reports::{
     put_bad_commit, put_bad_object, put_bad_record, put_branch, put_no_store, put_old_version,
     put_totals, put_truncated,
@@ -168,7 +171,7 @@ pub(crate) fn run_check<T: Mrdt, U: Mrdt, K: Sink, D: Disk + Drop, A: Address>(
         → D.contents disk ≡ Some f → ReadsAsStore T.meaning A.address store f → (c : Files)
         → D.may_leave result.1 c → ReadsAsStore T.meaning A.address store c }
     ensures refused_only { result.0 ≡ Status.StoreRefused → (f : Files) → D.contents disk ≡ Some f
-        → ReadsAsNone T.meaning A.address f }
+        → ReadsAsNone 0 T.meaning A.address f }
     ensures reason { (n : ℕ) → HasReason
         (record { source = n; sink = K.faults sink.old; disk = D.faults disk })
         (record { source = n; sink = K.faults sink.new; disk = D.faults result.1 }) result.0 }
@@ -182,10 +185,10 @@ pub(crate) fn run_check<T: Mrdt, U: Mrdt, K: Sink, D: Disk + Drop, A: Address>(
     }
 }
 
-/// Makes a store of a disk that holds no bytes, under these limits, whose first origin is 0.
-pub(crate) fn run_init<T: Mrdt, K: Sink, D: Disk + Drop, A: Address>(
+// Makes a store of a disk that holds no bytes, of these terms.
+fn make_store<T: Mrdt, K: Sink, D: Disk + Drop, A: Address>(
     alloc: Global,
-    limits: Limits,
+    terms: Terms,
     sink: &mut K,
     disk: D,
 ) -> (Status, D)
@@ -195,9 +198,9 @@ pub(crate) fn run_init<T: Mrdt, K: Sink, D: Disk + Drop, A: Address>(
     // were.
     ensures any_moment { ((c : Files) → D.may_leave disk c → IsEmpty c)
         → LeavesOnly D.moment D.left_since disk result.1
-        (ReadsAsNoneOrEmpty T.meaning A.address (AreUnder limits)) }
+        (ReadsAsNoneOrEmpty T.meaning A.address (AreThese terms)) }
     ensures made { result.0 ≡ Status.Done → (c : Files) → D.may_leave result.1 c
-        → ReadsAsEmpty T.meaning A.address (AreUnder limits) c }
+        → ReadsAsEmpty T.meaning A.address (AreThese terms) c }
     // Where there are bytes, a crash leaves only what it might have left at the start.
     ensures refused { result.0 ≡ Status.StoreRefused
         → LeavesOnly D.moment D.left_since disk result.1 (D.may_leave disk) }
@@ -212,7 +215,6 @@ pub(crate) fn run_init<T: Mrdt, K: Sink, D: Disk + Drop, A: Address>(
     reads_what_stands::<T>();
     reads_as_no_store::<T>();
     reads_as_today::<T>();
-    let terms = Terms::under(limits);
     match Core::<T, D, A>::init(alloc, disk, terms) {
         Ok(core) => (say(sink, b"ready\n", Status::Done), core.close()),
         Err((InitRefused::NotEmpty { .. }, disk)) => {
@@ -223,5 +225,80 @@ pub(crate) fn run_init<T: Mrdt, K: Sink, D: Disk + Drop, A: Address>(
         }
         Err((InitRefused::DiskFault, disk)) => (Status::DiskFault, disk),
         Err((InitRefused::Memory, disk)) => (Status::Memory, disk),
+    }
+}
+
+// Whether a disk holds no bytes.
+fn is_empty<D: Disk>(disk: &mut D) -> Result<bool, DiskFailed>
+    ensures empty { IfOk result (λ is. is ≡ true → ForSome (D.contents disk.old) IsEmpty) }
+    ensures bytes { IfOk result (λ is. is ≡ false
+        → ForSome (D.contents disk.old) (λ f. ¬ IsEmpty f)) }
+    ensures same { StaysSame D.Disk disk.old disk.new }
+    ensures no_cause { OnOk result (D.faults disk.new ≡ D.faults disk.old) }
+    ensures cause { IfErr result (λ e. Rose (D.faults disk.old) (D.faults disk.new)) }
+{
+    let objects = disk.length(Part::Objects)?;
+    let heads = disk.length(Part::Heads)?;
+    if objects != 0 || heads != 0 {
+        return Ok(false);
+    }
+    Ok(true)
+}
+
+/// Makes a store of the first disk, of these terms. Neither disk holds a byte, or it is
+/// refused: the second is asked first.
+pub(crate) fn run_init<T: Mrdt, K: Sink, D: Disk + Drop, A: Address>(
+    alloc: Global,
+    terms: Terms,
+    sink: &mut K,
+    first: D,
+    second: D,
+) -> (Status, D, D)
+    ensures wrote { Answers (SaysMade (D.contents first) (D.contents second))
+        (SaysNotMade (D.contents first) (D.contents second)) result.0 (K.given sink.old)
+        (K.given sink.new) }
+    // Where each image of the first was empty, a crash leaves there no store, or one of no moves; after `Done` that,
+    // whatever the images were.
+    ensures any_moment { ((c : Files) → D.may_leave first c → IsEmpty c)
+        → LeavesOnly D.moment D.left_since first result.1
+        (ReadsAsNoneOrEmpty T.meaning A.address (AreThese terms)) }
+    ensures made { result.0 ≡ Status.Done → (c : Files) → D.may_leave result.1 c
+        → ReadsAsEmpty T.meaning A.address (AreThese terms) c }
+    // Where there are bytes, a crash leaves only what it might have left at the start.
+    ensures refused { result.0 ≡ Status.StoreRefused
+        → LeavesOnly D.moment D.left_since first result.1 (D.may_leave first) }
+    ensures kept { (f : Files) → D.contents first ≡ Some f → ¬ IsEmpty f
+        → LeavesOnly D.moment D.left_since first result.1 (D.may_leave first) }
+    ensures full { (f : Files) → D.contents second ≡ Some f → ¬ IsEmpty f → result.1 ≡ first }
+    ensures second { StaysSame D.Disk second result.2 }
+    ensures reason { (n : ℕ) → HaveReason
+        (record {
+          source = n;
+          sink = K.faults sink.old;
+          first = D.faults first;
+          second = D.faults second;
+        })
+        (record {
+          source = n;
+          sink = K.faults sink.new;
+          first = D.faults result.1;
+          second = D.faults result.2;
+        }) result.0 }
+    // Where the sink failed, no disk did.
+    ensures no_fault { result.0 ≡ Status.WriteFault
+        → (D.faults result.1 ≡ D.faults first) × (D.faults result.2 ≡ D.faults second) }
+{
+    let mut second = second;
+    match is_empty(&mut second) {
+        Ok(true) => {
+            let (status, first) = make_store::<T, K, D, A>(alloc, terms, sink, first);
+            (status, first, second)
+        }
+        Ok(false) => (
+            say(sink, b"refused not empty\n", Status::StoreRefused),
+            first,
+            second,
+        ),
+        Err(DiskFailed) => (Status::DiskFault, first, second),
     }
 }

@@ -1,11 +1,19 @@
 //! The commands of the store, from the words of the command line to a status.
 #![tactic(auto)]
 
+mod address;
 pub mod alone;
 mod answer;
+mod choose;
+mod compact;
+mod current;
 mod generate;
+mod head;
+mod receive;
 mod script;
+mod send;
 pub mod status;
+mod task;
 mod together;
 pub mod top;
 mod unopened;

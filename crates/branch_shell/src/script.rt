@@ -29,8 +29,8 @@ use store_core::Core;
 // The most bytes that a line has before its end, and one more.
 const LINE_LIMIT: usize = 4096;
 
-// The most bytes that a script has, and one more.
-const INPUT_LIMIT: u64 = 1 << 32;
+// The most bytes that a script has, or a bundle, and one more.
+pub(crate) const INPUT_LIMIT: u64 = 1 << 32;
 
 // Gives all the bytes of a text.
 pub(crate) fn give_all<K: Sink>(sink: &mut K, text: &[u8]) -> Result<(), SinkFailed>
@@ -157,8 +157,8 @@ fn tell_last<K: Sink, D: Disk + Drop, A: Address>(
     tell_line(alloc, engine, sink, line)
 }
 
-// Takes the next bytes from the source, at most `room`, behind the first `waiting` bytes of the buffer; 0 is the end.
-fn take_more<S: Source>(
+/// Takes the next bytes from the source, at most `room`, behind the first `waiting` bytes of the buffer; 0 is the end.
+pub(crate) fn take_more<S: Source>(
     source: &mut S,
     buffer: &mut [u8],
     waiting: usize,

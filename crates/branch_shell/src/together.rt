@@ -1,10 +1,14 @@
 // Clients that work side by side on one store.
-ghost use Rattle.std.specs.Prelude.{◌≡◌, ◌++◌, [], ℕ, Some, OnOk, IfErr, IfSome, IsSome};
+ghost use Rattle.std.specs.Prelude.{◌≡◌, ◌≢◌, ◌++◌, [], ℕ, List, Some, OnOk, IfErr, IfSome, IsSome};
+ghost use Rattle.std.specs.declared.option.Option.{Option};
 ghost use Rattle.std.specs.List.{AllByRecursion};
 ghost use Rattle.branch_disk.specs.Disk.{Files, LeavesOnly};
 ghost use Rattle.branch_doc.specs.Document.{document};
 ghost use Rattle.store_core.specs.Opens.{ReadsAsNone};
-ghost use Rattle.branch_shell.specs.Counts.{HasReason, SaysReason};
+ghost use Rattle.branch_command.specs.Commands.{Clients as SaidClients};
+ghost use Rattle.branch_shell.specs.Reading.{Exchanges};
+ghost use Rattle.branch_shell.specs.Ran.{RanOverBoth};
+ghost use Rattle.branch_shell.specs.Counts.{HasReason, HaveReason, SaysReason};
 ghost use Rattle.branch_shell.specs.Once.{Answers};
 ghost use Rattle.branch_shell.specs.Documents.{DocStore, SaysUnopened};
 ghost use Rattle.branch_shell.specs.Statuses.{Holds};
@@ -12,10 +16,11 @@ ghost use Rattle.branch_shell.specs.Together.{FindsBranch, FindsAll, IsFault, Te
 ghost use Rattle.branch_print.specs.Texts.{refusal_text, line_end};
 
 use crate::answer::{put_report, refuse, say};
+use crate::choose::choose;
 use crate::status::Status;
 use crate::unopened::open_store;
 use branch_address::Address;
-use branch_disk::Disk;
+use branch_disk::{Disk, DiskFailed};
 use branch_files::laws::reads_what_stands;
 use branch_io::Sink;
 use branch_print::clients::{put_client, put_client_done};
@@ -30,6 +35,7 @@ use parallel_clients::{ClientRefusal, Outcome};
 use std::alloc::Global;
 use std::sync::Wait;
 use std::thread::Threads;
+use store_compact::Which;
 use store_core::Core;
 
 // Writes why a client was refused.
@@ -52,7 +58,7 @@ fn put_client_refusal(out: &mut Vec<u8>, refusal: &ClientRefusal) -> Result<(), 
         ClientRefusal::DiskFault => Err(Status::DiskFault),
         ClientRefusal::Failed { .. } => Err(Status::DiskFault),
         ClientRefusal::Memory => Err(Status::Memory),
-        ClientRefusal::UnknownBranch { .. } => unreachable!(),
+        ClientRefusal::UnknownBranch { .. } | ClientRefusal::NoSequences => unreachable!(),
     }
 }
 
@@ -194,8 +200,8 @@ pub(crate) fn run_together<
     ensures refused { result.0 ≡ Status.StoreRefused
         → LeavesOnly D.moment D.left_since disk result.1 (D.may_leave disk) }
     ensures refused_only { result.0 ≡ Status.StoreRefused → (f : Files) → D.contents disk ≡ Some f
-        → ReadsAsNone document A.address f }
-    ensures keeps { (f : Files) → D.contents disk ≡ Some f → ReadsAsNone document A.address f
+        → ReadsAsNone 0 document A.address f }
+    ensures keeps { (f : Files) → D.contents disk ≡ Some f → ReadsAsNone 0 document A.address f
         → LeavesOnly D.moment D.left_since disk result.1 (D.may_leave disk) }
     ensures reason { (n : ℕ)
         → HasReason (record { source = n; sink = K.faults sink.old; disk = D.faults disk })
@@ -206,5 +212,54 @@ pub(crate) fn run_together<
     match open_store::<Doc, Doc1, D, A>(alloc, disk) {
         Ok(core) => together_over(rt, alloc, core, work, sink),
         Err((why, disk)) => (refuse(alloc, sink, why), disk),
+    }
+}
+
+/// Runs clients side by side over the store that the current one of two disks holds, and hands both disks back.
+pub(crate) fn run_clients<
+    K: Sink,
+    D: Disk + Drop + Send,
+    A: Address + Send,
+    R: Threads + Wait + Sync,
+>(rt: &R, alloc: Global, work: Work, sink: &mut K, first: D, second: D) -> (Status, D, D)
+    ensures ran { (left : Option (List ℕ)) → Exchanges left left (K.given sink.old)
+        (K.given sink.new)
+        (RanOverBoth D.Disk A.address
+        (SaidClients (record {
+          count = work.count;
+          work = record { steps = work.steps; number = work.number };
+        }))
+        (record { first = first; second = second })
+        (record { first = result.1; second = result.2 }) left result.0) }
+    ensures usage { result.0 ≢ Status.Usage }
+    ensures reason { (n : ℕ) → HaveReason
+        (record {
+          source = n;
+          sink = K.faults sink.old;
+          first = D.faults first;
+          second = D.faults second;
+        })
+        (record {
+          source = n;
+          sink = K.faults sink.new;
+          first = D.faults result.1;
+          second = D.faults result.2;
+        }) result.0 }
+    // Where the sink failed, no disk did.
+    ensures no_fault { result.0 ≡ Status.WriteFault
+        → (D.faults result.1 ≡ D.faults first) × (D.faults result.2 ≡ D.faults second) }
+{
+    let mut first = first;
+    let mut second = second;
+    match choose(&mut first, &mut second) {
+        Ok(Which::First) => {
+            let (status, first) = run_together::<K, D, A, R>(rt, alloc, work, sink, first);
+            (status, first, second)
+        }
+        Ok(Which::Second) => {
+            let (status, second) = run_together::<K, D, A, R>(rt, alloc, work, sink, second);
+            (status, first, second)
+        }
+        Err(DiskFailed) => (Status::DiskFault, first, second),
     }
 }

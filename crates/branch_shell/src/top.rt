@@ -5,12 +5,13 @@ ghost use Rattle.branch_command.specs.Commands.{Said, Clients as SaidClients, He
 ghost use Rattle.branch_shell.specs.Reading.{Exchanges};
 ghost use Rattle.branch_shell.specs.Counts.{HaveReason};
 ghost use Rattle.branch_shell.specs.Statuses.{Wrote};
+ghost use Rattle.branch_shell.specs.Disks.{current_told};
 ghost use Rattle.branch_shell.specs.Ran.{RanOverBoth};
 ghost use Rattle.branch_shell.specs.Alone.{command_alone};
 
 use crate::alone::run_alone;
 use crate::status::Status;
-use crate::together::run_together;
+use crate::together::run_clients;
 use branch_address::Address;
 use branch_command::{Command, CommandRefused, read_command};
 use branch_disk::Disk;
@@ -54,24 +55,33 @@ fn read_clients(alloc: Global, words: &[String]) -> Result<Option<ClientWork>, M
     }
 }
 
-/// Runs the command that the words say, over the store that the first disk holds, and hands both disks back.
+/// Runs the command that the words say, over the store that the current one of two disks holds, and hands both disks
+/// back.
 ///
-/// `init` makes a store of a disk that holds no bytes; `script` opens the store and runs the lines of the source as
-/// steps; `check` opens the store and reports; `generate` opens the store, runs the script that is drawn from a number
-/// and writes what came of it and the report; `clients` opens the store, runs clients of drawn steps side by side, and
-/// writes what became of each and the report; `upgrade` reads a store of the old version, and makes one with the same
-/// moves of the second disk, which holds no bytes. No other command touches the second disk. A store of the old version
-/// is refused by all of them but `upgrade` and `init`. `Usage` comes only where the words say no command, and then
-/// nothing was touched. What was written is, by the status, the text that is defined for the command, or a first part of
-/// it. A fault comes only where the count of faults of that object rose, and no other count rises, but where the sink
-/// cannot finish behind a fault; `DiskFault` is one of either disk.
+/// The first disk is current where its heads have at least 65 bytes of which the first is 1, and else the second. Both
+/// are synced before that is looked at. The other one stays as it is then, but for `upgrade` and `compact`.
+///
+/// `init` makes a store of the first disk, where neither holds a byte, and writes nothing to the second; `script` opens
+/// the store and runs the lines of the source as steps; `check` opens the store and reports; `generate` opens the store,
+/// runs the script that is drawn from a number and writes what came of it and the report; `clients` opens the store, runs
+/// clients of drawn steps side by side, and writes what became of each and the report; `upgrade` reads a store of the
+/// old version, and makes one with the same moves of the other disk, which holds no bytes; `compact` opens the store,
+/// makes the one of its compact history of the other disk, over what that holds, and makes that the current one by one
+/// byte of the first; `address` and `send` open the store and write the address of a branch's head, or its bundle;
+/// `receive` opens the store, reads the source to its end, takes the commits of the bundle that it holds and makes a
+/// branch at its tip. A store of the old version is refused by all of them but `upgrade` and `init`. `Usage` comes only
+/// where the words say no command, and then nothing was touched. What was written is, by the status, the text that
+/// is defined for the command, or a first part of it. A fault comes only where the count of faults of that object rose,
+/// and no other count rises, but where the sink cannot finish behind a fault; `DiskFault` is one of either disk.
 ///
 /// Until a script's store is opened a crash leaves only what one might have left before; from then on, at any moment,
 /// files that read as the store after some of the lines that were read; at the end after those that were answered, or one
 /// more; and after `Done` after all. The same holds of `generate` and its lines, in order. So a run may follow one that
-/// ended with a fault of the disk: opening makes sure of what reads give then. Of `upgrade` a crash leaves on the second
-/// disk, where it was empty, no store or one with some of the moves, in order, and after `Done` with all; the first disk
-/// it leaves as it was.
+/// ended with a fault of the disk: choosing makes sure of what reads give then. Of `upgrade` a crash leaves on the other
+/// disk, where it was empty, no store or one with some of the moves, in order, and after `Done` with all; the current
+/// disk it leaves as it was. Of `receive` a crash leaves the store with the moves of a first part of the bundle, in order,
+/// and after `Done` with all and with the branch. While `compact` writes the other disk, the two read as the history;
+/// while the one byte is written, and after a fault, as that or as the compact history; and after `Done` as this.
 ///
 /// `clients COUNT STEPS NUMBER` starts up to so many threads, and may wait for a lock or for a thread. All clients are
 /// joined before the store is closed, and before anything is written. After `Done` the files read as the store with the
@@ -118,18 +128,17 @@ pub fn run<S: Source, K: Sink, D: Disk + Drop + Send, A: Address + Send, R: Thre
         → command_of (map string_bytes words.now) ≡ Some command
         → result.0 ≡ Status.WriteFault → (S.faults source.new ≡ S.faults source.old)
         ⊎ Exchanges (S.left source.old) (S.left source.new) (K.given sink.old) (K.given sink.new)
-        (Wrote A.address command (D.contents disk) (S.left source.new) Status.ReadFault) }
+        (Wrote A.address command (current_told (D.contents disk) (D.contents second))
+        (S.left source.new) Status.ReadFault) }
     ensures behind_disk { (command : Said) → command_of (map string_bytes words.now) ≡ Some command
         → result.0 ≡ Status.WriteFault
         → ((D.faults result.1 ≡ D.faults disk) × (D.faults result.2 ≡ D.faults second))
         ⊎ Exchanges (S.left source.old) (S.left source.new) (K.given sink.old) (K.given sink.new)
-        (Wrote A.address command (D.contents disk) (S.left source.new) Status.DiskFault) }
+        (Wrote A.address command (current_told (D.contents disk) (D.contents second))
+        (S.left source.new) Status.DiskFault) }
 {
     match read_clients(alloc, words) {
-        Ok(Some(work)) => {
-            let (status, disk) = run_together::<K, D, A, R>(rt, alloc, work, sink, disk);
-            (status, disk, second)
-        }
+        Ok(Some(work)) => run_clients::<K, D, A, R>(rt, alloc, work, sink, disk, second),
         Ok(None) => run_alone::<S, K, D, A>(alloc, words, source, sink, disk, second),
         Err(_) => (Status::Memory, disk, second),
     }

@@ -43,7 +43,7 @@ fn why_no_store<U: Mrdt, D: Disk, A: Address>(alloc: Global, disk: &mut D) -> Un
     }
 }
 
-/// Opens the store that a disk holds, as `Core::open` does. Where the files are no store, it looks whether they are of
+/// Opens the store of the kind 0 that a disk holds, as `Core::open` does. Where the files are no store, it looks whether they are of
 /// the old version, over the documents of that. It writes nothing. An `Err` hands the disk back.
 pub(crate) fn open_store<T: Mrdt, U: Mrdt, D: Disk + Drop, A: Address>(
     alloc: Global,
@@ -60,6 +60,7 @@ pub(crate) fn open_store<T: Mrdt, U: Mrdt, D: Disk + Drop, A: Address>(
         (λ f. ReadsAs T.meaning A.address f (Opens core.terms core.history))) }
     ensures only { IfOk result (λ core. ForSome (D.contents disk)
         (ReadsOnlyAs T.meaning A.address (Opens core.terms core.history))) }
+    ensures kind { IfOk result (λ core. core.terms.kind ≡ 0) }
     ensures valid { IfOk result (λ core.
         IsFullyValid (fix T.meaning core.terms A.address) core.history) }
     ensures stands { IfOk result (λ core.
@@ -67,7 +68,7 @@ pub(crate) fn open_store<T: Mrdt, U: Mrdt, D: Disk + Drop, A: Address>(
     ensures refused { IfErr result (λ e. ForSome (D.contents disk)
         (UnopenedAs T.meaning U.meaning A.address e.0)) }
     ensures refused_only { IfErr result (λ e. IsSome (unopened_text e.0)
-        → ForSome (D.contents disk) (ReadsAsNone T.meaning A.address)) }
+        → ForSome (D.contents disk) (ReadsAsNone 0 T.meaning A.address)) }
     ensures same { IfOk result (λ core. D.contents core.disk ≡ D.contents disk) }
     ensures same_err { IfErr result (λ e. D.contents e.1 ≡ D.contents disk) }
     ensures any_moment { IfOk result (λ core.
@@ -79,7 +80,7 @@ pub(crate) fn open_store<T: Mrdt, U: Mrdt, D: Disk + Drop, A: Address>(
         HasCauseOf {T = Unit {0}} (Unopened.Refused OpenRefused.DiskFault) (D.faults disk)
         (D.faults e.1) (Err e.0)) }
 {
-    match Core::<T, D, A>::open(alloc, disk) {
+    match Core::<T, D, A>::open(alloc, disk, 0) {
         Ok(core) => Ok(core),
         Err((refusal, disk)) => match refusal {
             OpenRefused::NotAStore => {

@@ -67,22 +67,22 @@ fn say_upgraded<K: Sink>(alloc: Global, sink: &mut K, moves: u64) -> Status
     }
 }
 
-/// Reads the store of the old version that the first disk holds, makes one with the same moves of the second disk,
-/// which holds no bytes, and says how many moves there are. It writes nothing to the first disk.
+/// Reads the store of the old version that the current disk holds, makes one with the same moves of the other disk,
+/// which holds no bytes, and says how many moves there are. It writes nothing to the current disk.
 pub(crate) fn run_upgrade<K: Sink, D: Disk + Drop, A: Address>(
     alloc: Global,
     sink: &mut K,
-    first: D,
-    second: D,
+    held: D,
+    other: D,
 ) -> (Status, D, D)
     ensures ran { Gives (K.given sink.old) (K.given sink.new)
-        (RanUpgrade D.Disk A.address first result.1 second result.2 result.0) }
+        (RanUpgrade D.Disk A.address held result.1 other result.2 result.0) }
     ensures reason { (n : ℕ) → HaveReason
         (record {
           source = n;
           sink = K.faults sink.old;
-          first = D.faults first;
-          second = D.faults second;
+          first = D.faults held;
+          second = D.faults other;
         })
         (record {
           source = n;
@@ -92,11 +92,11 @@ pub(crate) fn run_upgrade<K: Sink, D: Disk + Drop, A: Address>(
         }) result.0 }
     // Where the sink failed, no disk did.
     ensures no_fault { result.0 ≡ Status.WriteFault
-        → (D.faults result.1 ≡ D.faults first) × (D.faults result.2 ≡ D.faults second) }
+        → (D.faults result.1 ≡ D.faults held) × (D.faults result.2 ≡ D.faults other) }
 {
-    let mut first = first;
-    match upgrade::<D, A>(alloc, &mut first, second) {
-        Ok((moves, second)) => (say_upgraded(alloc, sink, moves), first, second),
-        Err((why, second)) => (refuse_upgrade(alloc, sink, why), first, second),
+    let mut held = held;
+    match upgrade::<D, A>(alloc, &mut held, other) {
+        Ok((moves, other)) => (say_upgraded(alloc, sink, moves), held, other),
+        Err((why, other)) => (refuse_upgrade(alloc, sink, why), held, other),
     }
 }

@@ -15,7 +15,7 @@ returns-in-Ok-clause-wrote g c =
     let m = g.T.Mrdt.meaning in
     let address = g.A.Address.address in
     answers_map (λ whole. whole ≡ report_text core.terms.origin core.history) (λ whole. ⊥) (SaysReport m address told) (SaysRefused m g.U.Mrdt.meaning address told)
-    (λ whole is. (record { terms = core.terms; history = core.history }, record { valid = opened.valid; reads = opened.reads; only = opened.only }, is)) (λ whole no. absurd no)
+    (λ whole is. (record { terms = core.terms; history = core.history }, record { valid = opened.valid; kind = opened.kind; reads = opened.reads; only = opened.only }, is)) (λ whole no. absurd no)
     c.report.result (g.K.Sink.given c.args.sink.now) (g.K.Sink.given c.report.new.sink) c.report.ensures.wrote
 
 pub returns-in-Ok-clause-keeps : goal.returns-in-Ok-clause-keeps

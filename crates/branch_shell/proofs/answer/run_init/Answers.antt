@@ -1,60 +1,66 @@
-use Rattle.std.proofs.Common.{◌≡◌, refl, subst}
-use Rattle.branch_print.specs.Reports.{ready_text, not_empty_text}
-use Rattle.branch_shell.specs.Stores.{AreUnder, SaysReady, SaysNotEmpty}
-use Rattle.store_core.specs.Inits.{InitRefusedAs}
-use Rattle.branch_shell.proofs.Once.{said_done, said_refused}
-use Rattle.branch_shell.proofs.Inits.{has_bytes, made_empty, empty_store}
+-- A store is made where neither disk has a byte.
+use Rattle.std.proofs.Common.{refl, inl, inr}
+use Rattle.branch_disk.specs.Moments.{weakened}
+use Rattle.branch_print.specs.Reports.{not_empty_text}
+use Rattle.branch_shell.specs.Stores.{AreThese, SaysReady, SaysNotEmpty, ReadsAsNoneOrEmpty}
+use Rattle.branch_shell.specs.Ran.{SaysMade, SaysNotMade}
+use Rattle.branch_shell.proofs.Chosen.{said_reason}
+use Rattle.branch_shell.proofs.Once.{answers_map, said_refused}
+use Rattle.branch_shell.proofs.Inits.{empty_reads}
+use Rattle.branch_shell.proofs.Runs.{untouched}
 use Rattle.branch_shell.proofs.answer.run_init.Goals as goal
 
-pub returns-in-Ok-clause-any_moment : goal.returns-in-Ok-clause-any_moment
-returns-in-Ok-clause-any_moment g c empty =
+pub returns-in-Ok-true-clause-wrote : goal.returns-in-Ok-true-clause-wrote
+returns-in-Ok-true-clause-wrote g c =
+    let told = g.D.Disk.contents c.args.first in
+    let second = g.D.Disk.contents c.args.second in
+    let run = c.make_store-status in
+    let empty = c.in-Ok-true.ensures.empty c.in-Ok-true.field-0-test in
+    answers_map (SaysReady told) (SaysNotEmpty told) (SaysMade told second) (SaysNotMade told second) (λ whole is. (empty, is)) (λ whole is. inl is)
+    run.result.0 (g.K.Sink.given c.args.sink.now) (g.K.Sink.given run.new.sink) run.ensures.wrote
+
+pub returns-in-Ok-false-clause-wrote : goal.returns-in-Ok-false-clause-wrote
+returns-in-Ok-false-clause-wrote g c =
+    let told = g.D.Disk.contents c.args.first in
+    let second = g.D.Disk.contents c.args.second in
+    let bytes = c.in-Ok-false.ensures.bytes c.in-Ok-false.field-0-test in
+    said_refused (SaysMade told second) (SaysNotMade told second) not_empty_text c.say.result (g.K.Sink.given c.args.sink.now) (g.K.Sink.given c.say.new.sink)
+    (g.K.Sink.faults c.args.sink.now) (g.K.Sink.faults c.say.new.sink) (inr (bytes, refl)) c.say.ensures
+
+pub returns-in-Ok-false-clause-any_moment : goal.returns-in-Ok-false-clause-any_moment
+returns-in-Ok-false-clause-any_moment g c empty =
     let d = g.D.Disk in
-    let terms = c.under-terms.result in
-    let under : AreUnder c.args.limits terms = record { limits_are = c.under-terms.ensures.limits; origin = c.under-terms.ensures.origin } in
-    let same = c.close.ensures.same in
-    rw same (made_empty g.T.Mrdt.meaning g.A.Address.address c.reads_what_stands.ensures c.reads_as_no_store.ensures c.reads_as_today.ensures d.may_leave d.moment d.left_since terms (AreUnder c.args.limits) under c.args.disk c.in-Ok.core.disk
-    (c.in-Ok.ensures.any_moment empty))
+    let first = c.args.first in
+    weakened d.moment d.left_since first first (d.may_leave first) (ReadsAsNoneOrEmpty g.T.Mrdt.meaning g.A.Address.address (AreThese c.args.terms))
+    (untouched g.A.Address.address d g.met.D.Disk.only_now first).kept (λ f was. empty_reads g.T.Mrdt.meaning g.A.Address.address (AreThese c.args.terms) f (empty f was))
 
-pub returns-in-Ok-clause-made : goal.returns-in-Ok-clause-made
-returns-in-Ok-clause-made g c done f left =
+pub returns-in-Err-clause-any_moment : goal.returns-in-Err-clause-any_moment
+returns-in-Err-clause-any_moment g c empty =
     let d = g.D.Disk in
-    let terms = c.under-terms.result in
-    let under : AreUnder c.args.limits terms = record { limits_are = c.under-terms.ensures.limits; origin = c.under-terms.ensures.origin } in
-    empty_store g.T.Mrdt.meaning g.A.Address.address c.reads_what_stands.ensures c.reads_as_no_store.ensures c.reads_as_today.ensures terms (AreUnder c.args.limits) under (d.may_leave c.in-Ok.core.disk) c.in-Ok.ensures.stands f (subst (λ d'. d.may_leave d' f) c.close.ensures.same left)
+    let first = c.args.first in
+    weakened d.moment d.left_since first first (d.may_leave first) (ReadsAsNoneOrEmpty g.T.Mrdt.meaning g.A.Address.address (AreThese c.args.terms))
+    (untouched g.A.Address.address d g.met.D.Disk.only_now first).kept (λ f was. empty_reads g.T.Mrdt.meaning g.A.Address.address (AreThese c.args.terms) f (empty f was))
 
-pub returns-in-Err-NotEmpty-default-clause-wrote : goal.returns-in-Err-NotEmpty-default-clause-wrote
-returns-in-Err-NotEmpty-default-clause-wrote g c =
-    let told = g.D.Disk.contents c.args.disk in
-    let s = c.say-in-Err-NotEmpty-default in
-    said_refused (SaysReady told) (SaysNotEmpty told) not_empty_text s.result (g.K.Sink.given c.args.sink.now) (g.K.Sink.given s.new.sink) (g.K.Sink.faults c.args.sink.now) (g.K.Sink.faults s.new.sink)
-    (λ f is. has_bytes c.in-Err-NotEmpty-default.field-0-0-0 f (subst (λ r. InitRefusedAs r f) c.in-Err-NotEmpty-default.field-0-0-is (c.in-Err-NotEmpty-default.ensures.refused f is)), refl) s.ensures
+pub returns-in-Ok-true-clause-full : goal.returns-in-Ok-true-clause-full
+returns-in-Ok-true-clause-full g c f told full =
+    let empty = c.in-Ok-true.ensures.empty c.in-Ok-true.field-0-test in
+    absurd (full (empty f told))
 
-pub returns-in-Err-NotEmpty-default-clause-any_moment : goal.returns-in-Err-NotEmpty-default-clause-any_moment
-returns-in-Err-NotEmpty-default-clause-any_moment g c empty =
-    let d = g.D.Disk in
-    let terms = c.under-terms.result in
-    let under : AreUnder c.args.limits terms = record { limits_are = c.under-terms.ensures.limits; origin = c.under-terms.ensures.origin } in
-    made_empty g.T.Mrdt.meaning g.A.Address.address c.reads_what_stands.ensures c.reads_as_no_store.ensures c.reads_as_today.ensures d.may_leave d.moment d.left_since terms (AreUnder c.args.limits) under c.args.disk c.in-Err-NotEmpty-default.disk
-    (c.in-Err-NotEmpty-default.ensures.any_moment_err empty)
+pub returns-in-Ok-true-clause-reason : goal.returns-in-Ok-true-clause-reason
+returns-in-Ok-true-clause-reason g c n = inl (c.make_store-status.ensures.reason n, c.in-Ok-true.ensures.no_cause)
 
-pub returns-in-Err-DiskFault-default-clause-any_moment : goal.returns-in-Err-DiskFault-default-clause-any_moment
-returns-in-Err-DiskFault-default-clause-any_moment g c empty =
-    let d = g.D.Disk in
-    let terms = c.under-terms.result in
-    let under : AreUnder c.args.limits terms = record { limits_are = c.under-terms.ensures.limits; origin = c.under-terms.ensures.origin } in
-    made_empty g.T.Mrdt.meaning g.A.Address.address c.reads_what_stands.ensures c.reads_as_no_store.ensures c.reads_as_today.ensures d.may_leave d.moment d.left_since terms (AreUnder c.args.limits) under c.args.disk c.in-Err-DiskFault-default.disk
-    (c.in-Err-DiskFault-default.ensures.any_moment_err empty)
+pub returns-in-Ok-true-clause-no_fault : goal.returns-in-Ok-true-clause-no_fault
+returns-in-Ok-true-clause-no_fault g c fault = (c.make_store-status.ensures.no_fault fault, c.in-Ok-true.ensures.no_cause)
 
-pub returns-in-Err-Memory-default-clause-any_moment : goal.returns-in-Err-Memory-default-clause-any_moment
-returns-in-Err-Memory-default-clause-any_moment g c empty =
-    let d = g.D.Disk in
-    let terms = c.under-terms.result in
-    let under : AreUnder c.args.limits terms = record { limits_are = c.under-terms.ensures.limits; origin = c.under-terms.ensures.origin } in
-    made_empty g.T.Mrdt.meaning g.A.Address.address c.reads_what_stands.ensures c.reads_as_no_store.ensures c.reads_as_today.ensures d.may_leave d.moment d.left_since terms (AreUnder c.args.limits) under c.args.disk c.in-Err-Memory-default.disk
-    (c.in-Err-Memory-default.ensures.any_moment_err empty)
+pub returns-in-Ok-false-clause-reason : goal.returns-in-Ok-false-clause-reason
+returns-in-Ok-false-clause-reason g c n = inl (
+  said_reason not_empty_text n (g.K.Sink.faults c.args.sink.now) (g.K.Sink.faults c.say.new.sink) (g.D.Disk.faults c.args.first) c.say.result
+      (g.K.Sink.given c.args.sink.now) (g.K.Sink.given c.say.new.sink) c.say.ensures,
+  c.in-Ok-false.ensures.no_cause,
+)
 
-pub returns-in-Ok-clause-wrote : goal.returns-in-Ok-clause-wrote
-returns-in-Ok-clause-wrote g c =
-    let told = g.D.Disk.contents c.args.disk in
-    said_done (SaysReady told) (SaysNotEmpty told) ready_text c.say.result (g.K.Sink.given c.args.sink.now) (g.K.Sink.given c.say.new.sink) (g.K.Sink.faults c.args.sink.now) (g.K.Sink.faults c.say.new.sink)
-    (c.in-Ok.ensures.empty, refl) c.say.ensures
+pub returns-in-Ok-false-clause-no_fault : goal.returns-in-Ok-false-clause-no_fault
+returns-in-Ok-false-clause-no_fault g c fault = (refl, c.in-Ok-false.ensures.no_cause)
+
+pub returns-in-Err-clause-reason : goal.returns-in-Err-clause-reason
+returns-in-Err-clause-reason g c n = inr ((c.in-Err.ensures.cause, refl, refl), refl)

@@ -20,7 +20,7 @@ returns-in-Ok-clause-ran g c left =
     let core = c.in-Ok.core in
     let opened = c.in-Ok.ensures in
     let found : DocStore = record { terms = core.terms; history = core.history } in
-    let is : IsOpenedAs document address (d.contents c.args.disk) found = record { valid = opened.valid; reads = opened.reads; only = opened.only } in
+    let is : IsOpenedAs document address (d.contents c.args.disk) found = record { valid = opened.valid; kind = opened.kind; reads = opened.reads; only = opened.only } in
     let work : Work = record { steps = c.args.steps; number = c.args.number } in
     let w = c.work_over.ensures.wrote in
     ([], w.0, Consumes-nil left, w.1, work_opened address d laws.counts_now laws.only_now work left c.args.disk core.disk c.work_over.result.1 found c.work_over.result.0 w.0 is opened.any_moment c.work_over.ensures.survives w.2)

@@ -9,8 +9,9 @@ use Rattle.branch_engine.specs.Engines.{Store}
 use Rattle.branch_engine.specs.Play.{begins}
 use Rattle.branch_shell.specs.Documents.{DocStore}
 use Rattle.branch_shell.specs.Generated.{drawn_lines, work_text, SurvivesWork}
-use Rattle.branch_shell.proofs.Once.{answers_map}
-use Rattle.branch_shell.proofs.Works.{work_said, survives_told, survives_stopped, stopped_undone, nothing_said}
+use Rattle.branch_shell.proofs.Once.{answers_map, reason_said}
+use Rattle.branch_shell.specs.Counts.{HasReason}
+use Rattle.branch_shell.proofs.Works.{work_said, survives_told, survives_stopped, stopped_undone, stopped_reason, nothing_said}
 use Rattle.branch_shell.proofs.generate.work_over.Goals as goal
 
 pub returns-in-Ok-clause-wrote : goal.returns-in-Ok-clause-wrote
@@ -58,3 +59,23 @@ returns-in-Err-clause-survives g c =
     let undone = stopped_undone (d.faults c.new-engine.result.core.disk) (d.faults last.core.disk) c.in-Err.status c.in-Err.ensures.cause in
     let all = survives_stopped address d.contents d.may_leave d.moment d.left_since g.met.D.Disk.counts_now store lines c.new-engine.result last c.in-Err.status (c.new-engine.ensures.begins c.requires) c.count_drawn.ensures.moments undone in
     rw c.close-in-Err.ensures (subst (λ (k : Store _). SurvivesWork d.may_leave d.moment d.left_since address store lines k.disk last.core.disk c.in-Err.status) c.new-engine.ensures.core all)
+
+pub returns-in-Ok-clause-reason : goal.returns-in-Ok-clause-reason
+returns-in-Ok-clause-reason g c n =
+    let faults = g.D.Disk.faults in
+    let shown = c.core.result.now in
+    let said = c.say_work in
+    reason_said (λ whole. whole ≡ (summary_text c.in-Ok.summary ++ line_end) ++ report_text shown.terms.origin shown.history) (λ whole. ⊥)
+    n (g.K.Sink.faults c.args.sink.now) (g.K.Sink.faults said.new.sink) (faults c.args.core.disk) (faults c.close.result)
+    (g.K.Sink.given c.args.sink.now) (g.K.Sink.given said.new.sink) said.result said.ensures.wrote
+    (ap faults c.close.ensures ∙ c.in-Ok.ensures.disk_same ∙ ap (λ (k : Store _). faults k.disk) c.new-engine.ensures.core) said.ensures.other said.ensures.reason
+
+pub returns-in-Err-clause-reason : goal.returns-in-Err-clause-reason
+returns-in-Err-clause-reason g c n =
+    let faults = g.D.Disk.faults in
+    let failed = g.K.Sink.faults c.args.sink.now in
+    let last = c.count_drawn.new.engine.core.disk in
+    rw c.close-in-Err.ensures (subst
+    (λ (k : Store _). HasReason (record { source = n; sink = failed; disk = faults k.disk }) (record { source = n; sink = failed; disk = faults last }) c.in-Err.status)
+    c.new-engine.ensures.core
+    (stopped_reason n failed (faults c.new-engine.result.core.disk) (faults last) c.in-Err.status c.in-Err.ensures.cause))

@@ -21,7 +21,7 @@ returns-in-Ok-clause-ran g c =
     let core = c.in-Ok.core in
     let opened = c.in-Ok.ensures in
     let found : DocStore = record { terms = core.terms; history = core.history } in
-    let is : IsOpenedAs document address (d.contents c.args.disk) found = record { valid = opened.valid; reads = opened.reads; only = opened.only } in
+    let is : IsOpenedAs document address (d.contents c.args.disk) found = record { valid = opened.valid; kind = opened.kind; reads = opened.reads; only = opened.only } in
     let left = g.S.Source.left c.run_opened.new.source in
     let e = c.run_opened.ensures.ran in
     (e.0, e.1, e.2, e.3, script_opened address d laws.counts_now laws.only_now c.args.disk core.disk c.run_opened.result.1 found left c.run_opened.result.0 e.0 e.1 is opened.any_moment e.4)
@@ -33,7 +33,7 @@ returns-in-Ok-clause-behind_source g c fault =
     let core = c.in-Ok.core in
     let opened = c.in-Ok.ensures in
     let found : DocStore = record { terms = core.terms; history = core.history } in
-    let is : IsOpenedAs document address (d.contents c.args.disk) found = record { valid = opened.valid; reads = opened.reads; only = opened.only } in
+    let is : IsOpenedAs document address (d.contents c.args.disk) found = record { valid = opened.valid; kind = opened.kind; reads = opened.reads; only = opened.only } in
     let left = g.S.Source.left c.run_opened.new.source in
     wrote_opened address d.may_leave d.moment d.left_since (d.contents c.args.disk) found is core.disk c.run_opened.result.1 (g.S.Source.left c.args.source.now) left (g.K.Sink.given c.args.sink.now) (g.K.Sink.given c.run_opened.new.sink) ReadFault
     (g.S.Source.faults c.run_opened.new.source ≡ g.S.Source.faults c.args.source.now) (c.run_opened.ensures.behind_source fault)
@@ -45,7 +45,7 @@ returns-in-Ok-clause-behind_disk g c fault =
     let core = c.in-Ok.core in
     let opened = c.in-Ok.ensures in
     let found : DocStore = record { terms = core.terms; history = core.history } in
-    let is : IsOpenedAs document address (d.contents c.args.disk) found = record { valid = opened.valid; reads = opened.reads; only = opened.only } in
+    let is : IsOpenedAs document address (d.contents c.args.disk) found = record { valid = opened.valid; kind = opened.kind; reads = opened.reads; only = opened.only } in
     let left = g.S.Source.left c.run_opened.new.source in
     wrote_opened address d.may_leave d.moment d.left_since (d.contents c.args.disk) found is core.disk c.run_opened.result.1 (g.S.Source.left c.args.source.now) left (g.K.Sink.given c.args.sink.now) (g.K.Sink.given c.run_opened.new.sink) DiskFault
     (d.faults c.run_opened.result.1 ≡ d.faults c.args.disk) (subst (λ n. (d.faults c.run_opened.result.1 ≡ n) ⊎ Exchanges (g.S.Source.left c.args.source.now) left (g.K.Sink.given c.args.sink.now) (g.K.Sink.given c.run_opened.new.sink) (Runs d.may_leave d.moment d.left_since address found core.disk c.run_opened.result.1 left DiskFault)) opened.no_cause (c.run_opened.ensures.behind_disk fault))

@@ -12,6 +12,7 @@ use Rattle.branch_shell.specs.Stores.{IsOpenedAs}
 use Rattle.branch_shell.specs.Documents.{DocStore, SaysUnopened}
 use Rattle.branch_shell.specs.Together.{RanOver, RanTogether, LeftTogether}
 use Rattle.branch_shell.proofs.Once.{answers_map, says_refused, not_behind}
+use Rattle.branch_shell.proofs.Opening.{for_its_kind}
 use Rattle.branch_shell.proofs.Scripts.{same_store}
 use Rattle.branch_shell.proofs.Works.{never_refused}
 use Rattle.branch_shell.proofs.together.run_together.Goals as goal
@@ -25,7 +26,7 @@ returns-in-Ok-clause-wrote g c =
     let found : DocStore = record { terms = core.terms; history = core.history } in
     let clients : Clients = record { count = c.args.work.count; work = record { steps = c.args.work.steps; number = c.args.work.number } } in
     answers_map (RanOver g.D.Disk.may_leave address found clients c.together_over.result.1) (λ whole. ⊥) (RanTogether g.D.Disk.may_leave address told clients c.together_over.result.1) (SaysUnopened address told)
-    (λ whole ran. (found, record { valid = opened.valid; reads = opened.reads; only = opened.only }, ran)) (λ whole no. absurd no)
+    (λ whole ran. (found, record { valid = opened.valid; kind = opened.kind; reads = opened.reads; only = opened.only }, ran)) (λ whole no. absurd no)
     c.together_over.result.0 (g.K.Sink.given c.args.sink.now) (g.K.Sink.given c.together_over.new.sink) c.together_over.ensures.wrote
 
 pub returns-in-Ok-clause-crashes : goal.returns-in-Ok-clause-crashes
@@ -36,7 +37,7 @@ returns-in-Ok-clause-crashes g c store holds =
     let opened = c.in-Ok.ensures in
     let found : DocStore = record { terms = core.terms; history = core.history } in
     let clients : Clients = record { count = c.args.work.count; work = record { steps = c.args.work.steps; number = c.args.work.number } } in
-    let is : IsOpenedAs document address (d.contents c.args.disk) found = record { valid = opened.valid; reads = opened.reads; only = opened.only } in
+    let is : IsOpenedAs document address (d.contents c.args.disk) found = record { valid = opened.valid; kind = opened.kind; reads = opened.reads; only = opened.only } in
     let same = same_store address d.contents d.may_leave d.moment d.left_since (g.met.D.Disk g.world.𝓛 g.world.𝓜 g.world.𝓡 ((λ s x. x), (λ x. x), (λ x. x), λ x. x)).counts_now c.args.disk store found holds is in
     subst (λ (s : DocStore). LeftTogether d.may_leave address s clients c.together_over.result.0 c.together_over.result.1) same c.together_over.ensures.survives
 
@@ -57,7 +58,8 @@ returns-in-Ok-clause-refused_only g c refused f told terms history reads =
 pub returns-in-Ok-clause-keeps : goal.returns-in-Ok-clause-keeps
 returns-in-Ok-clause-keeps g c f told none =
     let d = g.D.Disk in
-    absurd {A = LeavesOnly d.moment d.left_since c.args.disk c.together_over.result.1 (d.may_leave c.args.disk)} (none c.in-Ok.core.terms c.in-Ok.core.history (c.in-Ok.ensures.reads f told))
+    absurd {A = LeavesOnly d.moment d.left_since c.args.disk c.together_over.result.1 (d.may_leave c.args.disk)} (none c.in-Ok.core.terms c.in-Ok.core.history
+    (for_its_kind g.A.Address.address f c.in-Ok.core.terms c.in-Ok.core.history c.in-Ok.ensures.kind (c.in-Ok.ensures.reads f told)))
 
 pub returns-in-Ok-clause-reason : goal.returns-in-Ok-clause-reason
 returns-in-Ok-clause-reason g c n =

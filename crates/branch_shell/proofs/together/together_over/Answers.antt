@@ -4,7 +4,7 @@ use Rattle.std.specs.Prelude.{IfOk}
 use Rattle.std.specs.List.{AllByRecursion}
 use Rattle.branch_io.specs.Causes.{Rose}
 use Rattle.branch_doc.specs.Document.{document}
-use Rattle.branch_doc.specs.Forms.{doc_op}
+use Rattle.branch_doc.specs.Forms.{doc_op, doc_query}
 use Rattle.branch_machine.specs.Fixed.{fix}
 use Rattle.branch_names.specs.declared.terms.Terms.{Terms}
 use Rattle.branch_shared.specs.Keeps.{faults_since}
@@ -41,7 +41,7 @@ say_together-requires g c =
     let core = c.args.core in
     let work = c.args.work in
     let after = c.run_on-core.result.core in
-    let on = setting (fix document core.terms g.A.Address.address) doc_op (faults core.opened) in
+    let on = setting (fix document core.terms g.A.Address.address) doc_op doc_query (faults core.opened) in
     let since = faults_since faults after in
     let worked = subst (λ r. IfOk r (HaveWorked on core.history after.history since work.count work.steps work.number)) c.in-Ok.is c.run_on-core.ensures.worked in
     subst (AllByRecursion FindsAll) (sym c.as_slice.ensures) (finds_all on core.history after.history since work.count work.steps work.number c.in-Ok.outcomes worked)
@@ -56,7 +56,7 @@ returns-in-Ok-clause-wrote g c =
     let clients : Clients = record { count = work.count; work = record { steps = work.steps; number = work.number } } in
     let after = c.run_on-core.result.core in
     let ran = c.run_on-core.ensures in
-    let on = setting (fix document core.terms address) doc_op (d.faults core.opened) in
+    let on = setting (fix document core.terms address) doc_op doc_query (d.faults core.opened) in
     let since = faults_since d.faults after in
     let worked = subst (λ r. IfOk r (HaveWorked on core.history after.history since work.count work.steps work.number)) c.in-Ok.is ran.worked in
     let seen = c.as_slice.result.now in
@@ -102,7 +102,7 @@ returns-in-Ok-clause-reason g c n =
     let core = c.args.core in
     let work = c.args.work in
     let after = c.run_on-core.result.core in
-    let on = setting (fix document core.terms g.A.Address.address) doc_op (faults core.opened) in
+    let on = setting (fix document core.terms g.A.Address.address) doc_op doc_query (faults core.opened) in
     let since = faults_since faults after in
     let worked = subst (λ r. IfOk r (HaveWorked on core.history after.history since work.count work.steps work.number)) c.in-Ok.is c.run_on-core.ensures.worked in
     let seen = c.as_slice.result.now in

@@ -1,6 +1,6 @@
 -- What opening refuses, and what files of no store are in the old version.
 use Rattle.std.proofs.Common.{◌∙◌, subst}
-use Rattle.branch_files.specs.Reading.{NotAStore, ReadsAs}
+use Rattle.branch_files.specs.Reading.{NotAStore, ReadsAsOf}
 use Rattle.store_core.specs.Opens.{OpenRefusedAs}
 use Rattle.branch_shell.proofs.Once.{unopened_so, unopened_else, has_text, wrapped_cause}
 use Rattle.branch_shell.proofs.unopened.open_store.Goals as goal
@@ -10,7 +10,7 @@ returns-in-NotAStore-clause-refused g c = λ f told.
     let e = c.in-Err.ensures in
     let m = g.T.Mrdt.meaning in
     let address = g.A.Address.address in
-    let none : ReadsAs m address f NotAStore = subst (λ r. OpenRefusedAs m address r f) c.in-NotAStore.is (e.refused f told) in
+    let none : ReadsAsOf 0 m address f NotAStore = subst (λ r. OpenRefusedAs 0 m address r f) c.in-NotAStore.is (e.refused f told) in
     unopened_so m g.U.Mrdt.meaning address c.why_no_store-why.result f none (c.why_no_store-why.ensures.why f (e.same_err ∙ told))
 
 pub returns-in-NotAStore-clause-refused_only : goal.returns-in-NotAStore-clause-refused_only

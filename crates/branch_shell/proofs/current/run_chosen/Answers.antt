@@ -1,0 +1,198 @@
+-- Each task on the disk that was chosen.
+use Rattle.std.proofs.Common.{◌≡◌, ℕ, List, [], refl, inl, subst}
+use Rattle.std.proofs.KnownBytes.{Consumes-nil}
+use Rattle.branch_doc.specs.Document.{document}
+use Rattle.branch_command.specs.Work.{Work}
+use Rattle.branch_command.specs.Commands.{Script}
+use Rattle.branch_shell.specs.declared.status.Status.TheVariants.{DiskFault}
+use Rattle.branch_shell.specs.Generated.{SaysWork}
+use Rattle.branch_shell.specs.Stores.{SaysReport}
+use Rattle.branch_shell.specs.Reading.{Exchanges}
+use Rattle.branch_shell.specs.Statuses.{Wrote}
+use Rattle.branch_shell.specs.Documents.{SaysUnopened}
+use Rattle.branch_shell.specs.Upgrading.{SaysUpgraded, SaysNotUpgraded}
+use Rattle.branch_shell.specs.Compacting.{SaysCompacted}
+use Rattle.mrdt_old_doc.specs.OldDocument.{old_document}
+use Rattle.branch_shell.specs.Once.{Answers}
+use Rattle.branch_shell.specs.Bundling.{SaysAddress, SaysBundle, SaysNoBranch}
+use Rattle.branch_shell.proofs.Runs.{no_usage, once_usage, check_ran, address_ran, send_ran, both_behind}
+use Rattle.branch_shell.proofs.Received.{receive_usage}
+use Rattle.branch_shell.proofs.Outcomes.{never_usage}
+use Rattle.branch_shell.proofs.current.run_chosen.Goals as goal
+
+pub returns-in-Script-clause-ran : goal.returns-in-Script-clause-ran
+returns-in-Script-clause-ran g c =
+    let e = c.run_script-status.ensures.ran in
+    rw c.in-Script.is (e.0, e.1, e.2, e.3, (e.4, refl))
+
+pub returns-in-Script-clause-usage : goal.returns-in-Script-clause-usage
+returns-in-Script-clause-usage g c usage =
+    let e = c.run_script-status.ensures.ran in
+    no_usage g.A.Address.address (g.D.Disk.contents c.args.held) (g.S.Source.left c.run_script-status.new.source) c.run_script-status.result.0 e.0 e.1 e.4.wrote usage
+
+pub returns-in-Script-clause-reason : goal.returns-in-Script-clause-reason
+returns-in-Script-clause-reason g c = inl (c.run_script-status.ensures.reason, refl)
+
+pub returns-in-Script-clause-behind_source : goal.returns-in-Script-clause-behind_source
+returns-in-Script-clause-behind_source g c fault = rw c.in-Script.is (c.run_script-status.ensures.behind_source fault)
+
+pub returns-in-Script-clause-behind_disk : goal.returns-in-Script-clause-behind_disk
+returns-in-Script-clause-behind_disk g c fault =
+    let run = c.run_script-status in
+    rw c.in-Script.is
+    (both_behind (g.D.Disk.faults run.result.1 ≡ g.D.Disk.faults c.args.held) (g.D.Disk.faults c.args.other ≡ g.D.Disk.faults c.args.other)
+    (Exchanges (g.S.Source.left c.args.source.now) (g.S.Source.left run.new.source) (g.K.Sink.given c.args.sink.now) (g.K.Sink.given run.new.sink)
+    (Wrote g.A.Address.address Script (g.D.Disk.contents c.args.held) (g.S.Source.left run.new.source) DiskFault)) refl (run.ensures.behind_disk fault))
+
+pub returns-in-Check-clause-ran : goal.returns-in-Check-clause-ran
+returns-in-Check-clause-ran g c =
+    let run = c.run_check-status in
+    rw c.in-Check.is
+    (check_ran g.A.Address.address g.D.Disk c.args.which c.args.held run.result.1 c.args.other run.result.0 (g.S.Source.left c.args.source.now) (g.K.Sink.given c.args.sink.now) (g.K.Sink.given run.new.sink) run.ensures.wrote
+    (record { any_moment = run.ensures.any_moment; keeps = λ done store holds. run.ensures.keeps done holds.files store holds.told holds.reads }))
+
+pub returns-in-Check-clause-usage : goal.returns-in-Check-clause-usage
+returns-in-Check-clause-usage g c usage =
+    let told = g.D.Disk.contents c.args.held in
+    let run = c.run_check-status in
+    never_usage (SaysReport document g.A.Address.address told) (SaysUnopened g.A.Address.address told) run.result.0 (g.K.Sink.given c.args.sink.now) (g.K.Sink.given run.new.sink) run.ensures.wrote usage
+
+pub returns-in-Check-clause-reason : goal.returns-in-Check-clause-reason
+returns-in-Check-clause-reason g c = inl (c.run_check-status.ensures.reason (g.S.Source.faults c.args.source.now), refl)
+
+pub returns-in-Check-clause-behind_source : goal.returns-in-Check-clause-behind_source
+returns-in-Check-clause-behind_source g c fault = inl refl
+
+pub returns-in-Check-clause-behind_disk : goal.returns-in-Check-clause-behind_disk
+returns-in-Check-clause-behind_disk g c fault = inl (c.run_check-status.ensures.no_fault fault, refl)
+
+pub returns-in-Generate-clause-ran : goal.returns-in-Generate-clause-ran
+returns-in-Generate-clause-ran g c =
+    let e = c.run_generate-status.ensures.ran (g.S.Source.left c.args.source.now) in
+    rw c.in-Generate.is (e.0, e.1, e.2, e.3, (e.4, refl))
+
+pub returns-in-Generate-clause-usage : goal.returns-in-Generate-clause-usage
+returns-in-Generate-clause-usage g c usage =
+    let told = g.D.Disk.contents c.args.held in
+    let work : Work = record { steps = c.in-Generate.steps; number = c.in-Generate.number } in
+    let e = c.run_generate-status.ensures.ran (g.S.Source.left c.args.source.now) in
+    once_usage (SaysWork g.A.Address.address told work) (SaysUnopened g.A.Address.address told) c.run_generate-status.result.0 e.1 e.4.wrote.1 usage
+
+pub returns-in-Generate-clause-reason : goal.returns-in-Generate-clause-reason
+returns-in-Generate-clause-reason g c = inl (c.run_generate-status.ensures.reason (g.S.Source.faults c.args.source.now), refl)
+
+pub returns-in-Generate-clause-behind_source : goal.returns-in-Generate-clause-behind_source
+returns-in-Generate-clause-behind_source g c fault = inl refl
+
+pub returns-in-Generate-clause-behind_disk : goal.returns-in-Generate-clause-behind_disk
+returns-in-Generate-clause-behind_disk g c fault = inl (c.run_generate-status.ensures.no_fault fault, refl)
+
+pub returns-in-Upgrade-clause-ran : goal.returns-in-Upgrade-clause-ran
+returns-in-Upgrade-clause-ran g c =
+    let did = c.run_upgrade.ensures.ran in
+    rw c.in-Upgrade.is ([], did.0, Consumes-nil (g.S.Source.left c.args.source.now), did.1, (refl, did.2))
+
+pub returns-in-Upgrade-clause-usage : goal.returns-in-Upgrade-clause-usage
+returns-in-Upgrade-clause-usage g c usage =
+    let run = c.run_upgrade in
+    let did = run.ensures.ran in
+    once_usage (SaysUpgraded g.D.Disk g.A.Address.address c.args.held c.args.other run.result.2) (SaysNotUpgraded g.D.Disk g.A.Address.address c.args.held c.args.other run.result.2) run.result.0 did.0 did.2.wrote usage
+
+pub returns-in-Upgrade-clause-reason : goal.returns-in-Upgrade-clause-reason
+returns-in-Upgrade-clause-reason g c = c.run_upgrade.ensures.reason (g.S.Source.faults c.args.source.now)
+
+pub returns-in-Upgrade-clause-behind_source : goal.returns-in-Upgrade-clause-behind_source
+returns-in-Upgrade-clause-behind_source g c fault = inl refl
+
+pub returns-in-Upgrade-clause-behind_disk : goal.returns-in-Upgrade-clause-behind_disk
+returns-in-Upgrade-clause-behind_disk g c fault = inl (c.run_upgrade.ensures.no_fault fault)
+
+pub returns-in-Compact-clause-ran : goal.returns-in-Compact-clause-ran
+returns-in-Compact-clause-ran g c =
+    let did = c.run_compact.ensures.ran in
+    rw c.in-Compact.is ([], did.0, Consumes-nil (g.S.Source.left c.args.source.now), did.1, (refl, did.2))
+
+pub returns-in-Compact-clause-usage : goal.returns-in-Compact-clause-usage
+returns-in-Compact-clause-usage g c usage =
+    let told = g.D.Disk.contents c.args.held in
+    let did = c.run_compact.ensures.ran in
+    once_usage (SaysCompacted g.A.Address.address told) (SaysUnopened g.A.Address.address told) c.run_compact.result.0 did.0 did.2.wrote usage
+
+pub returns-in-Compact-clause-reason : goal.returns-in-Compact-clause-reason
+returns-in-Compact-clause-reason g c = c.run_compact.ensures.reason (g.S.Source.faults c.args.source.now)
+
+pub returns-in-Compact-clause-behind_source : goal.returns-in-Compact-clause-behind_source
+returns-in-Compact-clause-behind_source g c fault = inl refl
+
+pub returns-in-Compact-clause-behind_disk : goal.returns-in-Compact-clause-behind_disk
+returns-in-Compact-clause-behind_disk g c fault = inl (c.run_compact.ensures.no_fault fault)
+
+pub returns-in-Address-clause-ran : goal.returns-in-Address-clause-ran
+returns-in-Address-clause-ran g c =
+    let run = c.run_address-status in
+    rw c.in-Address.is
+    (address_ran g.A.Address.address g.D.Disk c.args.which c.args.held run.result.1 c.args.other run.result.0 (g.S.Source.left c.args.source.now) (g.K.Sink.given c.args.sink.now) (g.K.Sink.given run.new.sink) c.in-Address.branch run.ensures.wrote
+    (record { any_moment = run.ensures.any_moment; keeps = λ done store holds. run.ensures.keeps done holds.files store holds.told holds.reads }))
+
+pub returns-in-Address-clause-usage : goal.returns-in-Address-clause-usage
+returns-in-Address-clause-usage g c usage =
+    let told = g.D.Disk.contents c.args.held in
+    let run = c.run_address-status in
+    never_usage (SaysAddress document g.A.Address.address told c.in-Address.branch) (SaysNoBranch document old_document g.A.Address.address told c.in-Address.branch) run.result.0 (g.K.Sink.given c.args.sink.now) (g.K.Sink.given run.new.sink) run.ensures.wrote usage
+
+pub returns-in-Address-clause-reason : goal.returns-in-Address-clause-reason
+returns-in-Address-clause-reason g c = inl (c.run_address-status.ensures.reason (g.S.Source.faults c.args.source.now), refl)
+
+pub returns-in-Address-clause-behind_source : goal.returns-in-Address-clause-behind_source
+returns-in-Address-clause-behind_source g c fault = inl refl
+
+pub returns-in-Address-clause-behind_disk : goal.returns-in-Address-clause-behind_disk
+returns-in-Address-clause-behind_disk g c fault = inl (c.run_address-status.ensures.no_fault fault, refl)
+
+pub returns-in-Send-clause-ran : goal.returns-in-Send-clause-ran
+returns-in-Send-clause-ran g c =
+    let run = c.run_send-status in
+    let told = g.D.Disk.contents c.args.held in
+    let g0 = g.K.Sink.given c.args.sink.now in
+    let g1 = g.K.Sink.given run.new.sink in
+    let wrote =
+    subst (λ (l : List (List ℕ)). Answers (SaysBundle document g.A.Address.address told c.in-Send.sending.branch l) (SaysNoBranch document old_document g.A.Address.address told c.in-Send.sending.branch) run.result.0 g0 g1)
+    c.as_slice.ensures run.ensures.wrote in
+    rw c.in-Send.is
+    (send_ran g.A.Address.address g.D.Disk c.args.which c.args.held run.result.1 c.args.other run.result.0 (g.S.Source.left c.args.source.now) g0 g1 c.in-Send.sending.branch c.in-Send.sending.here wrote
+    (record { any_moment = run.ensures.any_moment; keeps = λ done store holds. run.ensures.keeps done holds.files store holds.told holds.reads }))
+
+pub returns-in-Send-clause-usage : goal.returns-in-Send-clause-usage
+returns-in-Send-clause-usage g c usage =
+    let told = g.D.Disk.contents c.args.held in
+    let run = c.run_send-status in
+    never_usage (SaysBundle document g.A.Address.address told c.in-Send.sending.branch c.as_slice.result.now) (SaysNoBranch document old_document g.A.Address.address told c.in-Send.sending.branch) run.result.0 (g.K.Sink.given c.args.sink.now) (g.K.Sink.given run.new.sink) run.ensures.wrote usage
+
+pub returns-in-Send-clause-reason : goal.returns-in-Send-clause-reason
+returns-in-Send-clause-reason g c = inl (c.run_send-status.ensures.reason (g.S.Source.faults c.args.source.now), refl)
+
+pub returns-in-Send-clause-behind_source : goal.returns-in-Send-clause-behind_source
+returns-in-Send-clause-behind_source g c fault = inl refl
+
+pub returns-in-Send-clause-behind_disk : goal.returns-in-Send-clause-behind_disk
+returns-in-Send-clause-behind_disk g c fault = inl (c.run_send-status.ensures.no_fault fault, refl)
+
+pub returns-in-Receive-clause-ran : goal.returns-in-Receive-clause-ran
+returns-in-Receive-clause-ran g c =
+    let e = c.run_receive-status.ensures.ran in
+    rw c.in-Receive.is (e.0, e.1, e.2, e.3, (e.4, refl))
+
+pub returns-in-Receive-clause-usage : goal.returns-in-Receive-clause-usage
+returns-in-Receive-clause-usage g c usage =
+    let run = c.run_receive-status in
+    let e = run.ensures.ran in
+    receive_usage g.D.Disk document old_document g.A.Address.address c.in-Receive.name c.args.held run.result.1 (g.S.Source.left run.new.source) run.result.0 e.0 e.1 e.4 usage
+
+pub returns-in-Receive-clause-reason : goal.returns-in-Receive-clause-reason
+returns-in-Receive-clause-reason g c = inl (c.run_receive-status.ensures.reason, refl)
+
+pub returns-in-Receive-clause-behind_source : goal.returns-in-Receive-clause-behind_source
+returns-in-Receive-clause-behind_source g c fault = inl (c.run_receive-status.ensures.no_fault fault).0
+
+pub returns-in-Receive-clause-behind_disk : goal.returns-in-Receive-clause-behind_disk
+returns-in-Receive-clause-behind_disk g c fault = inl ((c.run_receive-status.ensures.no_fault fault).1, refl)
