@@ -123,9 +123,9 @@ fn all_origins_are_numbers_of_32_bits(rt: HostRuntime) {
         (most, 1, true),
         (most, 2, false),
     ] {
-        match Terms::new(limits, origin) {
+        match Terms::new(limits, origin, 7) {
             Some(terms) => assert!(rt;
-                some && terms.limits == limits && terms.origin == origin,
+                some && terms.limits == limits && terms.origin == origin && terms.kind == 7,
                 "{}",
                 origin
             ),
@@ -133,5 +133,5 @@ fn all_origins_are_numbers_of_32_bits(rt: HostRuntime) {
         }
     }
     let terms = Terms::under(most);
-    assert!(rt; terms.limits == most && terms.origin == 0);
+    assert!(rt; terms.limits == most && terms.origin == 0 && terms.kind == 0);
 }

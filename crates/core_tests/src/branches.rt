@@ -54,7 +54,7 @@ fn forked(rt: &impl Abort, alloc: Global) -> Store {
 
 // A store that is closed and opened again.
 fn opened(rt: &impl Abort, alloc: Global, core: Store) -> Store {
-    match Store::open(alloc, core.close()) {
+    match Store::open(alloc, core.close(), 0) {
         Ok(core) => core,
         Err(_) => panic!(rt; "not opened"),
     }

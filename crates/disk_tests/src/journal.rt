@@ -24,8 +24,8 @@ const FILE: &[u8] = b"\
 \0\0\0\0\0\0\0\0\0\0\0\0\0\0\0\0\0\0\0\0\0\0\0\0\0\0\0\0\0\0\0\0\0\0\0\0\0\0\0\0\0\0\0\0\0\0\
 \0";
 
-fn terms(rt: &impl Abort, origin: u32) -> Terms {
-    Terms::new(Limits::default(), origin).expect(rt, "terms")
+fn terms(rt: &impl Abort, origin: u32, kind: u8) -> Terms {
+    Terms::new(Limits::default(), origin, kind).expect(rt, "terms")
 }
 
 fn fork(rt: &impl Abort) -> Record {
@@ -65,7 +65,7 @@ fn forward() -> Record {
 // A journal with as many records as there is room for in four, on a disk of which listed calls fail.
 fn journal_of(rt: &impl Abort, failing: Vec<u64>) -> (MemoryDisk, [Result<(), AppendRefused>; 4]) {
     let mut disk = MemoryDisk::new(failing);
-    let mut journal = Journal::create(&mut disk, &terms(rt, 0), 0).expect(rt, "a journal");
+    let mut journal = Journal::create(&mut disk, &terms(rt, 0, 0)).expect(rt, "a journal");
     let first = journal.append(&mut disk, &fork(rt));
     let second = journal.append(&mut disk, &operation());
     let third = journal.append(&mut disk, &merge());
@@ -85,7 +85,7 @@ fn a_journal_writes_its_header_and_records(rt: HostRuntime) -> Result<(), Fail> 
 fn a_journal_is_read(rt: HostRuntime) -> Result<(), Fail> {
     let mut disk = disk_of(rt.alloc(), FILE)?;
     let (_, read, records, stop) = read_all(rt.alloc(), &mut disk, 2, 0)?;
-    assert!(rt; read == terms(&rt, 0));
+    assert!(rt; read == terms(&rt, 0, 0));
     assert!(rt; records.as_slice() == [fork(&rt), operation(), merge(), forward()].as_slice());
     assert!(rt; stop == None);
     Ok(())
@@ -138,7 +138,7 @@ fn no_journal_is_made_on_a_disk_that_fails(rt: HostRuntime) -> Result<(), Fail> 
         (6, Ok((0, None))),
     ] {
         let mut disk = MemoryDisk::new(vec![in rt.alloc(); call]?);
-        assert!(rt; Journal::create(&mut disk, &terms(&rt, 0), 0).is_err());
+        assert!(rt; Journal::create(&mut disk, &terms(&rt, 0, 0)).is_err());
         assert!(rt; read_again(rt.alloc(), disk) == left, "call {} fails", call);
     }
     Ok(())
@@ -311,14 +311,14 @@ fn later_file(alloc: Global, header: &[u8]) -> Result<Vec<u8>, Fail> {
 fn later_records_are_written_and_read(rt: HostRuntime) -> Result<(), Fail> {
     let origin = 0xffff_0000;
     let mut disk = MemoryDisk::new(vec![in rt.alloc()]?);
-    let mut journal = Journal::create(&mut disk, &terms(&rt, origin), 1)?;
+    let mut journal = Journal::create(&mut disk, &terms(&rt, origin, 1))?;
     let records = later_records(&rt);
     assert!(rt; journal.append_all(&mut disk, &records) == Ok(()));
     assert!(rt; kind(&mut disk) == Ok(1));
     let file = later_file(rt.alloc(), &HEADER[..64])?;
     assert!(rt; read_whole(rt.alloc(), &mut disk, Part::Heads)?.as_slice() == file.as_slice());
     let (_, read, found, stop) = read_all(rt.alloc(), &mut disk, 2, 1)?;
-    assert!(rt; read == terms(&rt, origin) && found.as_slice() == records.as_slice());
+    assert!(rt; read == terms(&rt, origin, 1) && found.as_slice() == records.as_slice());
     assert!(rt; stop == None);
     Ok(())
 }

@@ -67,7 +67,8 @@ fn weak(last: u8) -> [u8; 32] {
 
 // A store of a value of 104 bytes and of the root commit.
 fn started<A: Address>(alloc: Global, disk: &mut MemoryDisk) -> Result<Objects<A>, PutRefused>
-    ensures stored { IfOk result (λ objects. AllBegin (file_of objects.stored) (⟦<MemoryDisk as Disk>⟧.may_leave disk.new)) }
+    ensures stored { IfOk result (λ objects.
+        AllBegin (file_of objects.stored) (⟦<MemoryDisk as Disk>⟧.may_leave disk.new)) }
     ensures staged { IfOk result (λ objects. objects.staged ≡ []) }
 {
     let (objects, _) = Objects::<A>::fresh(alloc, &[0; 104])?;
@@ -143,9 +144,11 @@ fn store<A: Address>(
     objects: &mut Objects<A>,
 ) -> Result<[u8; 32], PutRefused>
     requires staged { objects.old.staged ≡ [] }
-    requires stored { AllBegin (file_of objects.old.stored) (⟦<MemoryDisk as Disk>⟧.may_leave disk.old) }
+    requires stored { AllBegin (file_of objects.old.stored)
+        (⟦<MemoryDisk as Disk>⟧.may_leave disk.old) }
     ensures staged { OnOk result (objects.new.staged ≡ []) }
-    ensures stored { OnOk result (AllBegin (file_of objects.new.stored) (⟦<MemoryDisk as Disk>⟧.may_leave disk.new)) }
+    ensures stored { OnOk result
+        (AllBegin (file_of objects.new.stored) (⟦<MemoryDisk as Disk>⟧.may_leave disk.new)) }
 {
     let address = stage(alloc, objects, &[3; 140], 1)?;
     objects.write(disk)?;

@@ -19,7 +19,7 @@ fn words_of(alloc: Global, text: &str) -> Result<Vec<String>, AllocError> {
 }
 
 // Runs a command that starts no thread, with addresses of a kind, which ends so and writes this. Gives the disk that it
-// left. The second disk is empty, and no call is made of it.
+// left. The second disk is empty.
 pub fn says<A: Address>(
     rt: &impl Abort,
     alloc: Global,
@@ -32,7 +32,7 @@ pub fn says<A: Address>(
     let mut source = MemorySource::new(input.to_vec(alloc)?, 16, Vec::new(alloc));
     let mut sink = MemorySink::new(Vec::new(alloc));
     let second = MemoryDisk::new(Vec::new(alloc));
-    let (status, disk, second) = run_alone::<_, _, _, A>(
+    let (status, disk, _) = run_alone::<_, _, _, A>(
         alloc,
         &words,
         &mut source,
@@ -41,7 +41,6 @@ pub fn says<A: Address>(
         second,
     );
     assert_eq!(rt; (status, sink.bytes()), wanted);
-    assert_eq!(rt; second.calls(), 0);
     Ok(disk)
 }
 

@@ -146,7 +146,8 @@ fn base_again<T: Mrdt, L: Ledger>(
     requires left { All (λ n. n < length nodes.now.graph.commits) left.now }
     requires right { All (λ n. n < length nodes.now.graph.commits) right.now }
     requires memo { IsMemoOf T.meaning nodes.now memo.old }
-    requires kept { 1 < length (maximal_common nodes.now.graph.commits left.now right.now) → KeepsList memo.old (maximal_common nodes.now.graph.commits left.now right.now) }
+    requires kept { 1 < length (maximal_common nodes.now.graph.commits left.now right.now)
+        → KeepsList memo.old (maximal_common nodes.now.graph.commits left.now right.now) }
     ensures steps { memo.old.refused ≡ false → steps.new ≡ steps.old }
 {
     base_kept(nodes, left, right, memo, steps)

@@ -129,7 +129,7 @@ fn moved_up<R>(landed: &Landed<R>) -> Option<(u64, u32)> {
 
 #[test]
 fn two_forks_add(rt: HostRuntime) -> Result<(), Fail> {
-    let terms = Terms::new(Limits::default(), 5).expect(&rt, "terms");
+    let terms = Terms::new(Limits::default(), 5, 0).expect(&rt, "terms");
     let mut core = Versions::fresh(rt.alloc(), terms, ADDRESS)?;
     let (main, left, right) = (Name::main(), name(&rt, b"left"), name(&rt, b"right"));
     let forked = core.fork(left, &main)?;

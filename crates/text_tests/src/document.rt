@@ -51,8 +51,13 @@ fn a_document_merges(rt: HostRuntime) -> Result<(), Fail> {
     let value = PlainQuery::CounterValue {
         key: Bytes::from_slice(alloc, b"hits")?,
     };
-    let (three, four) = (op(add(alloc, 3)?), op(add(alloc, 4)?));
-    let told = merged::<Doc>(alloc, &three, &four, &query(value))?;
+    let (Some(three), Some(four)) = (op(add(alloc, 3)?), op(add(alloc, 4)?)) else {
+        panic!(rt; "a document has counters");
+    };
+    let Some(value) = query(value) else {
+        panic!(rt; "a document has counters");
+    };
+    let told = merged::<Doc>(alloc, &three, &four, &value)?;
     assert!(rt; matches!(&answer(told), PlainAnswer::CounterValue(7)));
     Ok(())
 }

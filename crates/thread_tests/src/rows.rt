@@ -119,7 +119,7 @@ fn two_branches(rt: HostRuntime) -> Result<(), Fail> {
     let left = Name::read(b"left").expect(&rt, "a name");
     let right = Name::read(b"right").expect(&rt, "a name");
     let core = on_two_branches::<Brand, _>(&rt, blank, left, right);
-    let Ok(core) = Sums::open(alloc, core.close()) else {
+    let Ok(core) = Sums::open(alloc, core.close(), 0) else {
         return Err(Fail::from("not opened"));
     };
     assert_eq!(rt; core.moves(), 2 * (MANY + 2));

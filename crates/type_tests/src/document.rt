@@ -1,5 +1,5 @@
 // The plain forms of operations, queries, replies and answers, each of one kind.
-use branch_doc::{PlainAnswer, PlainOp, PlainQuery, PlainReply, answer, op, query, reply};
+use branch_doc::{Kind, PlainAnswer, PlainOp, PlainQuery, PlainReply, answer, op, query, reply};
 use mrdt_both::Side;
 use mrdt_counter::CounterQuery;
 use mrdt_flag::FlagOp;
@@ -13,12 +13,14 @@ fn an_operation_of_flags(rt: HostRuntime) -> Result<(), Fail> {
         key: Bytes::from_slice(rt.alloc(), b"k")?,
     };
     match op(enable) {
-        Side::Second(
-            Side::First(
-                OnKey {
-                    key,
-                    operation: FlagOp::Enable,
-                },
+        Some(
+            Side::Second(
+                Side::First(
+                    OnKey {
+                        key,
+                        operation: FlagOp::Enable,
+                    },
+                ),
             ),
         ) => assert!(rt; key.as_slice() == b"k".as_slice()),
         _ => panic!(rt; "another operation"),
@@ -32,11 +34,21 @@ fn a_query_of_counters(rt: HostRuntime) -> Result<(), Fail> {
         key: Bytes::from_slice(rt.alloc(), b"hits")?,
     };
     match query(value) {
-        Side::First(MapQuery::AtKey(key, CounterQuery::Value)) => {
+        Some(Side::First(MapQuery::AtKey(key, CounterQuery::Value))) => {
             assert!(rt; key.as_slice() == b"hits".as_slice())
         }
         _ => panic!(rt; "another query"),
     }
+    Ok(())
+}
+
+#[test]
+fn a_document_has_no_sequences(rt: HostRuntime) -> Result<(), Fail> {
+    let delete = PlainOp::SequenceDelete {
+        key: Bytes::from_slice(rt.alloc(), b"t")?,
+        place: 0,
+    };
+    assert!(rt; op(delete).is_none() && query(PlainQuery::Keys(Kind::Sequence)).is_none());
     Ok(())
 }
 
