@@ -207,7 +207,7 @@ class Store:
     def __init__(self, origin=0, **limits):
         self.limits, self.origin, self.version, self.log = {**LIMITS, **limits}, origin, VERSION, []
         self.commits, self.branches, self.moves = [], [[b"main", 0]], 0
-        self.dropped = set()
+        self.dropped, self.records = set(), []
         self.stored = {}
         self.objects = b"MRDTOBJS" + u32(VERSION) + bytes(4)
         self.heads = b"\1MRDTHEAD" + u32(VERSION) + self.limit_bytes() + b"\0" + u32(origin) + bytes(14) + b"\0"
@@ -229,6 +229,7 @@ class Store:
     def put_record(self, kind, branch, other, rest):
         record = bytes([1, kind]) + u32(branch) + u32(other) + u64(len(self.objects)) + rest.ljust(32, b"\0") + bytes(14)
         self.heads = self.heads[:-1] + record + b"\0"
+        self.records.append((kind, branch, other, rest, len(self.commits) - 1))
         self.moves += 1
 
     def visible(self, commit):
@@ -370,6 +371,75 @@ class Store:
         self.put_record(8, branch, 0, b"")
         return name
 
+    def holds_objects(self, value, commit):
+        """The first commit with these two objects."""
+        for number, of in enumerate(self.commits):
+            if value_object(of.value) == value and self.stored[of.address] == commit:
+                return number
+        return None
+
+    def send(self, branch, here=()):
+        """The bundle of a branch's head, for one that has the commits with these addresses."""
+        tip = self.branches[self.find(branch)][1]
+        left = 1
+        for of in self.commits:
+            left |= of.reach if of.address in here else 0
+        sent = [of for number, of in enumerate(self.commits) if self.commits[tip].reach & ~left & 1 << number]
+        return Bundle(self.commits[tip].address, [Item(self, of) for of in sent])
+
+    def receive(self, bundle, name):
+        """Receives a bundle as a new branch, and says what came of it."""
+        for taken, branch in enumerate(self.branches):
+            if branch[0] == name and taken not in self.dropped:
+                raise Refused(f"refused taken {taken}")
+        count = 0
+        for number, item in enumerate(bundle.items, 1):
+            if self.holds_objects(item.value, item.commit) is None:
+                self.receive_item(number, item)
+                count += 1
+        tips = [number for number, of in enumerate(self.commits) if of.address == bundle.tip]
+        if not tips:
+            raise Refused("refused bundle 0")
+        if len(self.branches) == self.limits["branches"]:
+            raise Refused(f"refused full branches {len(self.branches)}")
+        self.check_received_moves()
+        self.branches.append([name, tips[0]])
+        self.put_record(7, len(self.branches) - 1, tips[0], name)
+        return f"received {count} as {len(self.branches) - 1} at #{tips[0]}"
+
+    def check_received_moves(self):
+        if self.moves == self.limits["moves"]:
+            raise Refused(f"refused full moves {self.moves}")
+
+    def receive_item(self, number, item):
+        at = {of.address: commit for commit, of in reversed(list(enumerate(self.commits)))}
+        of = item.of
+        if any(parent not in at for parent in item.parents):
+            raise Refused(f"refused bundle {number}")
+        if self.origin <= of.origin < self.origin + self.limits["branches"]:
+            raise Refused(f"refused own origin {number}")
+        parents = [at[parent] for parent in item.parents]
+        reach = 0
+        for parent in parents:
+            reach |= self.commits[parent].reach
+        events = [c.event for commit, c in enumerate(self.commits) if c.event and reach >> commit & 1]
+        event, action = None, b"\2"
+        if of.event:
+            for commit, c in enumerate(self.commits):
+                if c.event and c.event.time == of.event.time:
+                    raise Refused(f"refused time clash {number} with #{commit}")
+            event = Event(len(self.commits), of.event.time, of.event.kind, of.event.key, of.event.verb, of.event.word, reach, of.event.reply)
+            events = events + [event]
+            op = operation(event.kind, event.key, event.verb, event.word)
+            action = b"\1" + sized(op) + sized(reply_bytes(event.kind, event.verb, event.reply))
+        if len(self.commits) == self.limits["commits"]:
+            raise Refused(f"refused full commits {len(self.commits)}")
+        self.check_received_moves()
+        value = document(events)
+        _, name = self.add_commit(parents, of.origin, of.clock, event, action, value)
+        assert (value_object(value), self.stored[name]) == (item.value, item.commit)
+        self.put_record(6, 0, 0, name)
+
     def upgraded(self):
         """The store of the next version with the same moves, as far as that makes them, and what upgrading it says."""
         with of_version(self.version + 1):
@@ -381,14 +451,80 @@ class Store:
                     return store, f"refused upgrade {len(store.commits)}"
         return store, f"upgraded {store.moves}"
 
+    def live(self):
+        """The commits that the heads of branches reach that were not dropped, as bits."""
+        live = 0
+        for number, (_, head) in enumerate(self.branches):
+            live |= 0 if number in self.dropped else self.commits[head].reach
+        return live
+
+    def compacted(self):
+        """The store without the moves whose commits are not live, and what compacting says."""
+        live = self.live()
+        kept = [n for n in range(len(self.commits)) if live >> n & 1]
+        new = {n: at for at, n in enumerate(kept)}
+        store = Store(self.origin, **self.limits)
+
+        def bits(of):
+            return sum(1 << at for at, n in enumerate(kept) if of >> n & 1)
+
+        def carried(n):
+            of, event = self.commits[n], self.commits[n].event
+            if event:
+                event = Event(new[n], event.time, event.kind, event.key, event.verb, event.word, bits(event.seen), event.reply)
+            return Commit([new[p] for p in of.parents], of.origin, of.clock, bits(of.reach), event, of.value, of.address)
+
+        for kind, branch, other, rest, commit in self.records:
+            if kind in (2, 3, 5):
+                if commit not in new:
+                    continue
+                store.put_object(value_object(self.commits[commit].value))
+                assert store.put_object(self.stored[self.commits[commit].address]) == self.commits[commit].address
+                store.commits.append(carried(commit))
+                assert len(store.commits) == new[commit] + 1
+                store.branches[branch][1] = new[commit]
+            if kind == 1:
+                store.branches.append([rest, store.branches[other][1]])
+            elif kind == 4:
+                if other not in new:
+                    continue
+                store.branches[branch][1] = new[other]
+            elif kind == 8:
+                store.dropped.add(branch)
+            if kind in (3, 4):
+                other = new[other]
+            elif kind == 5:
+                rest = b"".join(u32(new[int.from_bytes(rest[at:at + 4], "big")]) for at in range(0, len(rest), 4))
+            store.put_record(kind, branch, other, rest)
+        return store, f"compacted {store.moves} of {self.moves}"
+
     def report(self):
         kept = [branch for number, branch in enumerate(self.branches) if number not in self.dropped]
         lines = [f"branch {name.decode()} #{head}" for name, head in kept]
         return lines + [f"moves {self.moves} commits {len(self.commits)} branches {len(self.branches)}"]
 
 
+class Item:
+    """A commit of a bundle: its two objects, and the addresses of its parents."""
+
+    def __init__(self, store, of):
+        self.of, self.value, self.commit = of, value_object(of.value), store.stored[of.address]
+        self.parents = [store.commits[parent].address for parent in of.parents]
+
+
+class Bundle:
+    """What one store sends to another."""
+
+    def __init__(self, tip, items):
+        self.tip, self.items = tip, items
+
+    def bytes(self):
+        return b"MRDTBNDL" + u32(1) + self.tip + u64(len(self.items)) + b"".join(item.value + item.commit for item in self.items)
+
+
 NAME = re.compile(rb"[a-z0-9_]{1,32}\Z")
 INT = re.compile(rb"(0|-?[1-9][0-9]*)\Z")
+PLACE = re.compile(rb"(0|[1-9][0-9]*)\Z")
 DO = {
     "counter": {"add": 1, "reset": 0},
     "flag": {"enable": 0, "disable": 0},
@@ -397,6 +533,7 @@ DO = {
     "set": {"add": 1, "remove": 1, "clear": 0},
     "log": {"append": 1},
     "queue": {"enqueue": 1, "dequeue": 0},
+    "seq": {"insert": 2, "delete": 1},
 }
 ASK = {
     "counter": {"value": 0},
@@ -406,6 +543,7 @@ ASK = {
     "set": {"contains": 1, "members": 0, "size": 0},
     "log": {"read": 0, "length": 0},
     "queue": {"peek": 0, "items": 0, "length": 0},
+    "seq": {"read": 0, "length": 0},
 }
 
 
@@ -419,12 +557,12 @@ def fits(words):
         return 4 <= len(words) <= 10
     if words[0] == b"drop":
         return len(words) == 2
+    if VERSION == 1 and (kind == "seq" or verb in ("reset", "clear")):
+        return False
     if words[0] == b"ask" and len(words) == 4:
-        return kind in KINDS and words[3] == b"keys"
+        return kind in ASK and words[3] == b"keys"
     table = {b"do": DO, b"ask": ASK}.get(words[0])
     more = table and VERSION and table.get(kind, {}).get(verb)
-    if VERSION == 1 and verb in ("reset", "clear"):
-        return False
     return more is not None and table is not None and len(words) == 5 + more
 
 
@@ -440,6 +578,9 @@ def read_line(line):
         raise Refused("error name")
     if words[0] == b"do" and words[2] == b"counter" and words[4] == b"add":
         if not INT.match(words[5]) or not -(2**63) <= int(words[5]) < 2**63:
+            raise Refused("error number")
+    if words[0] == b"do" and words[2] == b"seq":
+        if not PLACE.match(words[5]) or int(words[5]) >= 2**32:
             raise Refused("error number")
     return words
 
@@ -518,9 +659,11 @@ class Engine:
         number, seen = self.seen(session)
         return f"dropped {self.store.drop(number, seen).decode()} at #{seen}"
 
-    def do(self, session, kind, key, verb, word=b""):
+    def do(self, session, kind, key, verb, word=b"", payload=b""):
         number, seen = self.seen(session)
         kind, verb = kind.decode(), verb.decode()
+        if kind == "seq":
+            raise Refused("error no sequences")
         word = int(word) if (kind, verb) == ("counter", "add") else word
         commit, time, reply = self.store.land(number, seen, kind, key, verb, word)
         self.sessions[session] = (number, commit)
@@ -531,6 +674,8 @@ class Engine:
 
     def ask(self, branch, kind, key, verb=None, word=b""):
         head = self.store.branches[self.store.find(branch)][1]
+        if kind == b"seq":
+            raise Refused("error no sequences")
         events = self.store.visible(head)
         if verb is None:
             keys = sorted({e.key for e in events if e.kind == kind.decode()})
