@@ -5,23 +5,30 @@ use Rattle.std.specs.Io.KnownBytes.{IsAtEnd, Consumes}
 use Rattle.std.proofs.KnownBytes.{Consumes-trans}
 use Rattle.mrdt_model.specs.Laws.{Meaning}
 use Rattle.branch_io.specs.Causes.{HasCauseOf}
+use Rattle.branch_wire.specs.Reading.{HasLength64}
 use Rattle.branch_disk.specs.Disk.{Files, LeavesOnly}
 use Rattle.branch_disk.specs.declared.disk.Disk.{Ghosts}
 use Rattle.branch_disk.specs.Moments.{started, weakened}
 use Rattle.branch_names.specs.declared.terms.Terms.{Terms}
+use Rattle.branch_names.specs.Heads.{branch_named}
 use Rattle.branch_history.specs.declared.moves.Move.{Move}
+use Rattle.branch_history.specs.History.{store_of}
 use Rattle.branch_history.specs.Steps as machine
 use Rattle.branch_machine.specs.Fixed.{fix}
+use Rattle.branch_machine.specs.Laws.{HasSize}
 use Rattle.branch_machine.specs.Validity.{IsFullyValid}
 use Rattle.branch_files.specs.Laws.{ReadsWhatStands}
-use Rattle.branch_bundle_laws.specs.Receiving.{Receipt, NoBundle, Stopped, NotPlaced, Placed as PlacedAs}
+use Rattle.branch_bundle_laws.specs.Bundles.{Bundle}
+use Rattle.branch_bundle_laws.specs.Receiving.{Receipt, NoBundle, Stopped, NotPlaced, Placed as PlacedAs, ReceivesFree}
+use Rattle.branch_receipts.specs.Receipts.{Keeps}
+use Rattle.branch_receipts.specs.Laws.{KeepsReceived, KeepsOnTheWay, AcceptsSent}
 use Rattle.branch_print.specs.Sent.{stop_text}
 use Rattle.store_core.specs.Images.{AllStand}
 use Rattle.store_core.specs.Views.{StoreView}
 use Rattle.store_receive.specs.declared.answers.Placed.{Placed}
 use Rattle.store_receive.specs.declared.answers.NotReceived.{NotReceived}
 use Rattle.store_receive.specs.declared.answers.NotReceived.TheVariants as unreceived
-use Rattle.store_receive.specs.Received.{TellsItem, TellsBranch, TellsReceipt, HasMade, AreReceived, AreInterrupted, AreNotReceived, StandsOnTheirWay}
+use Rattle.store_receive.specs.Received.{TellsItem, TellsBranch, TellsReceipt, HasMade, AreReceived, AreInterrupted, AreNotReceived, AreFirstMoves, StandsOnTheirWay}
 use Rattle.branch_shell.specs.declared.status.Status.{Status}
 use Rattle.branch_shell.specs.declared.status.Status.TheVariants.{Done, Usage, StoreRefused, DiskFault, ReadFault, WriteFault, LineTooLong, InputTooLong, Memory}
 use Rattle.branch_shell.specs.Counts.{HasReason, SaysReason}
@@ -29,7 +36,7 @@ use Rattle.branch_shell.specs.Disks.{LeavesAsBefore}
 use Rattle.branch_shell.specs.Once.{WroteOnce, Answers}
 use Rattle.branch_shell.specs.Telling.{Takes}
 use Rattle.branch_shell.specs.Stores.{Stored, ReadsAsStore, IsOpenedAs}
-use Rattle.branch_shell.specs.Bundling.{not_received_text, receipt_text, fixed_for, with_moves, IsSuccess, IsRefusal, IsAnswered, ReadsOnTheWay, SaysReceipt, WroteReceived, IsUnread, ReceivesFrom, TakenFrom, TellsTaken, SaysTaken, DoesNotReceive, RanReceive, StopsBehind, SourceReason}
+use Rattle.branch_shell.specs.Bundling.{not_received_text, receipt_text, fixed_for, with_moves, IsSuccess, IsRefusal, AcceptsSaid, IsAnswered, ReadsOnTheWay, SaysReceipt, WroteReceived, IsUnread, ReceivesFrom, TakenFrom, TellsTaken, SaysTaken, DoesNotReceive, RanReceive, StopsBehind, SourceReason}
 use Rattle.branch_shell.proofs.Once.{wrote_map, reason_said}
 
 -- what is said of an item that was refused
@@ -84,11 +91,16 @@ interrupted-told meaning terms address bytes old new e whole broken says = by br
     by (inl (inr (is, failed))) = silent unreceived.DiskFault refl is
     by (inr (b, fits, text, stopped)) = ⊎_elim (λ m. silent unreceived.Memory refl m.0) (λ f. silent unreceived.DiskFault refl f.0) stopped.why
 
-module _ {S O R Q A : Type 0} (meaning : Meaning S O R Q A) (address : List ℕ → List ℕ) (law : ReadsWhatStands meaning) (store : Stored O R) (bytes name : List ℕ) where
+module _ {S O R Q A : Type 0} (meaning : Meaning S O R Q A) (address : List ℕ → List ℕ) (law : ReadsWhatStands meaning) (way : KeepsOnTheWay meaning) (store : Stored O R) (bytes name : List ℕ) where
+  -- behind first moves all older commits and branches stand
+  first-keep : IsFullyValid (fixed_for meaning address store) store.history → (b : Bundle) (made : List (Move O R)) → AreFirstMoves (fixed_for meaning address store) store.history b name made → Keeps (fixed_for meaning address store) store.history name made
+  first-keep valid b made (inl some) = subst (Keeps (fixed_for meaning address store) store.history name) (sym some.taken.made_is) ((way store.terms address store.history valid name).0 some.first some.taken.turns some.taken.received)
+  first-keep valid b made (inr all) = subst (Keeps (fixed_for meaning address store) store.history name) (sym all.made_is) ((way store.terms address store.history valid name).1 b all.turns all.placed all.received)
+
   -- what stands on the way reads so
   reads-on-the-way : IsFullyValid (fixed_for meaning address store) store.history → (c : Files) → StandsOnTheirWay (fixed_for meaning address store) store.history bytes name c → ReadsOnTheWay meaning address store bytes name c
   reads-on-the-way valid c (inl before) = inl (law store.terms address store.history c valid before)
-  reads-on-the-way valid c (inr (b, fits, text, w)) = inr (b, fits, text, w.made, w.first, law store.terms address (store.history ++ w.made) c w.valid w.stands)
+  reads-on-the-way valid c (inr (b, fits, text, w)) = inr (b, fits, text, w.made, w.first, first-keep valid b w.made w.first, law store.terms address (store.history ++ w.made) c w.valid w.stands)
 
   module _ {D : Type 0} (disk : Ghosts D) where
     pub on-the-way : (old new now : D) → now ≡ new → IsFullyValid (fixed_for meaning address store) store.history
@@ -98,18 +110,27 @@ module _ {S O R Q A : Type 0} (meaning : Meaning S O R Q A) (address : List ℕ 
         subst (λ (d : D). LeavesOnly disk.moment disk.left_since old d (ReadsOnTheWay meaning address store bytes name)) (sym same)
         (weakened disk.moment disk.left_since old new (StandsOnTheirWay (fixed_for meaning address store) store.history bytes name) (ReadsOnTheWay meaning address store bytes name) all (reads-on-the-way valid))
 
-    -- nothing was made
-    pub stays : (old now : D) → now ≡ old → IsFullyValid (fixed_for meaning address store) store.history → AllStand (fixed_for meaning address store) store.history (disk.may_leave now)
-        → ((d : D) (c : Files) → disk.left_since d (disk.moment d) c → disk.may_leave d c) → LeavesOnly disk.moment disk.left_since old now (ReadsOnTheWay meaning address store bytes name)
-    stays old now same valid stand only_now =
-        subst (λ (d : D). LeavesOnly disk.moment disk.left_since d now (ReadsOnTheWay meaning address store bytes name)) same
-        (started disk.moment disk.left_since now (ReadsOnTheWay meaning address store bytes name)
-        (λ c left. inl (law store.terms address store.history c valid (stand c (only_now now c left)))))
+-- nothing was made
+module _ {S O R Q A D : Type 0} (meaning : Meaning S O R Q A) (address : List ℕ → List ℕ) (law : ReadsWhatStands meaning) (store : Stored O R) (bytes name : List ℕ) (disk : Ghosts D) where
+  pub stays : (old now : D) → now ≡ old → IsFullyValid (fixed_for meaning address store) store.history → AllStand (fixed_for meaning address store) store.history (disk.may_leave now)
+      → ((d : D) (c : Files) → disk.left_since d (disk.moment d) c → disk.may_leave d c) → LeavesOnly disk.moment disk.left_since old now (ReadsOnTheWay meaning address store bytes name)
+  stays old now same valid stand only_now =
+      subst (λ (d : D). LeavesOnly disk.moment disk.left_since d now (ReadsOnTheWay meaning address store bytes name)) same
+      (started disk.moment disk.left_since now (ReadsOnTheWay meaning address store bytes name)
+      (λ c left. inl (law store.terms address store.history c valid (stand c (only_now now c left)))))
 
 -- a receipt, and what is left then
-module _ {D S O R Q A : Type 0} (meaning : Meaning S O R Q A) (address : List ℕ → List ℕ) (law : ReadsWhatStands meaning) (bytes name : List ℕ) (old new : StoreView (Move O R) D) where
+module _ {D S O R Q A : Type 0} (meaning : Meaning S O R Q A) (address : List ℕ → List ℕ) (law : ReadsWhatStands meaning) (keeps : KeepsReceived meaning) (accepts : AcceptsSent meaning) (size : HasSize address) (bytes name : List ℕ) (old new : StoreView (Move O R) D)
+    (valid_old : IsFullyValid (fix meaning old.terms address) old.history) (free : branch_named (store_of old.terms.origin old.history).branches name ≡ None) (few : length bytes < 2 ^ 32) where
   abbrev before : Stored O R
   before = record { terms = old.terms; history = old.history }
+
+  -- what a sender sent is acceptable
+  said-accepted : (receipt : Receipt) (made : List (Move O R)) → ReceivesFree (fix meaning old.terms address) old.history bytes name receipt made → AcceptsSaid meaning address before bytes made receipt
+  said-accepted receipt made received sender tip here sends is =
+      let short : HasLength64 bytes = omega (arith, few) in
+      accepts sender.terms old.terms address size sender.history old.history tip here sends (subst (λ (b : List ℕ). HasLength64 b) is short) name free receipt made
+      (subst (λ (b : List ℕ). ReceivesFree (fix meaning old.terms address) old.history b name receipt made) is received)
 
   module _ (images : Files → Type 0) where
     answered : (receipt : Receipt) → AreReceived (fix meaning old.terms address) bytes name old new receipt → IsFullyValid (fix meaning new.terms address) new.history
@@ -118,7 +139,13 @@ module _ {D S O R Q A : Type 0} (meaning : Meaning S O R Q A) (address : List �
         let valid_now = subst (λ (v : StoreView (Move O R) D). IsFullyValid (fix meaning v.terms address) v.history) r.now valid in
         let works : new.failed ≡ false = ap (λ (v : StoreView (Move O R) D). v.failed) r.now ∙ worked in
         let stand_now = subst (λ (v : StoreView (Move O R) D). AllStand (fix meaning v.terms address) v.history images) r.now (stand works) in
-        record { made = r.made; received = r.received; reads = λ c image. law old.terms address (old.history ++ r.made) c valid_now (stand_now c image) }
+        record {
+          made = r.made;
+          received = r.received;
+          reads = λ c image. law old.terms address (old.history ++ r.made) c valid_now (stand_now c image);
+          has = keeps old.terms address old.history valid_old bytes name receipt r.made r.received;
+          accepts = said-accepted receipt r.made r.received;
+        }
 
     pub success-said : (p : Placed) → AreReceived (fix meaning old.terms address) bytes name old new (PlacedAs p.count p.branch p.head) → IsFullyValid (fix meaning new.terms address) new.history
         → (new.failed ≡ false → AllStand (fix meaning new.terms address) new.history images) → old.failed ≡ false → (whole : List ℕ)

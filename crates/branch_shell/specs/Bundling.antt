@@ -17,6 +17,8 @@ use Rattle.branch_machine.specs.Objects.{address_at, pairs_of}
 use Rattle.branch_bundle_laws.specs.Bundles.{Bundle, bundle_of}
 use Rattle.branch_bundle_laws.specs.Text.{bundle_text, IsBundle}
 use Rattle.branch_bundle_laws.specs.Receiving.{Receipt, NoBundle, Stopped, NotPlaced, Placed, ReceivesFree}
+use Rattle.branch_bundle_laws.specs.Laws.{Sends}
+use Rattle.branch_receipts.specs.Receipts.{Keeps, HasReceived, IsAcceptable}
 use Rattle.branch_print.specs.Sent.{address_text, received_text, stop_text}
 use Rattle.store_receive.specs.declared.answers.NotReceived.{NotReceived}
 use Rattle.store_receive.specs.declared.answers.NotReceived.TheVariants as unreceived
@@ -127,23 +129,40 @@ IsRefusal receipt = Unit {0}
 abbrev pub with_moves : {O R : Type 0} → Stored O R → List (Move O R) → Stored O R
 with_moves store made = record { terms = store.terms; history = store.history ++ made }
 
--- Bytes were received into a store under a free name, and answered so; and these files read as the
--- store with the moves that were made of them.
+-- Where the bytes are those of the bundle of a commit of a sender, for one that has the commits here
+-- with these addresses, and the store holds what was left out, it accepts them.
+abbrev pub AcceptsSaid : {S O R Q A : Type 0} → Meaning S O R Q A → (List ℕ → List ℕ) → Stored O R
+    → List ℕ → List (Move O R) → Receipt → Type 0
+AcceptsSaid {S} {O} {R} meaning address store bytes made receipt =
+    (sender : Stored O R) (tip : ℕ) (here : List (List ℕ))
+    → let one = fixed_for meaning address sender in
+    let other = fixed_for meaning address store in
+    Sends one sender.history tip here other store.history
+    → bytes ≡ bundle_said meaning address here sender tip
+    → IsAcceptable one sender.history tip other (store.history ++ made) receipt
+
+-- Bytes were received into a store under a free name, and answered so: these files read as the store
+-- with the moves that were made of them, in which all older commits and branches stand, and where a
+-- branch was placed this one and the bundle. What a valid store sent is accepted.
 pub record IsAnswered {S O R Q A : Type 0} (meaning : Meaning S O R Q A) (address : List ℕ → List ℕ)
     (store : Stored O R) (bytes name : List ℕ) (images : Files → Type 0) (receipt : Receipt)
     : Type 0 where
   pub made : List (Move O R)
   pub received : ReceivesFree (fixed_for meaning address store) store.history bytes name receipt made
   pub reads : (c : Files) → images c → ReadsAsStore meaning address (with_moves store made) c
+  pub has : HasReceived (fixed_for meaning address store) store.history bytes name made receipt
+  pub accepts : AcceptsSaid meaning address store bytes made receipt
 
--- the files read as the store with the moves of a first part of the items of the bundle that the
--- bytes spell, or of all and of the branch; or as the store
+-- The files read as the store with the moves of a first part of the items of the bundle that the
+-- bytes spell, or of all and of the branch, behind which all older commits and branches stand; or as
+-- the store.
 abbrev pub ReadsOnTheWay : {S O R Q A : Type 0} → Meaning S O R Q A → (List ℕ → List ℕ)
     → Stored O R → List ℕ → List ℕ → Files → Type 0
 ReadsOnTheWay {S} {O} {R} meaning address store bytes name c =
     ReadsAsStore meaning address store c
     ⊎ ((bundle : Bundle) × IsBundle bundle × (bytes ≡ bundle_text bundle) × (made : List (Move O R))
     × AreFirstMoves (fixed_for meaning address store) store.history bundle name made
+    × Keeps (fixed_for meaning address store) store.history name made
     × ReadsAsStore meaning address (with_moves store made) c)
 
 -- a text of how the receiving of bytes ended, by a receipt of which this is true
@@ -175,7 +194,7 @@ IsUnread status = ⊥
 
 -- The store that was opened over this disk has no branch of the name, and the source was read. What
 -- was written; and at each moment the files read as the store, or as it with moves of the bundle that
--- was read. Where the source was not read to its end the disk is as it was.
+-- was read. Where the source was not read to its end the disk is as it was, whatever the status.
 pub record ReceivesFrom {S O R Q A D : Type 0} (disk : Ghosts D) (meaning : Meaning S O R Q A)
     (address : List ℕ → List ℕ) (name : List ℕ) (store : Stored O R) (opened new : D)
     (left : Option (List ℕ)) (status : Status) (input text : List ℕ) : Type 0 where
@@ -184,6 +203,7 @@ pub record ReceivesFrom {S O R Q A D : Type 0} (disk : Ghosts D) (meaning : Mean
   pub moments : LeavesOnly disk.moment disk.left_since opened new
       (ReadsOnTheWay meaning address store input name)
   pub unread : IsUnread status → new ≡ opened
+  pub untouched : IsAtEnd left ⊎ (new ≡ opened)
 
 -- Receiving into a store that was opened over this disk: a branch has the name, or the source was
 -- read.

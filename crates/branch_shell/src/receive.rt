@@ -26,6 +26,7 @@ use branch_print::sent::{
     put_refused_full_branches, put_refused_full_commits, put_refused_full_moves,
     put_refused_own_origin, put_refused_taken, put_refused_time_clash, put_refused_too_large,
 };
+use branch_receipts::laws::{accepts_sent, keeps_on_the_way, keeps_received};
 use mrdt_model::Mrdt;
 use std::alloc::Global;
 use store_core::Core;
@@ -145,6 +146,8 @@ fn receive_read<T: Mrdt, K: Sink, D: Disk + Drop, A: Address>(
     core: Core<T, D, A>,
 ) -> (Status, D)
     requires working { core.failed ≡ false }
+    requires free { branch_named (store_of core.terms.origin core.history).branches name ≡ None }
+    requires few { length bytes.now < 2 ^ 32 }
     ensures wrote { Answers
         (SaysReceipt T.meaning A.address (record { terms = core.terms; history = core.history })
         bytes.now name (D.may_leave result.1) IsSuccess)
@@ -161,6 +164,9 @@ fn receive_read<T: Mrdt, K: Sink, D: Disk + Drop, A: Address>(
     ensures no_fault { result.0 ≡ Status.WriteFault → D.faults result.1 ≡ D.faults core.disk }
 {
     reads_what_stands::<T>();
+    keeps_received::<T>();
+    keeps_on_the_way::<T>();
+    accepts_sent::<T>();
     let mut core = core;
     // It is a valid history: its count tells the proof so.
     let _moves = core.moves();

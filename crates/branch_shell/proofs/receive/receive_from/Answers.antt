@@ -1,11 +1,14 @@
 -- The source is read, and what it holds is received.
-use Rattle.std.proofs.Common.{◌≡◌, ◌∙◌, ◌<◌, ◌^◌, ℕ, List, length, [], ap, sym, subst}
+use Rattle.std.proofs.Common.{◌≡◌, ◌∙◌, ◌<◌, ◌^◌, ℕ, List, length, [], ap, sym, subst, inl, inr}
 use Rattle.std.specs.Io.KnownBytes.{Consumes}
 use Rattle.std.proofs.KnownBytes.{Appends-nil}
 use Rattle.branch_shell.specs.Counts.{HasReason}
 use Rattle.branch_shell.specs.Stores.{Stored}
 use Rattle.branch_shell.proofs.Received.{stays, wrote-read, never-unread, wrote-unread, unread_reason, never_write_fault}
 use Rattle.branch_shell.proofs.receive.receive_from.Goals as goal
+
+pub receive_read-requires-clause-few : goal.receive_read-requires-clause-few
+receive_read-requires-clause-few g c κs within = subst (λ (b : List ℕ). length b < 2 ^ 32) (sym c.deref.ensures.value) c.in-Ok.ensures.few
 
 pub returns-in-Ok-clause-ran : goal.returns-in-Ok-clause-ran
 returns-in-Ok-clause-ran g c =
@@ -28,6 +31,7 @@ returns-in-Ok-clause-ran g c =
         wrote = wrote-read m address store c.args.name images left bytes run.result.0 w.0 c.in-Ok.ensures.end (subst (λ (b : List ℕ). length b < 2 ^ 32) same c.in-Ok.ensures.few) w.2;
         moments = run.ensures.moments;
         unread = never-unread m address store c.args.name images left bytes (run.result.1 ≡ core.disk) run.result.0 w.0 w.2;
+        untouched = inl c.in-Ok.ensures.end;
       },
     )
 
@@ -60,6 +64,7 @@ returns-in-Err-clause-ran g c =
         wrote = wrote-unread m address store c.args.name images left input c.in-Err.status stopped.2;
         moments = stays m address c.reads_what_stands.ensures store input c.args.name g.D.Disk core.disk c.close.result c.close.ensures.same c.close.ensures.valid (c.close.ensures.stands c.requires.working) g.met.D.Disk.only_now;
         unread = λ un. c.close.ensures.same;
+        untouched = inr c.close.ensures.same;
       },
     )
 
