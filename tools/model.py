@@ -87,6 +87,12 @@ def content(events):
     return by_time(e for e in with_verb(events, "enqueue") if e.time not in taken)
 
 
+def taken_by(events, kind, key, verb):
+    """The reply of an operation behind these events: of a Dequeue the time and the payload that it takes."""
+    waiting = content([e for e in events if (e.kind, e.key) == (kind, key)]) if verb == "dequeue" else []
+    return (waiting[0].time, waiting[0].word) if waiting else None
+
+
 def by_time(events):
     return sorted(events, key=lambda e: e.time)
 
@@ -283,10 +289,7 @@ class Store:
             raise Refused(f"error exhausted {head.clock}")
         time = (head.clock + 1, self.origin + branch)
         before = self.visible(seen)
-        reply = None
-        if verb == "dequeue":
-            waiting = content([e for e in before if (e.kind, e.key) == ("queue", key)])
-            reply = (waiting[0].time, waiting[0].word) if waiting else None
+        reply = taken_by(before, kind, key, verb)
         event = Event(len(self.commits), time, kind, key, verb, word, head.reach, reply)
         value = document(before + [event])
         op, back = operation(kind, key, verb, word), reply_bytes(kind, verb, reply)
@@ -385,60 +388,88 @@ class Store:
         for of in self.commits:
             left |= of.reach if of.address in here else 0
         sent = [of for number, of in enumerate(self.commits) if self.commits[tip].reach & ~left & 1 << number]
-        return Bundle(self.commits[tip].address, [Item(self, of) for of in sent])
+        return Bundle(self.commits[tip].address, [(value_object(of.value), self.stored[of.address]) for of in sent])
 
-    def receive(self, bundle, name):
-        """Receives a bundle as a new branch, and says what came of it."""
+    def receive(self, text, name):
+        """Receives the bytes of a bundle as a new branch, and says what came of it."""
         for taken, branch in enumerate(self.branches):
             if branch[0] == name and taken not in self.dropped:
                 raise Refused(f"refused taken {taken}")
+        try:
+            bundle = read_bundle(text)
+        except Malformed:
+            raise Refused("refused bundle 0") from None
         count = 0
         for number, item in enumerate(bundle.items, 1):
-            if self.holds_objects(item.value, item.commit) is None:
+            if self.holds_objects(*item) is None:
                 self.receive_item(number, item)
                 count += 1
-        tips = [number for number, of in enumerate(self.commits) if of.address == bundle.tip]
-        if not tips:
+        tip = self.at_address(bundle.tip)
+        if tip is None:
             raise Refused("refused bundle 0")
         if len(self.branches) == self.limits["branches"]:
             raise Refused(f"refused full branches {len(self.branches)}")
         self.check_received_moves()
-        self.branches.append([name, tips[0]])
-        self.put_record(7, len(self.branches) - 1, tips[0], name)
-        return f"received {count} as {len(self.branches) - 1} at #{tips[0]}"
+        self.branches.append([name, tip])
+        self.put_record(7, len(self.branches) - 1, tip, name)
+        return f"received {count} as {len(self.branches) - 1} at #{tip}"
+
+    def at_address(self, address):
+        """The first commit with an address."""
+        return next((number for number, of in enumerate(self.commits) if of.address == address), None)
 
     def check_received_moves(self):
         if self.moves == self.limits["moves"]:
             raise Refused(f"refused full moves {self.moves}")
 
     def receive_item(self, number, item):
-        at = {of.address: commit for commit, of in reversed(list(enumerate(self.commits)))}
-        of = item.of
-        if any(parent not in at for parent in item.parents):
+        """Takes an item as a new commit, if it is what its parents and its operation make of it."""
+        try:
+            of = read_commit(item)
+        except Malformed:
+            raise Refused(f"refused bundle {number}") from None
+        parents = [self.at_address(parent) for parent in of.parents]
+        if None in parents or not (len(parents) == 1 or self.are_merged(parents)):
             raise Refused(f"refused bundle {number}")
-        if self.origin <= of.origin < self.origin + self.limits["branches"]:
-            raise Refused(f"refused own origin {number}")
-        parents = [at[parent] for parent in item.parents]
-        reach = 0
+        clock, reach, event, action = max(self.commits[parent].clock for parent in parents), 0, None, b"\2"
         for parent in parents:
             reach |= self.commits[parent].reach
         events = [c.event for commit, c in enumerate(self.commits) if c.event and reach >> commit & 1]
-        event, action = None, b"\2"
-        if of.event:
-            for commit, c in enumerate(self.commits):
-                if c.event and c.event.time == of.event.time:
-                    raise Refused(f"refused time clash {number} with #{commit}")
-            event = Event(len(self.commits), of.event.time, of.event.kind, of.event.key, of.event.verb, of.event.word, reach, of.event.reply)
+        size = 0
+        if of.operation:
+            clock += 1
+            kind, key, verb, word = of.operation
+            event = Event(len(self.commits), (clock, of.origin), kind, key, verb, word, reach, taken_by(events, kind, key, verb))
             events = events + [event]
-            op = operation(event.kind, event.key, event.verb, event.word)
-            action = b"\1" + sized(op) + sized(reply_bytes(event.kind, event.verb, event.reply))
+            op, back = operation(kind, key, verb, word), reply_bytes(kind, verb, event.reply)
+            action = b"\1" + sized(op) + sized(back)
+            size = len(op) + len(back)
+        value = document(events)
+        made = value_object(value)
+        if item != (made, commit_object(of.parents, of.origin, clock, address(made), action)):
+            raise Refused(f"refused bundle {number}")
+        self.check_received(number, of.origin, clock, event, size + len(value))
+        _, name = self.add_commit(parents, of.origin, clock, event, action, value)
+        self.put_record(6, 0, 0, name)
+
+    def are_merged(self, parents):
+        """Whether a merge may have these parents, the first of which is the head that was seen."""
+        seen, others = parents[0], parents[1:]
+        return self.brought(seen, others) == others and not (len(others) == 1 and self.reaches(others[0], seen))
+
+    def check_received(self, number, origin, clock, event, size):
+        if self.origin <= origin < self.origin + self.limits["branches"]:
+            raise Refused(f"refused own origin {number}")
+        for commit, of in enumerate(self.commits):
+            if event and of.event and of.event.time == event.time:
+                raise Refused(f"refused time clash {number} with #{commit}")
+        if clock > self.limits["clock"]:
+            raise Refused(f"refused exhausted {self.limits['clock']}")
+        if size > self.limits["value"]:
+            raise Refused(f"refused too large {size}")
         if len(self.commits) == self.limits["commits"]:
             raise Refused(f"refused full commits {len(self.commits)}")
         self.check_received_moves()
-        value = document(events)
-        _, name = self.add_commit(parents, of.origin, of.clock, event, action, value)
-        assert (value_object(value), self.stored[name]) == (item.value, item.commit)
-        self.put_record(6, 0, 0, name)
 
     def upgraded(self):
         """The store of the next version with the same moves, as far as that makes them, and what upgrading it says."""
@@ -475,23 +506,28 @@ class Store:
             return Commit([new[p] for p in of.parents], of.origin, of.clock, bits(of.reach), event, of.value, of.address)
 
         for kind, branch, other, rest, commit in self.records:
-            if kind in (2, 3, 5):
+            if kind in (2, 3, 5, 6):
                 if commit not in new:
                     continue
                 store.put_object(value_object(self.commits[commit].value))
                 assert store.put_object(self.stored[self.commits[commit].address]) == self.commits[commit].address
                 store.commits.append(carried(commit))
                 assert len(store.commits) == new[commit] + 1
-                store.branches[branch][1] = new[commit]
+                if kind != 6:
+                    store.branches[branch][1] = new[commit]
+            if kind == 7 and other not in new:
+                kind, other = 1, 0
             if kind == 1:
                 store.branches.append([rest, store.branches[other][1]])
             elif kind == 4:
                 if other not in new:
                     continue
                 store.branches[branch][1] = new[other]
+            elif kind == 7:
+                store.branches.append([rest, new[other]])
             elif kind == 8:
                 store.dropped.add(branch)
-            if kind in (3, 4):
+            if kind in (3, 4, 7):
                 other = new[other]
             elif kind == 5:
                 rest = b"".join(u32(new[int.from_bytes(rest[at:at + 4], "big")]) for at in range(0, len(rest), 4))
@@ -504,22 +540,113 @@ class Store:
         return lines + [f"moves {self.moves} commits {len(self.commits)} branches {len(self.branches)}"]
 
 
-class Item:
-    """A commit of a bundle: its two objects, and the addresses of its parents."""
-
-    def __init__(self, store, of):
-        self.of, self.value, self.commit = of, value_object(of.value), store.stored[of.address]
-        self.parents = [store.commits[parent].address for parent in of.parents]
-
-
 class Bundle:
-    """What one store sends to another."""
+    """What one store sends to another: the address of a commit, and of each commit that is sent its value's object and its own."""
 
     def __init__(self, tip, items):
         self.tip, self.items = tip, items
 
     def bytes(self):
-        return b"MRDTBNDL" + u32(1) + self.tip + u64(len(self.items)) + b"".join(item.value + item.commit for item in self.items)
+        return b"MRDTBNDL" + u32(1) + self.tip + u64(len(self.items)) + b"".join(value + commit for value, commit in self.items)
+
+
+class Malformed(Exception):
+    """Bytes that do not have the form that is asked for."""
+
+
+class Reader:
+    """Takes fields from bytes, one behind another."""
+
+    def __init__(self, b):
+        self.rest = b
+
+    def take(self, count):
+        if count > len(self.rest):
+            raise Malformed
+        taken, self.rest = self.rest[:count], self.rest[count:]
+        return taken
+
+    def number(self, size=8):
+        return int.from_bytes(self.take(size), "big")
+
+    def sized(self):
+        return self.take(self.number())
+
+    def object(self):
+        kind = self.take(1)
+        return kind + sized(self.sized())
+
+    def end(self):
+        if self.rest:
+            raise Malformed
+
+
+def read_bundle(b):
+    """The bundle that has these bytes. Its objects are of any kind, and hold anything."""
+    of = Reader(b)
+    if of.take(12) != b"MRDTBNDL" + u32(1):
+        raise Malformed
+    tip, count, items = of.take(32), of.number(), []
+    while len(items) < count:
+        items.append((of.object(), of.object()))
+    of.end()
+    return Bundle(tip, items)
+
+
+class Sent:
+    """What the object of a commit says that is sent: the addresses of its parents, its origin, and its operation, or nothing."""
+
+    def __init__(self, parents, origin, op):
+        self.parents, self.origin, self.operation = parents, origin, op
+
+
+def read_commit(item):
+    """What an item says: the object of a value, and that of the commit of an operation or of a merge."""
+    value, commit = item
+    if value[:1] != b"\1" or commit[:1] != b"\2":
+        raise Malformed
+    body = Reader(commit[9:])
+    count = body.number()
+    if count > len(commit):
+        raise Malformed
+    parents = [body.take(32) for _ in range(count)]
+    origin, _, _, kind = body.number(4), body.number(), body.take(32), body.take(1)
+    if (kind, count) == (b"\1", 1):
+        op, _ = read_operation(body.sized()), body.sized()
+    elif kind == b"\2" and 2 <= count <= 9:
+        op = None
+    else:
+        raise Malformed
+    body.end()
+    return Sent(parents, origin, op)
+
+
+FIRST_BYTES = {("flag", 1): "enable", ("flag", 2): "disable", ("set", 1): "add", ("set", 2): "remove", ("set", 3): "clear",
+               ("queue", 1): "enqueue", ("queue", 2): "dequeue"}
+ALONE = {"lww": "set", "multi": "set", "log": "append"}
+
+
+def read_operation(b):
+    """The operation that has these bytes: its kind, its key, its verb and its word."""
+    of, depth = Reader(b), 0
+    while depth < 6:
+        which = of.number(1)
+        if which == 1:
+            break
+        if which != 2:
+            raise Malformed
+        depth += 1
+    kind, key, rest = KINDS[depth], of.sized(), of.rest
+    if kind == "counter" and not rest:
+        return kind, key, "reset", b""
+    if kind == "counter" and len(rest) == 8:
+        return kind, key, "add", int.from_bytes(rest, "big", signed=True)
+    if kind in ALONE:
+        return kind, key, ALONE[kind], rest
+    verb = FIRST_BYTES.get((kind, rest[0])) if rest else None
+    if verb is None or rest[1:] and not DO[kind][verb]:
+        raise Malformed
+    return kind, key, verb, rest[1:]
 
 
 NAME = re.compile(rb"[a-z0-9_]{1,32}\Z")

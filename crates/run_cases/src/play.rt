@@ -153,12 +153,12 @@ impl Player {
     }
 
     // The bytes that a run reads.
-    fn input(&self, line: usize, input: &Input) -> Result<Vec<u8>, Failure> {
+    fn input(&self, input: &Input) -> Result<Vec<u8>, AllocError> {
         match input {
-            Input::Bytes(bytes) => Ok(bytes.as_slice().to_vec(self.alloc)?),
+            Input::Bytes(bytes) => bytes.as_slice().to_vec(self.alloc),
             Input::Kept(name) => match self.kept.get(name.as_str()) {
-                Some(bytes) => Ok(bytes.as_slice().to_vec(self.alloc)?),
-                None => Err(malformed(line, "no stream of this name was kept")),
+                Some(bytes) => bytes.as_slice().to_vec(self.alloc),
+                None => self.folder.bytes(name.as_str()).to_vec(self.alloc),
             },
         }
     }
@@ -171,7 +171,7 @@ impl Player {
         of: &Run,
     ) -> Result<(), Failure> {
         let second = second_of(self.alloc, of.store.as_str())?;
-        let input = self.input(line, &of.input)?;
+        let input = self.input(&of.input)?;
         let ended = run_over(
             rt,
             self.alloc,

@@ -116,7 +116,7 @@ impl Failing {
 pub enum Input {
     /// These bytes.
     Bytes(Vec<u8>),
-    /// The bytes that are kept under a name.
+    /// The bytes that are kept under a name, or else those of the file of that name.
     Kept(String),
 }
 
