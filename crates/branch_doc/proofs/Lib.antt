@@ -1,2 +1,1 @@
 pub mod ThereAndBack
-pub mod Lacking

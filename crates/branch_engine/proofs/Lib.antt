@@ -1,4 +1,3 @@
-pub mod Values
 pub mod Machines
 pub mod Played
 pub mod Turned

@@ -9,15 +9,15 @@ ghost use Rattle.branch_shell.specs.Disks.{current_told};
 ghost use Rattle.branch_shell.specs.Ran.{RanOverBoth};
 ghost use Rattle.branch_shell.specs.Alone.{command_alone};
 
-use crate::answer::say;
+use crate::answer::{run_init, say};
 use crate::current::run_task;
-use crate::init::init_for;
 use crate::status::Status;
 use crate::task::Task;
 use branch_address::Address;
 use branch_command::{Command, CommandRefused, read_command};
 use branch_disk::Disk;
 use branch_io::{Sink, Source};
+use mrdt_doc::Doc;
 use std::alloc::Global;
 
 // The command that the words say, if it needs no threads.
@@ -108,7 +108,7 @@ pub fn run_alone<S: Source, K: Sink, D: Disk + Drop, A: Address>(
         (S.left source.new) Status.DiskFault) }
 {
     match read_alone(alloc, words) {
-        Ok(Command::Init(terms)) => init_for(alloc, terms, sink, disk, second),
+        Ok(Command::Init(terms)) => run_init::<Doc, K, D, A>(alloc, terms, sink, disk, second),
         Ok(Command::Script) => {
             run_task::<S, K, D, A>(alloc, Task::Script, source, sink, disk, second)
         }

@@ -1,3 +1,5 @@
+pub mod Forms
+pub mod DocForms
 pub mod Played
 pub mod Outcomes
 pub mod Clients

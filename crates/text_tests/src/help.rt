@@ -41,7 +41,6 @@ fn help_tells_of_each_command(rt: HostRuntime) -> Result<(), AllocError> {
         ("init -h", "--max-value <N>"),
         ("init -h", "--max-moves <N>"),
         ("init -h", "--origin <N>"),
-        ("init -h", "--sequences"),
         ("address -h", "Usage: bucketplum PATH address <BRANCH>\n"),
         (
             "send -h",
@@ -69,24 +68,6 @@ fn an_origin_is_read(rt: HostRuntime) -> Result<(), AllocError> {
     Ok(())
 }
 
-#[test]
-fn sequences_are_asked_for(rt: HostRuntime) -> Result<(), AllocError> {
-    let rows = [
-        ("init", 0, 0),
-        ("init --sequences", 1, 0),
-        ("init --sequences --origin 100", 1, 100),
-        ("init --origin 100 --sequences --max-clock 5", 1, 100),
-    ];
-    for (text, kind, origin) in rows {
-        let words = words_of(rt.alloc(), text)?;
-        let Ok(Command::Init(terms)) = read_command(rt.alloc(), &words) else {
-            panic!(rt; "no terms");
-        };
-        assert!(rt; terms.kind == kind && terms.origin == origin);
-    }
-    Ok(())
-}
-
 const SENT: &str =
     "send main 000000000000000000000000000000000000000000000000000000000000000a 00000000000000000000000000000000000000000000000000000000000000f0";
 
@@ -105,13 +86,10 @@ fn addresses_are_read(rt: HostRuntime) -> Result<(), AllocError> {
 }
 
 #[test]
-fn no_commands(rt: HostRuntime) -> Result<(), AllocError> {
+fn no_commands_on_bundles(rt: HostRuntime) -> Result<(), AllocError> {
     let rows = [
         "init --origin 4294967295",
         "init --origin 00",
-        "init --sequences --sequences",
-        "init --sequences true",
-        "script --sequences",
         "address",
         "address Main",
         "send",

@@ -1,4 +1,4 @@
-// The texts of replies, one of each verb, on sequences, of an upgrade, and of bundles.
+// The texts of replies, one of each verb, of an upgrade, and of bundles.
 use branch_doc::{PlainAnswer, PlainReply};
 use branch_names::Name;
 use branch_print::refusals::{put_collision, put_dropped, put_keeps_main};
@@ -10,16 +10,11 @@ use branch_print::sent::{
     put_address, put_received, put_refused_bundle, put_refused_collision, put_refused_own_origin,
     put_refused_taken, put_refused_time_clash, put_refused_unknown,
 };
-use live_set::Kept;
-use mrdt_model::{Bytes, Listing, Memory, Time};
-use std::alloc::Global;
+use mrdt_model::Time;
 use std::test::Fail;
 
 const TEXT: &[u8] =
     b"main sees main at #0\nforked main as 1 at #0\nlanded #4 at 3.1\nmerged #3\njoined #4\n-4\nerror collision 0000000000000000000000000000000000000000000000000000000000000a81\n";
-
-const SEQUENCES: &[u8] =
-    b"landed #1 at 1.0 at start\nlanded #2 at 2.0 after 1.0\nlanded #4 at 3.1 gone 1.0\nlanded #5 at 3.1 nothing\n[2] 3.1 b 2.0 i\n2\n";
 
 const DROPS: &[u8] = b"dropped main at #1\nerror dropped 1\nerror keeps main\n";
 
@@ -41,57 +36,12 @@ fn a_reply_of_each_verb(rt: HostRuntime) -> Result<(), Fail> {
     let mut out = Vec::new(rt.alloc());
     put_sees(&mut out, &main, &main, 0)?;
     put_forked(&mut out, &main, 1, 0)?;
-    put_landed(&mut out, 4, time, false, &PlainReply::Counter)?;
+    put_landed(&mut out, 4, time, &PlainReply::Counter)?;
     put_merged(&mut out, 3)?;
     put_joined(&mut out, 4)?;
     put_answer(&mut out, &PlainAnswer::CounterValue(-4))?;
     put_collision(&mut out, &address)?;
     assert!(rt; out.as_slice() == TEXT);
-    Ok(())
-}
-
-// An item of a sequence.
-fn item(alloc: Global, time: Time, payload: &[u8]) -> Result<Kept<Bytes>, Memory> {
-    Ok(Kept {
-        time,
-        payload: Bytes::from_slice(alloc, payload)?,
-    })
-}
-
-#[test]
-fn what_is_told_of_sequences(rt: HostRuntime) -> Result<(), Fail> {
-    let first = Time {
-        clock: 1,
-        origin: 0,
-    };
-    let second = Time {
-        clock: 2,
-        origin: 0,
-    };
-    let third = Time {
-        clock: 3,
-        origin: 1,
-    };
-    let mut items = Vec::new(rt.alloc());
-    items.push(item(rt.alloc(), third, b"b")?)?;
-    items.push(item(rt.alloc(), second, b"i")?)?;
-    let mut out = Vec::new(rt.alloc());
-    put_landed(&mut out, 1, first, false, &PlainReply::Sequence(None))?;
-    put_landed(
-        &mut out,
-        2,
-        second,
-        false,
-        &PlainReply::Sequence(Some(first)),
-    )?;
-    put_landed(&mut out, 4, third, true, &PlainReply::Sequence(Some(first)))?;
-    put_landed(&mut out, 5, third, true, &PlainReply::Sequence(None))?;
-    put_answer(
-        &mut out,
-        &PlainAnswer::SequenceRead(Listing::from_vec(items)),
-    )?;
-    put_answer(&mut out, &PlainAnswer::SequenceLength(2))?;
-    assert!(rt; out.as_slice() == SEQUENCES);
     Ok(())
 }
 

@@ -8,11 +8,10 @@ use Rattle.branch_shell.proofs.unopened.open_store.Goals as goal
 pub returns-in-NotAStore-clause-refused : goal.returns-in-NotAStore-clause-refused
 returns-in-NotAStore-clause-refused g c = λ f told.
     let e = c.in-Err.ensures in
-    let kind = g.T.Kinded.KIND in
     let m = g.T.Mrdt.meaning in
     let address = g.A.Address.address in
-    let none : ReadsAsOf kind m address f NotAStore = subst (λ r. OpenRefusedAs kind m address r f) c.in-NotAStore.is (e.refused f told) in
-    unopened_so kind m g.U.Mrdt.meaning address c.why_no_store-why.result f none (c.why_no_store-why.ensures.why f (e.same_err ∙ told))
+    let none : ReadsAsOf 0 m address f NotAStore = subst (λ r. OpenRefusedAs 0 m address r f) c.in-NotAStore.is (e.refused f told) in
+    unopened_so m g.U.Mrdt.meaning address c.why_no_store-why.result f none (c.why_no_store-why.ensures.why f (e.same_err ∙ told))
 
 pub returns-in-NotAStore-clause-refused_only : goal.returns-in-NotAStore-clause-refused_only
 returns-in-NotAStore-clause-refused_only g c = λ some.
@@ -20,7 +19,7 @@ returns-in-NotAStore-clause-refused_only g c = λ some.
 
 pub returns-in_default-clause-refused : goal.returns-in_default-clause-refused
 returns-in_default-clause-refused g c = λ f told.
-    unopened_else g.T.Kinded.KIND g.T.Mrdt.meaning g.U.Mrdt.meaning g.A.Address.address c.in-Err.refusal f c.in_default.not-NotAStore (c.in-Err.ensures.refused f told)
+    unopened_else g.T.Mrdt.meaning g.U.Mrdt.meaning g.A.Address.address c.in-Err.refusal f c.in_default.not-NotAStore (c.in-Err.ensures.refused f told)
 
 pub returns-in_default-clause-refused_only : goal.returns-in_default-clause-refused_only
 returns-in_default-clause-refused_only g c = λ some.
