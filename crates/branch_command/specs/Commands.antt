@@ -81,12 +81,15 @@ said_of (kind ∷ kinds) command = asked_by (kind ∷ kinds)
 unfoldable pub command_of : List Text → Option Said
 command_of words = said_of (fault_of program words) (subcommand_of program words)
 
--- the words `init --NAME=WORD ..`
+-- the words `--NAME=WORD ..`, and those of `init` with them
 abbrev pub option_word : Text × Text → Text
 option_word option = codes "--" ++ option.0 ++ codes "=" ++ option.1
 
+abbrev pub options_words : List (Text × Text) → List Text
+options_words options = map option_word options
+
 abbrev pub init_with : List (Text × Text) → List Text
-init_with options = codes "init" ∷ map option_word options
+init_with options = codes "init" ∷ options_words options
 
 -- the command that was read is the one that was said; the text of help is left open
 abbrev pub Means : Said → Command → Type 0

@@ -2,11 +2,15 @@
 use Rattle.std.specs.Prelude.{true, false, codes, Some, List, [], ◌∷◌, ◌++◌, map}
 use Rattle.clap.specs.Walk.{Rule, Text}
 use Rattle.clap.specs.Simple.{App, Shape, new_rule, new_shape}
-use Rattle.clap.specs.declared.builder.action.ArgAction.TheVariants.{Append, Version}
+use Rattle.clap.specs.declared.builder.action.ArgAction.TheVariants.{Append, SetTrue, Version}
 
 -- an option `--name N`, which is given at most once
 abbrev pub limit_rule : Text → Rule
 limit_rule name = record (new_rule name) { long = Some name; value_names = 1 }
+
+-- a flag `--name`, which has no word behind it and is given at most once
+abbrev pub flag_rule : Text → Rule
+flag_rule name = record (new_rule name) { long = Some name; action = Some SetTrue }
 
 -- the flag `--version`; clap adds `--help` and `-h` by itself
 abbrev pub version_rule : Rule
@@ -34,9 +38,13 @@ work_names = codes "steps" ∷ codes "number" ∷ []
 abbrev pub client_names : List Text
 client_names = codes "count" ∷ work_names
 
--- the options of `init`
+-- the options of `init` with a number
 abbrev pub init_names : List Text
 init_names = codes "max-clock" ∷ codes "max-commits" ∷ codes "max-branches" ∷ codes "max-value" ∷ codes "max-moves" ∷ codes "origin" ∷ []
+
+-- and all its options
+abbrev pub init_rules : List Rule
+init_rules = map limit_rule init_names ++ flag_rule (codes "sequences") ∷ []
 
 -- the words of `send`
 abbrev pub send_rules : List Rule
@@ -57,12 +65,12 @@ bare_program = record {
   subs = [];
 }
 
--- with the commands on one store: `init [--max-clock N] ..`, `script`, `check`, `generate STEPS NUMBER`,
+-- with the commands on one store: `init [--max-clock N] .. [--sequences]`, `script`, `check`, `generate STEPS NUMBER`,
 -- `clients COUNT STEPS NUMBER`, `upgrade` and `compact`
 abbrev pub store_program : App
 store_program = record {
   top = record bare_program.top { is_leaf = false };
-  subs = leaf (codes "init") (map limit_rule init_names)
+  subs = leaf (codes "init") init_rules
       ∷ leaf (codes "script") [] ∷ leaf (codes "check") []
       ∷ leaf (codes "generate") (map wanted_rule work_names) ∷ leaf (codes "clients") (map wanted_rule client_names)
       ∷ leaf (codes "upgrade") [] ∷ leaf (codes "compact") [] ∷ [];

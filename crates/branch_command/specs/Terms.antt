@@ -1,5 +1,5 @@
 -- The terms of a store, as the options of `init` say them.
-use Rattle.std.specs.Prelude.{◌≡◌, ℕ, ◌+◌, nat_le, codes, Some, None, List, if◌then◌else◌}
+use Rattle.std.specs.Prelude.{◌≡◌, ℕ, Bool, false, ◌+◌, nat_le, codes, Some, None, List, if◌then◌else◌, bytes_eq}
 use Rattle.std.specs.declared.option.Option.{Option}
 use Rattle.branch_names.specs.declared.terms.Terms.{Terms}
 use Rattle.clap.specs.Walk.{Row, first_of}
@@ -11,23 +11,36 @@ abbrev pub origin_or : Option (List ℕ) → Option ℕ
 origin_or None = Some 0
 origin_or (Some word) = whole_number_of 4294967295 word
 
--- the numbers of a store's terms: those of its limits, and its first origin
+-- whether a flag was given: clap has the word `true` for one that was, and `false` for one that was not
+abbrev pub is_given : Option (List ℕ) → Bool
+is_given None = false
+is_given (Some word) = bytes_eq word (codes "true")
+
+-- the numbers of a store's terms, which are those of its limits and its first origin, and whether its documents have
+-- sequences
 pub record TermNumbers : Type 0 where
   pub limits : Numbers
   pub origin : ℕ
+  pub sequences : Bool
 
--- both, where each is one, and there are origins of 32 bits for as many branches as there may be
-abbrev pub terms_with : Option Numbers → Option ℕ → Option TermNumbers
-terms_with (Some limits) (Some origin) =
-    if nat_le (origin + limits.branches) 4294967296 then Some (record { limits = limits; origin = origin }) else None
-terms_with _ _ = None
+-- the terms, where limits and origin are numbers, and there are origins of 32 bits for as many branches as there may be
+abbrev pub terms_with : Option Numbers → Option ℕ → Bool → Option TermNumbers
+terms_with (Some limits) (Some origin) sequences =
+    if nat_le (origin + limits.branches) 4294967296
+    then Some (record { limits = limits; origin = origin; sequences = sequences }) else None
+terms_with _ _ sequences = None
 
--- the numbers of the terms that the options of `init` say
+-- the terms that the options of `init` say
 abbrev pub terms_of : List Row → Option TermNumbers
 terms_of given = terms_with (numbers_of given) (origin_or (first_of (codes "origin") given))
+    (is_given (first_of (codes "sequences") given))
 
--- the terms have these numbers, and values of the kind 0
+-- the kind of a store's values: 1 for documents with sequences, 0 for documents without
+abbrev pub kind_number : Bool → ℕ
+kind_number sequences = if sequences then 1 else 0
+
+-- the terms have these numbers, and values of this kind
 pub record AreTerms (n : TermNumbers) (terms : Terms) : Type 0 where
   pub limits : AreLimits n.limits terms.limits
   pub origin : terms.origin ≡ n.origin
-  pub kind : terms.kind ≡ 0
+  pub kind : terms.kind ≡ kind_number n.sequences

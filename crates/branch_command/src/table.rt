@@ -3,7 +3,7 @@ ghost use Rattle.std.specs.Prelude.{◌≡◌, IfOk, false, codes, ◌∷◌, []
 ghost use Rattle.clap.specs.declared.builder.command.Command.TheViews.{out-Command as fields_of};
 ghost use Rattle.clap.specs.Walk.{rule_of};
 ghost use Rattle.clap.specs.Simple.{app_of, shape_of};
-ghost use Rattle.branch_command.specs.Program.{limit_rule, version_rule, topic_rule, wanted_rule, several_rule, leaf, init_names, work_names, client_names, send_rules, bare_program, store_program, program};
+ghost use Rattle.branch_command.specs.Program.{limit_rule, flag_rule, version_rule, topic_rule, wanted_rule, several_rule, leaf, init_rules, work_names, client_names, send_rules, bare_program, store_program, program};
 
 use clap::{Arg, ArgAction, Command};
 use std::alloc::{AllocError, Global};
@@ -13,6 +13,16 @@ fn limit<'a>(alloc: Global, name: &'a str, help: &'a str) -> Arg<'a>
     ensures { (rule_of result ≡ limit_rule name.entry.now) × (result.global ≡ false) }
 {
     Arg::new(alloc, name).long(name).value_name("N").help(help)
+}
+
+// A flag, which is given or not.
+fn flag<'a>(alloc: Global, name: &'a str, help: &'a str) -> Arg<'a>
+    ensures { (rule_of result ≡ flag_rule name.entry.now) × (result.global ≡ false) }
+{
+    Arg::new(alloc, name)
+        .long(name)
+        .action(ArgAction::SetTrue)
+        .help(help)
 }
 
 // The flag `--version`.
@@ -75,7 +85,7 @@ fn help<'a>(alloc: Global) -> Result<Command<'a>, AllocError>
 
 // `init`, and its options.
 fn init<'a>(alloc: Global) -> Result<Command<'a>, AllocError>
-    ensures { IfOk result (λ c. (shape_of c ≡ leaf (codes "init") (map limit_rule init_names))
+    ensures { IfOk result (λ c. (shape_of c ≡ leaf (codes "init") init_rules)
         × ((fields_of c).has_globals ≡ false)) }
 {
     let clock = limit(
@@ -108,6 +118,11 @@ fn init<'a>(alloc: Global) -> Result<Command<'a>, AllocError>
         "origin",
         "Origin of the first branch, 0 to 4294967295; the others have the next ones [default: 0]",
     );
+    let sequences = flag(
+        alloc,
+        "sequences",
+        "Make a store of documents that have sequences besides the other kinds of values",
+    );
     Command::new(alloc, "init")
         .about("Make a store")
         .arg(clock)?
@@ -116,6 +131,7 @@ fn init<'a>(alloc: Global) -> Result<Command<'a>, AllocError>
         .arg(value)?
         .arg(moves)?
         .arg(origin)?
+        .arg(sequences)?
         .arg(version(alloc))
 }
 

@@ -2,15 +2,18 @@
 ghost use Rattle.std.specs.Prelude.{◌≡◌, codes, Some, IfSome, IfNone, None};
 ghost use Rattle.clap.specs.Words.{found_of};
 ghost use Rattle.clap.specs.Walk.{first_of, rows_of};
-ghost use Rattle.branch_command.specs.Terms.{TermNumbers, origin_or, terms_of, AreTerms};
+ghost use Rattle.branch_command.specs.Terms.{TermNumbers, origin_or, is_given, kind_number, terms_of, AreTerms};
 
 use crate::limits::read_limits;
 use crate::work::read_whole_number;
 use branch_names::Terms;
 use clap::ArgMatches;
 
-// The kind of documents.
+// The kind of documents without sequences.
 const DOCUMENT: u8 = 0;
+
+// The kind of documents with sequences.
+const WITH_SEQUENCES: u8 = 1;
 
 // The first origin that was given, or 0 where none was given.
 fn read_origin(given: &ArgMatches<'_>) -> Option<u32>
@@ -19,6 +22,28 @@ fn read_origin(given: &ArgMatches<'_>) -> Option<u32>
     match given.get_str("origin") {
         Some(word) => Some(read_whole_number(word, 4_294_967_295)? as u32),
         None => Some(0),
+    }
+}
+
+// Whether a flag was given.
+fn is_given(given: &ArgMatches<'_>, flag: &str) -> bool
+    ensures { result ≡ is_given (first_of flag.now (rows_of (found_of given.now))) }
+{
+    match given.get_str(flag) {
+        Some(word) => word == "true",
+        None => false,
+    }
+}
+
+// The kind of the values: of documents with sequences where the flag for them was given.
+fn read_kind(given: &ArgMatches<'_>) -> u8
+    ensures { result
+        ≡ kind_number (is_given (first_of (codes "sequences") (rows_of (found_of given.now)))) }
+{
+    if is_given(given, "sequences") {
+        WITH_SEQUENCES
+    } else {
+        DOCUMENT
     }
 }
 
@@ -31,5 +56,5 @@ pub(crate) fn read_terms(given: &ArgMatches<'_>) -> Option<Terms>
 {
     let limits = read_limits(given)?;
     let origin = read_origin(given)?;
-    Terms::new(limits, origin, DOCUMENT)
+    Terms::new(limits, origin, read_kind(given))
 }

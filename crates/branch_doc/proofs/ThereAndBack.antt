@@ -1,5 +1,5 @@
 -- Plain forms and a document's own, there and back.
-use Rattle.std.proofs.Common.{◌≡◌, ◌∙◌, ◌↔◌, ◌⊎◌, inl, inr, ℕ, Bool, true, false, Option, None, Some, List, refl, sym, ap}
+use Rattle.std.proofs.Common.{◌≡◌, ◌∙◌, ◌↔◌, ℕ, Bool, true, false, Option, None, Some, List, refl, sym, ap}
 use Rattle.live_set.specs.declared.kept.Kept.{Kept}
 use Rattle.mrdt_both.specs.declared.both.Side.TheVariants.{First, Second}
 use Rattle.mrdt_counter.specs.declared.counter.CounterOp.{CounterOp}
@@ -47,7 +47,9 @@ use Rattle.branch_doc.specs.declared.plain.PlainReply.TheVariants as reply
 use Rattle.branch_doc.specs.declared.plain.PlainAnswer.{PlainAnswer}
 use Rattle.branch_doc.specs.declared.plain.PlainAnswer.TheVariants as answer
 use Rattle.branch_doc.specs.Sides.{at_counters, at_flags, at_last_writes, at_multis, at_sets, at_logs, at_queues}
-use Rattle.branch_doc.specs.Forms.{DocOp, DocQuery, DocReply, DocAnswer, on, doc_has, op_kind, query_kind, doc_op, doc_query, plain_reply, plain_answer}
+use Rattle.branch_doc.specs.Kinds.{op_kind, query_kind, reply_kind, answer_kind}
+use Rattle.branch_doc.specs.Types.{AreNames, AreNamed, AreForms}
+use Rattle.branch_doc.specs.Forms.{DocOp, DocQuery, DocReply, DocAnswer, on, doc_has, doc_op, doc_query, plain_reply, plain_answer, doc_forms}
 
 -- the plain form of an operation
 abbrev counter_form : List ℕ → CounterOp → PlainOp
@@ -241,12 +243,12 @@ query-back (Second (Second (Second (Second (Second (Second (map_query.AtKey key 
 query-back (Second (Second (Second (Second (Second (Second map_query.Keys)))))) = refl
 
 -- whether there is one
-abbrev there_is : {X : Type 0} → Option X → Bool
+abbrev pub there_is : {X : Type 0} → Option X → Bool
 there_is None = false
 there_is (Some x) = true
 
 -- there is none exactly where a test fails that says whether there is one
-none-exactly : {X : Type 0} (o : Option X) (test : Bool) → there_is o ≡ test → (o ≡ None) ↔ (test ≡ false)
+pub none-exactly : {X : Type 0} (o : Option X) (test : Bool) → there_is o ≡ test → (o ≡ None) ↔ (test ≡ false)
 none-exactly None test is = (λ none. sym is, λ fails. refl)
 none-exactly (Some x) test is = (λ none. absurd (cc none), λ fails. absurd (cc (is ∙ fails)))
 
@@ -299,22 +301,37 @@ query-there_is (Keys k) = keys-there_is k
 pub query-lacks : (p : PlainQuery) → (doc_query p ≡ None) ↔ (doc_has (query_kind p) ≡ false)
 query-lacks p = none-exactly (doc_query p) (doc_has (query_kind p)) (query-there_is p)
 
--- the reply of a plain form
+pub ops-named : AreNames doc_op doc_has op_kind
+ops-named = record {
+  one = λ p q d left right. sym (op-named p d left) ∙ op-named q d right;
+  each = λ d. (op_form d, op-back d);
+  lacks = op-lacks;
+}
+
+pub queries-named : AreNames doc_query doc_has query_kind
+queries-named = record {
+  one = λ p q d left right. sym (query-named p d left) ∙ query-named q d right;
+  each = λ d. (query_form d, query-back d);
+  lacks = query-lacks;
+}
+
+-- the reply of a plain form, if there is one
 abbrev took_reply : Option (Kept (List ℕ)) → QueueReply
 took_reply None = Nothing
 took_reply (Some kept) = Took kept
 
-abbrev pub doc_reply : PlainReply → DocReply
-doc_reply reply.Counter = at_counters tt
-doc_reply reply.Flag = at_flags tt
-doc_reply reply.Lww = at_last_writes tt
-doc_reply reply.Multi = at_multis tt
-doc_reply reply.Set = at_sets tt
-doc_reply reply.Log = at_logs tt
-doc_reply reply.QueueEnqueued = at_queues Enqueued
-doc_reply (reply.QueueTook first) = at_queues (took_reply first)
+abbrev doc_reply : PlainReply → Option DocReply
+doc_reply reply.Counter = Some (at_counters tt)
+doc_reply reply.Flag = Some (at_flags tt)
+doc_reply reply.Lww = Some (at_last_writes tt)
+doc_reply reply.Multi = Some (at_multis tt)
+doc_reply reply.Set = Some (at_sets tt)
+doc_reply reply.Log = Some (at_logs tt)
+doc_reply reply.QueueEnqueued = Some (at_queues Enqueued)
+doc_reply (reply.QueueTook first) = Some (at_queues (took_reply first))
+doc_reply (reply.Sequence named) = None
 
-pub reply-there : (d : DocReply) → doc_reply (plain_reply d) ≡ d
+reply-there : (d : DocReply) → doc_reply (plain_reply d) ≡ Some d
 reply-there (First r) = refl
 reply-there (Second (First r)) = refl
 reply-there (Second (Second (First r))) = refl
@@ -325,19 +342,38 @@ reply-there (Second (Second (Second (Second (Second (Second Enqueued)))))) = ref
 reply-there (Second (Second (Second (Second (Second (Second Nothing)))))) = refl
 reply-there (Second (Second (Second (Second (Second (Second (Took kept))))))) = refl
 
-took-back : (first : Option (Kept (List ℕ))) → plain_reply (doc_reply (reply.QueueTook first)) ≡ reply.QueueTook first
+took-back : (first : Option (Kept (List ℕ))) → plain_reply (at_queues (took_reply first)) ≡ reply.QueueTook first
 took-back None = refl
 took-back (Some kept) = refl
 
-pub reply-back : (a : PlainReply) → plain_reply (doc_reply a) ≡ a
-reply-back reply.Counter = refl
-reply-back reply.Flag = refl
-reply-back reply.Lww = refl
-reply-back reply.Multi = refl
-reply-back reply.Set = refl
-reply-back reply.Log = refl
-reply-back reply.QueueEnqueued = refl
-reply-back (reply.QueueTook first) = took-back first
+reply-back : (p : PlainReply) → doc_has (reply_kind p) ≡ true → (d : DocReply) × (plain_reply d ≡ p)
+reply-back reply.Counter has = (at_counters tt, refl)
+reply-back reply.Flag has = (at_flags tt, refl)
+reply-back reply.Lww has = (at_last_writes tt, refl)
+reply-back reply.Multi has = (at_multis tt, refl)
+reply-back reply.Set has = (at_sets tt, refl)
+reply-back reply.Log has = (at_logs tt, refl)
+reply-back reply.QueueEnqueued has = (at_queues Enqueued, refl)
+reply-back (reply.QueueTook first) has = (at_queues (took_reply first), took-back first)
+reply-back (reply.Sequence named) has = absurd (cc has)
+
+reply-has : (d : DocReply) → doc_has (reply_kind (plain_reply d)) ≡ true
+reply-has (First r) = refl
+reply-has (Second (First r)) = refl
+reply-has (Second (Second (First r))) = refl
+reply-has (Second (Second (Second (First r)))) = refl
+reply-has (Second (Second (Second (Second (First r))))) = refl
+reply-has (Second (Second (Second (Second (Second (First r)))))) = refl
+reply-has (Second (Second (Second (Second (Second (Second Enqueued)))))) = refl
+reply-has (Second (Second (Second (Second (Second (Second Nothing)))))) = refl
+reply-has (Second (Second (Second (Second (Second (Second (Took kept))))))) = refl
+
+pub replies-named : AreNamed plain_reply doc_has reply_kind
+replies-named = record {
+  one = λ d e same. cc (sym (reply-there d) ∙ ap doc_reply same ∙ reply-there e);
+  each = reply-back;
+  only = reply-has;
+}
 
 -- the answer of a plain form, if there is one
 abbrev keys_answer : Kind → List (List ℕ) → Option DocAnswer
@@ -350,7 +386,7 @@ keys_answer kind.Log keys = Some (at_logs (OnKeys keys))
 keys_answer kind.Queue keys = Some (at_queues (OnKeys keys))
 keys_answer kind.Sequence keys = None
 
-abbrev pub doc_answer : PlainAnswer → Option DocAnswer
+abbrev doc_answer : PlainAnswer → Option DocAnswer
 doc_answer (answer.CounterValue n) = Some (at_counters (OnValue n))
 doc_answer (answer.FlagIsOn b) = Some (at_flags (OnValue b))
 doc_answer (answer.LwwGet payload) = Some (at_last_writes (OnValue payload))
@@ -363,6 +399,8 @@ doc_answer (answer.LogLength n) = Some (at_logs (OnValue (log_answer.OnLength n)
 doc_answer (answer.QueuePeek first) = Some (at_queues (OnValue (queue_answer.OnFirst first)))
 doc_answer (answer.QueueItems items) = Some (at_queues (OnValue (queue_answer.OnItems items)))
 doc_answer (answer.QueueLength n) = Some (at_queues (OnValue (queue_answer.OnLength n)))
+doc_answer (answer.SequenceRead items) = None
+doc_answer (answer.SequenceLength n) = None
 doc_answer (answer.Keys k keys) = keys_answer k keys
 
 answer-there : (d : DocAnswer) → doc_answer (plain_answer d) ≡ Some d
@@ -386,37 +424,76 @@ answer-there (Second (Second (Second (Second (Second (Second (OnValue (queue_ans
 answer-there (Second (Second (Second (Second (Second (Second (OnValue (queue_answer.OnLength n)))))))) = refl
 answer-there (Second (Second (Second (Second (Second (Second (OnKeys keys))))))) = refl
 
-pub answer-one : (d e : DocAnswer) → plain_answer d ≡ plain_answer e → d ≡ e
-answer-one d e same = cc (sym (answer-there d) ∙ ap doc_answer same ∙ answer-there e)
+keys-back : (k : Kind) (keys : List (List ℕ)) → doc_has k ≡ true → (d : DocAnswer) × (plain_answer d ≡ answer.Keys k keys)
+keys-back kind.Counter keys has = (at_counters (OnKeys keys), refl)
+keys-back kind.Flag keys has = (at_flags (OnKeys keys), refl)
+keys-back kind.Lww keys has = (at_last_writes (OnKeys keys), refl)
+keys-back kind.Multi keys has = (at_multis (OnKeys keys), refl)
+keys-back kind.Set keys has = (at_sets (OnKeys keys), refl)
+keys-back kind.Log keys has = (at_logs (OnKeys keys), refl)
+keys-back kind.Queue keys has = (at_queues (OnKeys keys), refl)
+keys-back kind.Sequence keys has = absurd (cc has)
 
-pub answer-never : (d : DocAnswer) (keys : List (List ℕ)) → plain_answer d ≡ answer.Keys kind.Sequence keys → ⊥
-answer-never d keys is = cc (sym (ap doc_answer is) ∙ answer-there d)
+answer-back : (p : PlainAnswer) → doc_has (answer_kind p) ≡ true → (d : DocAnswer) × (plain_answer d ≡ p)
+answer-back (answer.CounterValue n) has = (at_counters (OnValue n), refl)
+answer-back (answer.FlagIsOn b) has = (at_flags (OnValue b), refl)
+answer-back (answer.LwwGet payload) has = (at_last_writes (OnValue payload), refl)
+answer-back (answer.MultiValues payloads) has = (at_multis (OnValue payloads), refl)
+answer-back (answer.SetContains b) has = (at_sets (OnValue (IsIn b)), refl)
+answer-back (answer.SetMembers members) has = (at_sets (OnValue (All members)), refl)
+answer-back (answer.SetSize n) has = (at_sets (OnValue (Count n)), refl)
+answer-back (answer.LogRead entries) has = (at_logs (OnValue (log_answer.OnEntries entries)), refl)
+answer-back (answer.LogLength n) has = (at_logs (OnValue (log_answer.OnLength n)), refl)
+answer-back (answer.QueuePeek first) has = (at_queues (OnValue (queue_answer.OnFirst first)), refl)
+answer-back (answer.QueueItems items) has = (at_queues (OnValue (queue_answer.OnItems items)), refl)
+answer-back (answer.QueueLength n) has = (at_queues (OnValue (queue_answer.OnLength n)), refl)
+answer-back (answer.SequenceRead items) has = absurd (cc has)
+answer-back (answer.SequenceLength n) has = absurd (cc has)
+answer-back (answer.Keys k keys) has = keys-back k keys has
 
--- a plain form is that of an answer, or keys of sequences
-abbrev IsForm : PlainAnswer → Type 0
-IsForm a = ((d : DocAnswer) × (plain_answer d ≡ a)) ⊎ ((keys : List (List ℕ)) × (a ≡ answer.Keys kind.Sequence keys))
+answer-has : (d : DocAnswer) → doc_has (answer_kind (plain_answer d)) ≡ true
+answer-has (First (OnValue n)) = refl
+answer-has (First (OnKeys keys)) = refl
+answer-has (Second (First (OnValue b))) = refl
+answer-has (Second (First (OnKeys keys))) = refl
+answer-has (Second (Second (First (OnValue payload)))) = refl
+answer-has (Second (Second (First (OnKeys keys)))) = refl
+answer-has (Second (Second (Second (First (OnValue payloads))))) = refl
+answer-has (Second (Second (Second (First (OnKeys keys))))) = refl
+answer-has (Second (Second (Second (Second (First (OnValue (IsIn b))))))) = refl
+answer-has (Second (Second (Second (Second (First (OnValue (All members))))))) = refl
+answer-has (Second (Second (Second (Second (First (OnValue (Count n))))))) = refl
+answer-has (Second (Second (Second (Second (First (OnKeys keys)))))) = refl
+answer-has (Second (Second (Second (Second (Second (First (OnValue (log_answer.OnEntries entries)))))))) = refl
+answer-has (Second (Second (Second (Second (Second (First (OnValue (log_answer.OnLength n)))))))) = refl
+answer-has (Second (Second (Second (Second (Second (First (OnKeys keys))))))) = refl
+answer-has (Second (Second (Second (Second (Second (Second (OnValue (queue_answer.OnFirst first)))))))) = refl
+answer-has (Second (Second (Second (Second (Second (Second (OnValue (queue_answer.OnItems items)))))))) = refl
+answer-has (Second (Second (Second (Second (Second (Second (OnValue (queue_answer.OnLength n)))))))) = refl
+answer-has (Second (Second (Second (Second (Second (Second (OnKeys keys))))))) = refl
 
-keys-back : (k : Kind) (keys : List (List ℕ)) → IsForm (answer.Keys k keys)
-keys-back kind.Counter keys = inl (at_counters (OnKeys keys), refl)
-keys-back kind.Flag keys = inl (at_flags (OnKeys keys), refl)
-keys-back kind.Lww keys = inl (at_last_writes (OnKeys keys), refl)
-keys-back kind.Multi keys = inl (at_multis (OnKeys keys), refl)
-keys-back kind.Set keys = inl (at_sets (OnKeys keys), refl)
-keys-back kind.Log keys = inl (at_logs (OnKeys keys), refl)
-keys-back kind.Queue keys = inl (at_queues (OnKeys keys), refl)
-keys-back kind.Sequence keys = inr (keys, refl)
+pub answers-named : AreNamed plain_answer doc_has answer_kind
+answers-named = record {
+  one = λ d e same. cc (sym (answer-there d) ∙ ap doc_answer same ∙ answer-there e);
+  each = answer-back;
+  only = answer-has;
+}
 
-pub answer-back : (a : PlainAnswer) → IsForm a
-answer-back (answer.CounterValue n) = inl (at_counters (OnValue n), refl)
-answer-back (answer.FlagIsOn b) = inl (at_flags (OnValue b), refl)
-answer-back (answer.LwwGet payload) = inl (at_last_writes (OnValue payload), refl)
-answer-back (answer.MultiValues payloads) = inl (at_multis (OnValue payloads), refl)
-answer-back (answer.SetContains b) = inl (at_sets (OnValue (IsIn b)), refl)
-answer-back (answer.SetMembers members) = inl (at_sets (OnValue (All members)), refl)
-answer-back (answer.SetSize n) = inl (at_sets (OnValue (Count n)), refl)
-answer-back (answer.LogRead entries) = inl (at_logs (OnValue (log_answer.OnEntries entries)), refl)
-answer-back (answer.LogLength n) = inl (at_logs (OnValue (log_answer.OnLength n)), refl)
-answer-back (answer.QueuePeek first) = inl (at_queues (OnValue (queue_answer.OnFirst first)), refl)
-answer-back (answer.QueueItems items) = inl (at_queues (OnValue (queue_answer.OnItems items)), refl)
-answer-back (answer.QueueLength n) = inl (at_queues (OnValue (queue_answer.OnLength n)), refl)
-answer-back (answer.Keys k keys) = keys-back k keys
+lacks-sequences : (k : Kind) → doc_has k ≡ false → k ≡ kind.Sequence
+lacks-sequences kind.Counter lacks = absurd (cc lacks)
+lacks-sequences kind.Flag lacks = absurd (cc lacks)
+lacks-sequences kind.Lww lacks = absurd (cc lacks)
+lacks-sequences kind.Multi lacks = absurd (cc lacks)
+lacks-sequences kind.Set lacks = absurd (cc lacks)
+lacks-sequences kind.Log lacks = absurd (cc lacks)
+lacks-sequences kind.Queue lacks = absurd (cc lacks)
+lacks-sequences kind.Sequence lacks = refl
+
+pub doc-forms : AreForms doc_forms
+doc-forms = record {
+  ops = ops-named;
+  queries = queries-named;
+  replies = replies-named;
+  answers = answers-named;
+  sequences = lacks-sequences;
+}

@@ -50,6 +50,7 @@ use Rattle.branch_doc.specs.declared.plain.PlainReply.{PlainReply}
 use Rattle.branch_doc.specs.declared.plain.PlainReply.TheVariants as reply
 use Rattle.branch_doc.specs.declared.plain.PlainAnswer.{PlainAnswer}
 use Rattle.branch_doc.specs.declared.plain.PlainAnswer.TheVariants as answer
+use Rattle.branch_doc.specs.Types.{PlainForms}
 use Rattle.branch_doc.specs.Sides.{OfKinds, at_counters, at_flags, at_last_writes, at_multis, at_sets, at_logs, at_queues}
 
 -- a document's own operations, queries, replies and answers
@@ -72,41 +73,6 @@ on key operation = record { key = key; operation = operation }
 abbrev pub doc_has : Kind → Bool
 doc_has kind.Sequence = false
 doc_has other = true
-
--- the kind of the value that an operation is on
-abbrev pub op_kind : PlainOp → Kind
-op_kind (CounterAdd key amount) = kind.Counter
-op_kind (CounterReset key) = kind.Counter
-op_kind (FlagEnable key) = kind.Flag
-op_kind (FlagDisable key) = kind.Flag
-op_kind (LwwSet key payload) = kind.Lww
-op_kind (MultiSet key payload) = kind.Multi
-op_kind (SetAdd key element) = kind.Set
-op_kind (SetRemove key element) = kind.Set
-op_kind (SetClear key) = kind.Set
-op_kind (LogAppend key payload) = kind.Log
-op_kind (QueueEnqueue key payload) = kind.Queue
-op_kind (QueueDequeue key) = kind.Queue
-op_kind (SequenceInsert key place payload) = kind.Sequence
-op_kind (SequenceDelete key place) = kind.Sequence
-
--- the kind of the value, or of the keys, that a query asks for
-abbrev pub query_kind : PlainQuery → Kind
-query_kind (CounterValue key) = kind.Counter
-query_kind (FlagIsOn key) = kind.Flag
-query_kind (LwwGet key) = kind.Lww
-query_kind (MultiValues key) = kind.Multi
-query_kind (SetContains key element) = kind.Set
-query_kind (SetMembers key) = kind.Set
-query_kind (SetSize key) = kind.Set
-query_kind (LogRead key) = kind.Log
-query_kind (LogLength key) = kind.Log
-query_kind (QueuePeek key) = kind.Queue
-query_kind (QueueItems key) = kind.Queue
-query_kind (QueueLength key) = kind.Queue
-query_kind (SequenceRead key) = kind.Sequence
-query_kind (SequenceLength key) = kind.Sequence
-query_kind (Keys k) = k
 
 -- the operation that a plain form stands for; a document has none on sequences
 abbrev pub doc_op : PlainOp → Option DocOp
@@ -198,3 +164,7 @@ plain_answer (Second (Second (Second (First a)))) = map_answer_form kind.Multi a
 plain_answer (Second (Second (Second (Second (First a))))) = map_answer_form kind.Set set_answer_form a
 plain_answer (Second (Second (Second (Second (Second (First a)))))) = map_answer_form kind.Log log_answer_form a
 plain_answer (Second (Second (Second (Second (Second (Second a)))))) = map_answer_form kind.Queue queue_answer_form a
+
+-- the plain forms of a document
+abbrev pub doc_forms : PlainForms DocOp DocQuery DocReply DocAnswer
+doc_forms = record { op = doc_op; query = doc_query; reply = plain_reply; answer = plain_answer; has = doc_has }

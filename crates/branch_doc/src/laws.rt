@@ -1,42 +1,39 @@
-// That plain forms and a document's own correspond one to one.
-ghost use Rattle.std.specs.Prelude.{◌≡◌, ◌↔◌, ◌⊎◌, false, None, Some, List, ℕ};
-ghost use Rattle.branch_doc.specs.declared.plain.PlainOp.{PlainOp as SpecOp};
-ghost use Rattle.branch_doc.specs.declared.plain.PlainQuery.{PlainQuery as SpecQuery};
-ghost use Rattle.branch_doc.specs.declared.plain.PlainReply.{PlainReply as SpecReply};
-ghost use Rattle.branch_doc.specs.declared.plain.PlainAnswer.{PlainAnswer as SpecAnswer};
+// Laws of plain forms: that those of a document and its own correspond one to one, and what a type may lack.
+ghost use Rattle.std.specs.Prelude.{◌≡◌, None};
 ghost use Rattle.branch_doc.specs.declared.plain.Kind.TheVariants as kinds;
-ghost use Rattle.branch_doc.specs.declared.plain.PlainAnswer.TheVariants as answers;
-ghost use Rattle.branch_doc.specs.Forms.{DocOp, DocQuery, DocReply, DocAnswer, doc_has, op_kind, query_kind, doc_op, doc_query, plain_reply, plain_answer};
+ghost use Rattle.branch_doc.specs.declared.plain.PlainOp.{PlainOp};
+ghost use Rattle.branch_doc.specs.declared.plain.PlainQuery.{PlainQuery};
+ghost use Rattle.branch_doc.specs.Kinds.{op_kind, query_kind, reply_kind, answer_kind};
+ghost use Rattle.branch_doc.specs.Types.{AreNames, AreNamed};
+ghost use Rattle.branch_doc.specs.Forms.{doc_has, doc_op, doc_query, plain_reply, plain_answer};
+
+use crate::types::Forms;
 
 /// Different plain forms stand for different operations, and each operation has a plain form. A plain form stands
 /// for none exactly where a document has no values of its kind.
 pub fn operations_have_one_form()
-    ensures one { (a b : SpecOp) (d : DocOp) → doc_op a ≡ Some d → doc_op b ≡ Some d → a ≡ b }
-    ensures each { (d : DocOp) → (a : SpecOp) × (doc_op a ≡ Some d) }
-    ensures lacks { (a : SpecOp) → (doc_op a ≡ None) ↔ (doc_has (op_kind a) ≡ false) }
+    ensures { AreNames doc_op doc_has op_kind }
 {}
 
 /// Different plain forms stand for different queries, and each query has a plain form. A plain form stands for none
 /// exactly where a document has no values of its kind.
 pub fn queries_have_one_form()
-    ensures one { (a b : SpecQuery) (d : DocQuery) → doc_query a ≡ Some d → doc_query b ≡ Some d
-        → a ≡ b }
-    ensures each { (d : DocQuery) → (a : SpecQuery) × (doc_query a ≡ Some d) }
-    ensures lacks { (a : SpecQuery) → (doc_query a ≡ None) ↔ (doc_has (query_kind a) ≡ false) }
+    ensures { AreNames doc_query doc_has query_kind }
 {}
 
-/// Different replies have different plain forms, and each plain form is that of a reply.
+/// Different replies have different plain forms, and those are the ones of the kinds that a document has.
 pub fn replies_have_one_form()
-    ensures one { (d e : DocReply) → plain_reply d ≡ plain_reply e → d ≡ e }
-    ensures each { (a : SpecReply) → (d : DocReply) × (plain_reply d ≡ a) }
+    ensures { AreNamed plain_reply doc_has reply_kind }
 {}
 
-/// Different answers have different plain forms, and each plain form is that of an answer, but for keys of a kind of
-/// which a document has no values.
+/// Different answers have different plain forms, and those are the ones of the kinds that a document has.
 pub fn answers_have_one_form()
-    ensures one { (d e : DocAnswer) → plain_answer d ≡ plain_answer e → d ≡ e }
-    ensures each { (a : SpecAnswer) → ((d : DocAnswer) × (plain_answer d ≡ a))
-        ⊎ ((keys : List (List ℕ)) × (a ≡ answers.Keys kinds.Sequence keys)) }
-    ensures never { (d : DocAnswer) (keys : List (List ℕ))
-        → plain_answer d ≡ answers.Keys kinds.Sequence keys → ⊥ }
+    ensures { AreNamed plain_answer doc_has answer_kind }
+{}
+
+/// A plain form that stands for nothing of a type is of sequences.
+pub fn lacks_only_sequences<T: Forms>()
+    ensures op { (form : PlainOp) → T.forms.op form ≡ None → op_kind form ≡ kinds.Sequence }
+    ensures query { (form : PlainQuery) → T.forms.query form ≡ None
+        → query_kind form ≡ kinds.Sequence }
 {}

@@ -1,8 +1,8 @@
 // The plain forms: one case for each kind of value and operation, query, reply or answer of it.
 use live_set::Kept;
-use mrdt_model::{Bytes, Listing};
+use mrdt_model::{Bytes, Listing, Time};
 
-/// The kinds of values. A document has a map of each but sequences, of which it has none.
+/// The kinds of values. Every type with plain forms has values of each, but maybe none of sequences.
 #[derive(Clone, Copy, Debug, PartialEq, Eq)]
 pub enum Kind {
     /// Counters.
@@ -129,7 +129,7 @@ pub enum PlainQuery {
     Keys(Kind),
 }
 
-/// The reply to an operation of a document. All but those of queues reply only that they were done.
+/// The reply to an operation. All but those of queues and sequences reply only that they were done.
 #[derive(Drop)]
 pub enum PlainReply {
     /// A counter's operation was done.
@@ -148,6 +148,10 @@ pub enum PlainReply {
     QueueEnqueued,
     /// What a queue's first payload was, with the time of its enqueue, if there was one.
     QueueTook(Option<Kept<Bytes>>),
+    /// A sequence's operation was done, with the time of the item that it names: for an insert the item that the
+    /// payload was put behind, or none where it was put at the start; for a delete the item that was taken out, or
+    /// none where there was none.
+    Sequence(Option<Time>),
 }
 
 /// The answer to the query of the same name.
@@ -177,6 +181,10 @@ pub enum PlainAnswer {
     QueueItems(Listing<Kept<Bytes>>),
     /// The number of the payloads of a queue.
     QueueLength(u64),
+    /// The payloads of a sequence with the times of their inserts, in its order.
+    SequenceRead(Listing<Kept<Bytes>>),
+    /// The number of the payloads of a sequence.
+    SequenceLength(u64),
     /// The keys of a kind that operations have touched, in byte order.
     Keys(Kind, Listing<Bytes>),
 }

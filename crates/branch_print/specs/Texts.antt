@@ -1,15 +1,17 @@
 -- The texts of replies.
-use Rattle.std.specs.Prelude.{ℕ, Option, None, Some, List, [], ◌∷◌, ◌++◌, codes, decimal, length, if◌then◌else◌}
+use Rattle.std.specs.Prelude.{ℕ, Bool, true, false, Option, None, Some, List, [], ◌∷◌, ◌++◌, codes, decimal, length, if◌then◌else◌}
 use Rattle.std.specs.Fmt.{signed_decimal}
 use Rattle.std.specs.List.{flat_map}
 use Rattle.hex.specs.Hex.{encode_lower}
 use Rattle.mrdt_model.specs.declared.time.Time.{Time}
 use Rattle.live_set.specs.declared.kept.Kept.{Kept}
+use Rattle.branch_doc.specs.declared.plain.PlainOp.{PlainOp}
+use Rattle.branch_doc.specs.declared.plain.PlainOp.TheVariants.{SequenceDelete}
 use Rattle.branch_doc.specs.declared.plain.PlainReply.{PlainReply}
 use Rattle.branch_doc.specs.declared.plain.PlainReply.TheVariants as reply
 use Rattle.branch_doc.specs.declared.plain.PlainAnswer.{PlainAnswer}
-use Rattle.branch_doc.specs.declared.plain.PlainAnswer.TheVariants.{CounterValue, FlagIsOn, LwwGet, MultiValues, SetContains, SetMembers, SetSize, LogRead, LogLength, QueuePeek, QueueItems, QueueLength, Keys}
-use Rattle.branch_doc.specs.Forms.{DocReply, DocAnswer, plain_reply, plain_answer}
+use Rattle.branch_doc.specs.declared.plain.PlainAnswer.TheVariants.{CounterValue, FlagIsOn, LwwGet, MultiValues, SetContains, SetMembers, SetSize, LogRead, LogLength, QueuePeek, QueueItems, QueueLength, SequenceRead, SequenceLength, Keys}
+use Rattle.branch_doc.specs.Types.{PlainForms}
 use Rattle.branch_script.specs.declared.step.LineRefused.{LineRefused}
 use Rattle.branch_script.specs.declared.step.LineRefused.TheVariants.{Syntax, BadName, BadNumber, Memory}
 use Rattle.branch_history.specs.Steps.{Refusal, UnknownBranch, NameTaken, Dropped, KeepsMain, Stale, Exhausted, FullCommits, FullBranches, FullMoves, ValueTooLarge, OwnOrigin, TimeClash, BadBundle, Collision, Outcome, Sees, Forked, Landed, Merged, Joined, Forwarded, Same, New, Here, DroppedAt, Answered, Refused}
@@ -52,6 +54,8 @@ answer_text (LogLength count) = decimal count
 answer_text (QueuePeek first) = entries_text (at_most_one first)
 answer_text (QueueItems entries) = entries_text entries
 answer_text (QueueLength count) = decimal count
+answer_text (SequenceRead entries) = entries_text entries
+answer_text (SequenceLength count) = decimal count
 answer_text (Keys kind keys) = items_text keys
 
 -- what a Dequeue took
@@ -59,10 +63,25 @@ abbrev pub took_text : Option (Kept (List ℕ)) → List ℕ
 took_text None = codes " took nothing"
 took_text (Some entry) = codes " took " ++ entry_text entry
 
--- what the reply to an operation adds to its text: a Dequeue says what it took
-abbrev pub reply_text : PlainReply → List ℕ
-reply_text (reply.QueueTook took) = took_text took
-reply_text other = []
+-- Whether an operation takes an item out of a sequence. The reply to it is of the same kind as that to one that puts an
+-- item in, and the step tells of which of the two it is.
+abbrev pub takes_item : PlainOp → Bool
+takes_item (SequenceDelete key place) = true
+takes_item other = false
+
+-- what was done to a sequence, given the item that the reply names: an insert came after it, a delete took it out
+abbrev pub named_text : Bool → Option Time → List ℕ
+named_text false None = codes " at start"
+named_text false (Some item) = codes " after " ++ time_text item
+named_text true None = codes " nothing"
+named_text true (Some item) = codes " gone " ++ time_text item
+
+-- what the reply to an operation adds to its text, by whether it takes an item out of a sequence: a Dequeue says what it
+-- took, and an operation on a sequence what it did
+abbrev pub reply_text : Bool → PlainReply → List ℕ
+reply_text takes (reply.QueueTook took) = took_text took
+reply_text takes (reply.Sequence named) = named_text takes named
+reply_text takes other = []
 
 -- a refusal, of a step on the branch of this name
 abbrev pub refusal_text : List ℕ → Refusal → List ℕ
@@ -87,8 +106,10 @@ sees_text session branch head = session ++ codes " sees " ++ branch ++ codes " a
 abbrev pub forked_text : List ℕ → ℕ → ℕ → List ℕ
 forked_text branch number head = codes "forked " ++ branch ++ codes " as " ++ decimal number ++ codes " at #" ++ decimal head
 
-abbrev pub landed_text : ℕ → Time → PlainReply → List ℕ
-landed_text commit time said = codes "landed #" ++ decimal commit ++ codes " at " ++ time_text time ++ reply_text said
+-- an operation, and whether it takes an item out of a sequence
+abbrev pub landed_text : ℕ → Time → Bool → PlainReply → List ℕ
+landed_text commit time takes said =
+    codes "landed #" ++ decimal commit ++ codes " at " ++ time_text time ++ reply_text takes said
 
 abbrev pub merged_text : ℕ → List ℕ
 merged_text commit = codes "merged #" ++ decimal commit
@@ -113,20 +134,21 @@ here_text commit = codes "here #" ++ decimal commit
 abbrev pub dropped_text : List ℕ → ℕ → List ℕ
 dropped_text branch head = codes "dropped " ++ branch ++ codes " at #" ++ decimal head
 
--- an outcome, for a session and a branch of these names; a fork's branch is the new one
-abbrev pub outcome_text : List ℕ → List ℕ → Outcome DocAnswer DocReply → List ℕ
-outcome_text session branch (Sees number head) = sees_text session branch head
-outcome_text session branch (Forked number head) = forked_text branch number head
-outcome_text session branch (Landed commit time said) = landed_text commit time (plain_reply said)
-outcome_text session branch (Merged commit) = merged_text commit
-outcome_text session branch (Joined commit) = joined_text commit
-outcome_text session branch (Forwarded commit) = forward_text commit
-outcome_text session branch Same = same_text
-outcome_text session branch (New commit) = new_text commit
-outcome_text session branch (Here commit) = here_text commit
-outcome_text session branch (DroppedAt number head) = dropped_text branch head
-outcome_text session branch (Answered answer) = answer_text (plain_answer answer)
-outcome_text session branch (Refused refusal) = refusal_text branch refusal
+-- An outcome, for a type of these plain forms, and for a session and a branch of these names: a fork's branch is the new
+-- one. Of a step it is told whether it takes an item out of a sequence.
+abbrev pub outcome_text : {O Q R A : Type 0} → PlainForms O Q R A → Bool → List ℕ → List ℕ → Outcome A R → List ℕ
+outcome_text forms takes session branch (Sees number head) = sees_text session branch head
+outcome_text forms takes session branch (Forked number head) = forked_text branch number head
+outcome_text forms takes session branch (Landed commit time said) = landed_text commit time takes (forms.reply said)
+outcome_text forms takes session branch (Merged commit) = merged_text commit
+outcome_text forms takes session branch (Joined commit) = joined_text commit
+outcome_text forms takes session branch (Forwarded commit) = forward_text commit
+outcome_text forms takes session branch Same = same_text
+outcome_text forms takes session branch (New commit) = new_text commit
+outcome_text forms takes session branch (Here commit) = here_text commit
+outcome_text forms takes session branch (DroppedAt number head) = dropped_text branch head
+outcome_text forms takes session branch (Answered answer) = answer_text (forms.answer answer)
+outcome_text forms takes session branch (Refused refusal) = refusal_text branch refusal
 
 -- a line that is no step; of want of memory nothing is told
 abbrev pub line_refusal_text : LineRefused → List ℕ

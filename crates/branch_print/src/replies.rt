@@ -1,12 +1,12 @@
 // The replies to steps that were not refused. After `Memory` a first part of the text has been written.
-ghost use Rattle.std.specs.Prelude.{◌≡◌, ◌++◌, codes, decimal, if◌then◌else◌, OnOk, OnErr};
+ghost use Rattle.std.specs.Prelude.{◌≡◌, ◌++◌, codes, decimal, true, false, if◌then◌else◌, OnOk, OnErr};
 ghost use Rattle.mrdt_model.specs.Spelled.{AppendsPart};
-ghost use Rattle.branch_print.specs.Texts.{time_text, sees_text, forked_text, took_text, reply_text, landed_text, merged_text, joined_text, forward_text, same_text, dropped_text, items_text, entries_text, at_most_one, answer_text, line_end};
+ghost use Rattle.branch_print.specs.Texts.{time_text, sees_text, forked_text, took_text, takes_item, named_text, reply_text, landed_text, merged_text, joined_text, forward_text, same_text, dropped_text, items_text, entries_text, at_most_one, answer_text, line_end};
 
 use crate::pieces::{
     put_count, put_entries, put_entry, put_items, put_number, put_pieces, put_signed, put_text,
 };
-use branch_doc::{PlainAnswer, PlainReply};
+use branch_doc::{PlainAnswer, PlainOp, PlainReply};
 use branch_names::Name;
 use itoa::Buffer;
 use live_set::Kept;
@@ -68,13 +68,75 @@ fn put_took(out: &mut Vec<u8>, took: &Option<Kept<Bytes>>) -> Result<(), Memory>
     }
 }
 
-// What a Dequeue took, and nothing for other operations.
-fn put_reply(out: &mut Vec<u8>, reply: &PlainReply) -> Result<(), Memory>
-    ensures ok { OnOk result (out.new.items ≡ out.old.items ++ reply_text reply.now) }
-    ensures err { OnErr result (AppendsPart out.old.items out.new.items (reply_text reply.now)) }
+// A text and a time.
+fn put_at(out: &mut Vec<u8>, text: &[u8], time: Time) -> Result<(), Memory>
+    ensures ok { OnOk result (out.new.items ≡ out.old.items ++ (text.now ++ time_text time)) }
+    ensures err { OnErr result
+        (AppendsPart out.old.items out.new.items (text.now ++ time_text time)) }
+{
+    let mut clock_digits = Buffer::new();
+    let mut origin_digits = Buffer::new();
+    put_pieces(
+        out,
+        &[
+            text,
+            clock_digits.format(time.clock).as_bytes(),
+            b".",
+            origin_digits.format(time.origin).as_bytes(),
+        ],
+    )
+}
+
+// The item after which an insert put another.
+fn put_after(out: &mut Vec<u8>, named: Option<Time>) -> Result<(), Memory>
+    ensures ok { OnOk result (out.new.items ≡ out.old.items ++ named_text false named) }
+    ensures err { OnErr result (AppendsPart out.old.items out.new.items (named_text false named)) }
+{
+    match named {
+        None => put_text(out, b" at start"),
+        Some(item) => put_at(out, b" after ", item),
+    }
+}
+
+// The item that a delete took out.
+fn put_gone(out: &mut Vec<u8>, named: Option<Time>) -> Result<(), Memory>
+    ensures ok { OnOk result (out.new.items ≡ out.old.items ++ named_text true named) }
+    ensures err { OnErr result (AppendsPart out.old.items out.new.items (named_text true named)) }
+{
+    match named {
+        None => put_text(out, b" nothing"),
+        Some(item) => put_at(out, b" gone ", item),
+    }
+}
+
+// What was done to a sequence.
+fn put_named(out: &mut Vec<u8>, takes: bool, named: Option<Time>) -> Result<(), Memory>
+    ensures ok { OnOk result (out.new.items ≡ out.old.items ++ named_text takes named) }
+    ensures err { OnErr result (AppendsPart out.old.items out.new.items (named_text takes named)) }
+{
+    if takes {
+        put_gone(out, named)
+    } else {
+        put_after(out, named)
+    }
+}
+
+/// Whether an operation takes an item out of a sequence.
+pub fn takes_item(op: &PlainOp) -> bool
+    ensures { result ≡ takes_item op.now }
+{
+    matches!(op, PlainOp::SequenceDelete { .. })
+}
+
+// What a Dequeue took, what was done to a sequence, and nothing for other operations.
+fn put_reply(out: &mut Vec<u8>, takes: bool, reply: &PlainReply) -> Result<(), Memory>
+    ensures ok { OnOk result (out.new.items ≡ out.old.items ++ reply_text takes reply.now) }
+    ensures err { OnErr result
+        (AppendsPart out.old.items out.new.items (reply_text takes reply.now)) }
 {
     match reply {
         PlainReply::QueueTook(took) => put_took(out, took),
+        PlainReply::Sequence(named) => put_named(out, takes, *named),
         _ => Ok(()),
     }
 }
@@ -103,20 +165,23 @@ fn put_commit(out: &mut Vec<u8>, commit: u32, time: Time) -> Result<(), Memory>
     )
 }
 
-/// An operation that landed: `landed #1 at 1.0`. A Dequeue adds ` took 1.0 x`, or ` took nothing`.
+/// An operation that landed: `landed #1 at 1.0`. A Dequeue adds ` took 1.0 x`, or ` took nothing`; an insert into a sequence
+/// adds ` after 1.0`, or ` at start`, and an operation that takes an item out of one ` gone 1.0`, or ` nothing`.
 pub fn put_landed(
     out: &mut Vec<u8>,
     commit: u32,
     time: Time,
+    takes: bool,
     reply: &PlainReply,
 ) -> Result<(), Memory>
     ensures ok { OnOk result (out.new.items
-        ≡ out.old.items ++ (landed_text commit time reply.now ++ line_end)) }
+        ≡ out.old.items ++ (landed_text commit time takes reply.now ++ line_end)) }
     ensures err { OnErr result
-        (AppendsPart out.old.items out.new.items (landed_text commit time reply.now ++ line_end)) }
+        (AppendsPart out.old.items out.new.items
+        (landed_text commit time takes reply.now ++ line_end)) }
 {
     put_commit(out, commit, time)?;
-    put_reply(out, reply)?;
+    put_reply(out, takes, reply)?;
     put_text(out, b"\n")
 }
 
@@ -221,6 +286,8 @@ fn put_answer_text(out: &mut Vec<u8>, answer: &PlainAnswer) -> Result<(), Memory
         PlainAnswer::QueuePeek(first) => put_first(out, first),
         PlainAnswer::QueueItems(entries) => put_entries(out, entries.as_slice()),
         PlainAnswer::QueueLength(length) => put_number(out, *length),
+        PlainAnswer::SequenceRead(entries) => put_entries(out, entries.as_slice()),
+        PlainAnswer::SequenceLength(length) => put_number(out, *length),
         PlainAnswer::Keys(_, keys) => put_items(out, keys.as_slice()),
     }
 }

@@ -1,24 +1,8 @@
 // Generated work, with expected values of a program that was written from the format alone.
 use branch_doc::PlainOp;
-use branch_gen::{client_steps, script_text};
+use branch_gen::client_steps;
 use branch_script::Step;
 use std::test::Fail;
-
-#[test]
-fn a_long_script(rt: HostRuntime) -> Result<(), Fail> {
-    let text = script_text(rt.alloc(), 2000, 7)?;
-    let bytes = text.as_slice();
-    let first =
-        b"fork g1 main\nfork g2 main\nfork g3 main\nlook s0 main\nlook s1 g1\nlook s2 g2\nlook s3 g3\ndo s2 queue k1 dequeue\ndo s1 set k3 add w8\n";
-    let last = b"\ndo s0 queue k0 enqueue w14\ndo s2 multi k3 set w1\ndo s1 flag k5 enable\n";
-    assert!(rt; bytes.len() == 41961 && bytes.starts_with(first) && bytes.ends_with(last));
-    let mut sum: u64 = 0;
-    for byte in bytes {
-        sum = sum.wrapping_add(u64::from(*byte));
-    }
-    assert!(rt; sum == 3_338_250);
-    Ok(())
-}
 
 // What a step says: its verb or operation, its first two names or bytes, the word behind them and the amount.
 fn said(step: &Step) -> (&[u8], &[u8], &[u8], &[u8], i64) {

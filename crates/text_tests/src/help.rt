@@ -1,6 +1,5 @@
-// The words of commands, and the texts of help and of the version.
-use branch_command::{Command, CommandRefused, read_command};
-use branch_names::Limits;
+// The texts of help and of the version.
+use branch_command::{Command, read_command};
 use std::alloc::{AllocError, Global};
 
 // The words of a text, with a space between two.
@@ -54,57 +53,6 @@ fn help_tells_of_each_command(rt: HostRuntime) -> Result<(), AllocError> {
             panic!(rt; "no text");
         };
         assert!(rt; told.contains(part));
-    }
-    Ok(())
-}
-
-#[test]
-fn an_origin_is_read(rt: HostRuntime) -> Result<(), AllocError> {
-    let words = words_of(rt.alloc(), "init --origin 100")?;
-    let Ok(Command::Init(terms)) = read_command(rt.alloc(), &words) else {
-        panic!(rt; "no terms");
-    };
-    assert!(rt; terms.origin == 100 && terms.limits == Limits::default());
-    Ok(())
-}
-
-const SENT: &str =
-    "send main 000000000000000000000000000000000000000000000000000000000000000a 00000000000000000000000000000000000000000000000000000000000000f0";
-
-#[test]
-fn addresses_are_read(rt: HostRuntime) -> Result<(), AllocError> {
-    let words = words_of(rt.alloc(), SENT)?;
-    let Ok(Command::Send(sending)) = read_command(rt.alloc(), &words) else {
-        panic!(rt; "nothing to send");
-    };
-    let mut first = [0; 32];
-    first[31] = 10;
-    let mut second = [0; 32];
-    second[31] = 240;
-    assert!(rt; sending.here.as_slice() == [first, second].as_slice());
-    Ok(())
-}
-
-#[test]
-fn no_commands_on_bundles(rt: HostRuntime) -> Result<(), AllocError> {
-    let rows = [
-        "init --origin 4294967295",
-        "init --origin 00",
-        "address",
-        "address Main",
-        "send",
-        "send Main",
-        "send main 00000000000000000000000000000000000000000000000000000000000000A0",
-        "send main 0000000000000000000000000000000000000000000000000000000000000a0",
-        "receive",
-        "receive a b",
-    ];
-    for text in rows {
-        let words = words_of(rt.alloc(), text)?;
-        let Err(refused) = read_command(rt.alloc(), &words) else {
-            panic!(rt; "a command");
-        };
-        assert!(rt; refused == CommandRefused::Usage);
     }
     Ok(())
 }

@@ -114,21 +114,3 @@ pub(crate) fn are_listed(alloc: Global, entries: &[Kept<Bytes>], want: &[u8]) ->
         Err(_) => false,
     }
 }
-
-// Each text with a comma behind it.
-fn joined(alloc: Global, texts: &[Bytes]) -> Result<Vec<u8>, Memory> {
-    let mut text = Vec::new(alloc);
-    for bytes in texts {
-        text.extend_from_slice(bytes.as_slice())?;
-        text.push(b',')?;
-    }
-    Ok(text)
-}
-
-// Whether these are the texts, each with a comma behind it.
-pub(crate) fn are_joined(alloc: Global, texts: &[Bytes], want: &[u8]) -> bool {
-    match joined(alloc, texts) {
-        Ok(text) => text.as_slice() == want,
-        Err(_) => false,
-    }
-}

@@ -1,6 +1,5 @@
 // Which values a merge of maps merges, told by a counter that refuses to be merged in vain.
 use crate::steps::{after, at};
-use crate::table::add;
 use mrdt_counter::{Counter, CounterOp, CounterQuery};
 use mrdt_map::{Map, MapAnswer, MapQuery, OnKey};
 use mrdt_model::{Bytes, Memory, Mrdt, Time, Unread};
@@ -104,7 +103,10 @@ impl Mrdt for Watched {
 
 // Adds 1 at a key of two bytes.
 fn one_more(alloc: Global, number: u16) -> Result<OnKey<CounterOp>, Memory> {
-    add(alloc, &number.to_be_bytes(), 1)
+    Ok(OnKey {
+        key: Bytes::from_slice(alloc, &number.to_be_bytes())?,
+        operation: CounterOp::Add(1),
+    })
 }
 
 fn filled(alloc: Global) -> Result<Map<Watched>, Memory> {

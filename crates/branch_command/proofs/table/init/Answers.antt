@@ -13,6 +13,7 @@ returns c =
     let value = with_arg _ _ _ _ _ branches c.in_ok-arg-4.ensures c.limit-value.ensures.0 c.limit-value.ensures.1 in
     let moves = with_arg _ _ _ _ _ value c.in_ok-arg-5.ensures c.limit-moves.ensures.0 c.limit-moves.ensures.1 in
     let origin = with_arg _ _ _ _ _ moves c.in_ok-arg-6.ensures c.limit-origin.ensures.0 c.limit-origin.ensures.1 in
-    IfOk-weaker c.arg-7.result _ _ (λ r adds.
-    let all = with_arg _ _ _ _ _ origin adds c.version.ensures.0 c.version.ensures.1 in
-    (ap (λ (a : App). a.top) all.app, all.local)) c.arg-7.ensures
+    let sequences = with_arg _ _ _ _ _ origin c.in_ok-arg-7.ensures c.flag-sequences.ensures.0 c.flag-sequences.ensures.1 in
+    IfOk-weaker c.arg-8.result _ _ (λ r adds.
+    let all = with_arg _ _ _ _ _ sequences adds c.version.ensures.0 c.version.ensures.1 in
+    (ap (λ (a : App). a.top) all.app, all.local)) c.arg-8.ensures

@@ -21,4 +21,4 @@ by_refusal branch BadBundle = refl
 by_refusal branch (Collision address stored fresh) = refl
 
 pub returns-clause-refused : goal.returns-clause-refused
-returns-clause-refused c session branch refusal = by_refusal branch refusal
+returns-clause-refused g c takes session branch refusal = by_refusal branch refusal

@@ -13,7 +13,7 @@ returns-in_err-put_commit-clause-err c =
     let old = c.args.out.now.items in
     let new = c.put_commit.new.out.items in
     let first = at_commit c.args.commit c.args.time in
-    let said = reply_text c.args.reply.now in
+    let said = reply_text c.args.takes c.args.reply.now in
     on-err c.from_residual.result (part-first old new (first ++ said) line_end (part-first old new first said c.in_err-put_commit.ensures.err))
 
 pub returns-in_err-put_reply-clause-err : goal.returns-in_err-put_reply-clause-err
@@ -22,13 +22,13 @@ returns-in_err-put_reply-clause-err c =
     let mid = c.put_commit.new.out.items in
     let new = c.put_reply.new.out.items in
     let first = at_commit c.args.commit c.args.time in
-    let said = reply_text c.args.reply.now in
+    let said = reply_text c.args.takes c.args.reply.now in
     on-err c.from_residual-in_err-put_reply.result (part-first old new (first ++ said) line_end (part-second old mid new first said c.in_ok-put_commit.ensures.ok c.in_err-put_reply.ensures.err))
 
 pub returns-clause-err : goal.returns-clause-err
 returns-clause-err c =
     let old = c.args.out.now.items in
     let first = at_commit c.args.commit c.args.time in
-    let said = reply_text c.args.reply.now in
+    let said = reply_text c.args.takes c.args.reply.now in
     let is = c.in_ok-put_reply.ensures.ok ∙ ap (λ out. out ++ said) c.in_ok-put_commit.ensures.ok ∙ append_assoc old first said in
     second-refused c.put_text.result old c.put_reply.new.out.items c.put_text.new.out.items (first ++ said) line_end is c.put_text.ensures.err
