@@ -19,12 +19,11 @@ use Rattle.store_core.specs.Views.{held}
 use Rattle.store_core.specs.declared.answers.DropRefused.{DropRefused}
 use Rattle.store_core.specs.declared.answers.DropRefused.TheVariants as drop_refusal
 use Rattle.branch_print.specs.Texts.{outcome_text, refusal_text, line_end}
-use Rattle.branch_doc.specs.Document.{document}
-use Rattle.branch_doc.specs.Forms.{DocOp, DocReply, DocQuery, DocAnswer}
+use Rattle.store_core.specs.Answers.{drop_answer}
+use Rattle.branch_engine.proofs.Values.{Values, fixed_of}
 use Rattle.branch_engine.specs.declared.refused.TellRefused.{TellRefused}
 use Rattle.branch_engine.specs.declared.refused.TellRefused.TheVariants as refusal
-use Rattle.branch_engine.specs.Readings.{doc_fixed}
-use Rattle.branch_engine.specs.Engines.{Store, Seen, EngineView, AreLooksAt, Telling, Writes, RepliesAs, drop_answered, session_named}
+use Rattle.branch_engine.specs.Engines.{Store, Seen, EngineView, AreLooksAt, Telling, Writes, RepliesAs, session_named}
 use Rattle.branch_engine.proofs.Played.{looks-grow, whole-so}
 use Rattle.branch_engine.proofs.Does.{Members, members, DoesSo, nothing_done, writes_so, writes_still, does-fault, does_as}
 use Rattle.branch_engine.proofs.Replies.{view_of, drop_telling, turn_telling, turn_takes, turn_stays, leaves_either, moves_too, works_moved, moved, moved_half, drop_as}
@@ -34,37 +33,37 @@ pub name-found : (o : Option Branch) (x : List ℕ × ℕ) → option_map (λ (b
 name-found None x h = absurd (let no : ⊥ = cc in no)
 name-found (Some b) x h = let e : (b.name, b.head) ≡ x = cc in ap (λ y. y.0) (sym e)
 
-abbrev pub drop_of : Seen → machine.Step DocOp DocQuery
+abbrev pub drop_of : {O R Q : Type 0} → Seen O R → machine.Step O Q
 drop_of seen = machine.Drop seen.branch seen.head
 
-module _ {D : Type 0} (d : Ghosts D) (only : (x : D) (c : Files) → d.left_since x (d.moment x) c → d.may_leave x c) (address : List ℕ → List ℕ)
-    (old : EngineView D) (core : Store D) (session : List ℕ) (seen : Seen) where
+module _ {S O R Q A D : Type 0} (d : Ghosts D) (only : (x : D) (c : Files) → d.left_since x (d.moment x) c → d.may_leave x c) (values : Values S O R Q A)
+    (old : EngineView O R D) (core : Store O R D) (session : List ℕ) (seen : Seen O R) where
   abbrev m : Members D
   m = members d.may_leave d.moment d.left_since d.faults only
 
-  abbrev new : EngineView D
+  abbrev new : EngineView O R D
   new = view_of core old.sessions
 
-  abbrev telling : Telling
-  telling = turn_telling session seen.branch (drop_of seen)
+  abbrev telling : Telling S O R Q A
+  telling = turn_telling values false session seen.branch (drop_of seen)
 
   abbrev name : List ℕ
   name = name_of (store_of old.core.terms.origin old.core.history).branches seen.branch
 
-  abbrev dropped_at : machine.Outcome DocAnswer DocReply
+  abbrev dropped_at : machine.Outcome A R
   dropped_at = machine.DroppedAt seen.branch seen.head
 
   -- what the core answered to the drop
-  pub record Answered (answer : Answer DocAnswer DocReply) : Type 0 where
-    pub takes : Takes {A = DocAnswer} (answers.turn_of document address old.core (drop_of seen)) old.core.history core.history answer
-    pub leaves : answers.Leaves d document address (drop_of seen) old.core core answer
+  pub record Answered (answer : Answer A R) : Type 0 where
+    pub takes : Takes {A = A} (answers.turn_of values.meaning values.address old.core (drop_of seen)) old.core.history core.history answer
+    pub leaves : answers.Leaves d values.meaning values.address (drop_of seen) old.core core answer
 
   -- the machine dropped the branch
   dropped_so : (moves : ℕ) → Answered (Made dropped_at moves)
-      → (made : Move DocOp DocReply) × Moves (doc_fixed address old.core.terms) old.core core (drop_of seen) made dropped_at moves
+      → (made : Move O R) × Moves (fixed_of values old.core.terms) old.core core (drop_of seen) made dropped_at moves
   dropped_so moves a =
       let (made, is) = a.takes.turns in
-      let longer : core.history ≡ old.core.history ++ made ∷ [] = a.takes.history ∙ ap (λ (t : machine.Turn DocOp DocReply DocAnswer). old.core.history ++ t.made) is in (
+      let longer : core.history ≡ old.core.history ++ made ∷ [] = a.takes.history ∙ ap (λ (t : machine.Turn O R A). old.core.history ++ t.made) is in (
         made,
         record {
           worked = a.leaves.worked;
@@ -76,60 +75,60 @@ module _ {D : Type 0} (d : Ghosts D) (only : (x : D) (c : Files) → d.left_sinc
       )
 
   -- each session's look stays at a beginning of the core's history
-  pub looks-behind : (answer : Answer DocAnswer DocReply) → Answered answer → AreLooksAt (held old.core) old.sessions → AreLooksAt (held core) old.sessions
+  pub looks-behind : (answer : Answer A R) → Answered answer → AreLooksAt (held old.core) old.sessions → AreLooksAt (held core) old.sessions
   looks-behind (Made outcome moves) a looks =
-      looks-grow (held old.core) (held core) old.sessions _ looks (ap (λ (k : Store D). k.terms) a.leaves.keeps) a.takes.history
-  looks-behind (Still outcome) a looks = subst (λ (k : Store D). AreLooksAt (held k) old.sessions) (sym a.leaves.keeps) looks
-  looks-behind (Refused why) a looks = subst (λ (k : Store D). AreLooksAt (held k) old.sessions) (sym a.leaves.keeps) looks
+      looks-grow (held old.core) (held core) old.sessions _ looks (ap (λ (k : Store O R D). k.terms) a.leaves.keeps) a.takes.history
+  looks-behind (Still outcome) a looks = subst (λ (k : Store O R D). AreLooksAt (held k) old.sessions) (sym a.leaves.keeps) looks
+  looks-behind (Refused why) a looks = subst (λ (k : Store O R D). AreLooksAt (held k) old.sessions) (sym a.leaves.keeps) looks
   looks-behind Fault a looks = let same : held core ≡ held old.core = ap held a.leaves.keeps in subst (λ k. AreLooksAt k old.sessions) (sym same) looks
-  looks-behind (Failed moves) a looks = subst (λ (k : Store D). AreLooksAt (held k) old.sessions) (sym a.leaves.keeps) looks
-  looks-behind Short a looks = subst (λ (k : Store D). AreLooksAt (held k) old.sessions) (sym a.leaves.keeps) looks
+  looks-behind (Failed moves) a looks = subst (λ (k : Store O R D). AreLooksAt (held k) old.sessions) (sym a.leaves.keeps) looks
+  looks-behind Short a looks = subst (λ (k : Store O R D). AreLooksAt (held k) old.sessions) (sym a.leaves.keeps) looks
 
-  module _ (view : EngineView D) (is_view : old ≡ view) (found : session_named old.sessions session ≡ Some seen) (out out' : List ℕ) (r : Result (Unit {0}) TellRefused) where
+  module _ (view : EngineView O R D) (is_view : old ≡ view) (found : session_named old.sessions session ≡ Some seen) (out out' : List ℕ) (r : Result (Unit {0}) TellRefused) where
     -- what is told of the machine's turn is told of the drop
-    as_drop : DoesSo m address telling old new out out' r → DoesSo m address (drop_telling session) view new out out' r
+    as_drop : DoesSo m values telling old new out out' r → DoesSo m values (drop_telling values session) view new out out' r
     as_drop does =
-        subst (λ (v : EngineView D). DoesSo m address (drop_telling session) v new out out' r) is_view
-        (does_as m address (drop_telling session) telling old new out out' (drop_as m address old session seen found) r does)
+        subst (λ (v : EngineView O R D). DoesSo m values (drop_telling values session) v new out out' r) is_view
+        (does_as m values (drop_telling values session) telling old new out out' (drop_as m values old session seen found) r does)
 
     dropped : (moves : ℕ) → Answered (Made dropped_at moves)
-        → ReadsWhatStands document → IsFullyValid (doc_fixed address old.core.terms) old.core.history → IsFullyValid (doc_fixed address core.terms) core.history
-        → (core.failed ≡ false → AllStand (doc_fixed address core.terms) core.history (d.may_leave core.disk))
-        → Writes (outcome_text [] name dropped_at ++ line_end) out out' r → DoesSo m address (drop_telling session) view new out out' r
+        → ReadsWhatStands values.meaning → IsFullyValid (fixed_of values old.core.terms) old.core.history → IsFullyValid (fixed_of values core.terms) core.history
+        → (core.failed ≡ false → AllStand (fixed_of values core.terms) core.history (d.may_leave core.disk))
+        → Writes (outcome_text values.forms false [] name dropped_at ++ line_end) out out' r → DoesSo m values (drop_telling values session) view new out out' r
     dropped moves a law valid now stands wrote =
         let (made, does) = dropped_so moves a in
-        let whole = whole-so d.may_leave address law core now (stands (ap (λ (k : Store D). k.failed) a.leaves.keeps ∙ a.leaves.worked)) in
-        let works = works_moved m address old telling (drop_of seen) (turn_takes m address old session seen.branch (drop_of seen)) law core made dropped_at moves does valid now
+        let whole = whole-so d.may_leave values law core now (stands (ap (λ (k : Store O R D). k.failed) a.leaves.keeps ∙ a.leaves.worked)) in
+        let works = works_moved m values old telling (drop_of seen) (turn_takes m values old false session seen.branch (drop_of seen)) law core made dropped_at moves does valid now
         (a.leaves.moments a.leaves.worked) a.leaves.faults new refl in
-        as_drop (writes_so m address telling old new out out' (outcome_text session name dropped_at ++ line_end) r works
-        (moved m address old session seen.branch (drop_of seen) core made dropped_at moves does whole refl)
-        (moved_half m address old session seen.branch (drop_of seen) core made dropped_at moves does whole refl) wrote)
+        as_drop (writes_so m values telling old new out out' (outcome_text values.forms false session name dropped_at ++ line_end) r works
+        (moved m values old false session seen.branch (drop_of seen) core made dropped_at moves does whole refl)
+        (moved_half m values old false session seen.branch (drop_of seen) core made dropped_at moves does whole refl) wrote)
 
-    refused : (why : machine.Refusal) → Answered (Refused why) → Writes (refusal_text name why ++ line_end) out out' r → DoesSo m address (drop_telling session) view new out out' r
+    refused : (why : machine.Refusal) → Answered (Refused why) → Writes (refusal_text name why ++ line_end) out out' r → DoesSo m values (drop_telling values session) view new out out' r
     refused why a wrote =
-        as_drop (writes_still m address telling old new out out' (refusal_text name why ++ line_end) r a.leaves.worked
-        (ap (λ (k : Store D). view_of k old.sessions) a.leaves.keeps)
-        (turn_stays m address old session seen.branch (drop_of seen) (machine.Refused why) a.takes.turns refl) wrote)
+        as_drop (writes_still m values telling old new out out' (refusal_text name why ++ line_end) r a.leaves.worked
+        (ap (λ (k : Store O R D). view_of k old.sessions) a.leaves.keeps)
+        (turn_stays m values old false session seen.branch (drop_of seen) (machine.Refused why) a.takes.turns refl) wrote)
 
-    faulted : Answered Fault → ReadsWhatStands document → IsFullyValid (doc_fixed address old.core.terms) old.core.history → out' ≡ out → r ≡ Err refusal.DiskFault
-        → DoesSo m address (drop_telling session) view new out out' r
+    faulted : Answered Fault → ReadsWhatStands values.meaning → IsFullyValid (fixed_of values old.core.terms) old.core.history → out' ≡ out → r ≡ Err refusal.DiskFault
+        → DoesSo m values (drop_telling values session) view new out out' r
     faulted a law valid same is =
-        let takes = turn_takes m address old session seen.branch (drop_of seen) in
-        as_drop (subst (DoesSo m address telling old new out out') (sym is) (subst (λ o. DoesSo m address telling old new out o (Err refusal.DiskFault)) (sym same)
-        (does-fault m address telling old new out a.leaves.keeps (λ name. refl)
-        (moves_too m address old telling (drop_of seen) takes a.takes.turns.0 a.takes.turns.1)
-        (leaves_either m address old telling (drop_of seen) takes law new valid a.leaves.stands.1 (a.leaves.moments a.leaves.worked))
+        let takes = turn_takes m values old false session seen.branch (drop_of seen) in
+        as_drop (subst (DoesSo m values telling old new out out') (sym is) (subst (λ o. DoesSo m values telling old new out o (Err refusal.DiskFault)) (sym same)
+        (does-fault m values telling old new out a.leaves.keeps (λ name. refl)
+        (moves_too m values old telling (drop_of seen) takes a.takes.turns.0 a.takes.turns.1)
+        (leaves_either m values old telling (drop_of seen) takes law new valid a.leaves.stands.1 (a.leaves.moments a.leaves.worked))
         a.leaves.faults.0 a.leaves.faults.1)))
 
-    short : Answered Short → out' ≡ out → r ≡ Err refusal.Memory → DoesSo m address (drop_telling session) view new out out' r
+    short : Answered Short → out' ≡ out → r ≡ Err refusal.Memory → DoesSo m values (drop_telling values session) view new out out' r
     short a same is =
-        as_drop (subst (λ o. DoesSo m address telling old new out o r) (sym same)
-        (nothing_done m address telling old new out r is a.leaves.worked (ap (λ (k : Store D). view_of k old.sessions) a.leaves.keeps)))
+        as_drop (subst (λ o. DoesSo m values telling old new out o r) (sym same)
+        (nothing_done m values telling old new out r is a.leaves.worked (ap (λ (k : Store O R D). view_of k old.sessions) a.leaves.keeps)))
 
-    pub told-as : (answer : Result ℕ DropRefused) → Answered (drop_answered seen answer) → old.core.failed ≡ false
-        → ReadsWhatStands document → IsFullyValid (doc_fixed address old.core.terms) old.core.history → IsFullyValid (doc_fixed address core.terms) core.history
-        → (core.failed ≡ false → AllStand (doc_fixed address core.terms) core.history (d.may_leave core.disk))
-        → RepliesAs name (drop_answered seen answer) out out' r → DoesSo m address (drop_telling session) view new out out' r
+    pub told-as : (answer : Result ℕ DropRefused) → Answered (drop_answer seen answer) → old.core.failed ≡ false
+        → ReadsWhatStands values.meaning → IsFullyValid (fixed_of values old.core.terms) old.core.history → IsFullyValid (fixed_of values core.terms) core.history
+        → (core.failed ≡ false → AllStand (fixed_of values core.terms) core.history (d.may_leave core.disk))
+        → RepliesAs values.forms name (drop_answer seen answer) out out' r → DoesSo m values (drop_telling values session) view new out out' r
     told-as (Ok moves) a worked law valid now stands replies = dropped moves a law valid now stands replies
     told-as (Err (drop_refusal.Dropped branch)) a worked law valid now stands replies = refused (machine.Dropped branch) a replies
     told-as (Err drop_refusal.KeepsMain) a worked law valid now stands replies = refused machine.KeepsMain a replies

@@ -1,3 +1,4 @@
+pub mod Values
 pub mod Machines
 pub mod Played
 pub mod Turned

@@ -1,8 +1,9 @@
--- The machine that keeps objects runs the lines of a script, with what each named session sees.
-use Rattle.std.specs.Prelude.{ℕ, List, [], ◌∷◌, ◌++◌, Result, Ok, Err, Some, None}
+-- The machine that keeps objects runs the lines of a script, with what each named session sees, for stores of any type
+-- whose operations, queries, replies and answers have plain forms.
+use Rattle.std.specs.Prelude.{ℕ, Bool, false, List, [], ◌∷◌, ◌++◌, Result, Ok, Err, Some, None}
 use Rattle.std.specs.declared.option.Option.{Option}
-use Rattle.branch_doc.specs.Document.{DocState}
-use Rattle.branch_doc.specs.Forms.{DocOp, DocReply, DocQuery, DocAnswer, doc_op, doc_query}
+use Rattle.branch_doc.specs.declared.plain.PlainOp.{PlainOp}
+use Rattle.branch_doc.specs.Types.{PlainForms}
 use Rattle.branch_history.specs.declared.moves.Move.{Move}
 use Rattle.branch_names.specs.Heads.{name_of}
 use Rattle.branch_history.specs.History.{store_of}
@@ -13,28 +14,24 @@ use Rattle.branch_script.specs.declared.step.Step.{Step}
 use Rattle.branch_script.specs.declared.step.Step.TheVariants.{Look, Fork, Merge, Join, Drop, Do, Ask}
 use Rattle.branch_script.specs.declared.step.LineRefused.{LineRefused}
 use Rattle.branch_script.specs.Script.{step_of}
-use Rattle.branch_print.specs.Texts.{outcome_text, line_refusal_text, unseen_text, no_sequences_text, line_end}
+use Rattle.branch_print.specs.Texts.{takes_item, outcome_text, line_refusal_text, unseen_text, no_sequences_text, line_end}
 use Rattle.branch_engine.specs.Sessions.{Sight, Session, seen_by}
 
--- what is fixed for a store of documents
-abbrev pub DocFixed : Type 1
-DocFixed = Fixed DocState DocOp DocReply DocQuery DocAnswer
-
-abbrev pub History : Type 0
-History = List (Move DocOp DocReply)
+abbrev pub History : Type 0 → Type 0 → Type 0
+History O R = List (Move O R)
 
 -- the history so far, and what sessions came to see, the newest first
-pub record Play : Type 0 where
-  pub moves : History
+pub record Play (O R : Type 0) : Type 0 where
+  pub moves : History O R
   pub sessions : List Session
 
 -- the text that a line is answered with, and the play after it
-pub record Told : Type 0 where
+pub record Told (O R : Type 0) : Type 0 where
   pub text : List ℕ
-  pub after : Play
+  pub after : Play O R
 
 -- after a look, or a move of its own on the branch of this number, a session sees the head that it gave
-abbrev pub sight_after : ℕ → machine.Outcome DocAnswer DocReply → Option Sight
+abbrev pub sight_after : {A R : Type 0} → ℕ → machine.Outcome A R → Option Sight
 sight_after branch (machine.Sees number head) = Some (record { branch = number; head = head })
 sight_after branch (machine.Landed commit time reply) = Some (record { branch = branch; head = commit })
 sight_after branch (machine.Merged commit) = Some (record { branch = branch; head = commit })
@@ -48,114 +45,118 @@ with_sight sessions name None = sessions
 with_sight sessions name (Some sight) = (record { name = name; sight = sight }) ∷ sessions
 
 -- a text alone
-abbrev pub says : Play → List ℕ → Told
+abbrev pub says : {O R : Type 0} → Play O R → List ℕ → Told O R
 says p text = record { text = text ++ line_end; after = p }
 
--- a turn of the machine for a session, on the branch of this number and name
-abbrev pub told : Play → List ℕ → ℕ → List ℕ → machine.Turn DocOp DocReply DocAnswer → Told
-told p session number branch t = record {
-  text = outcome_text session branch t.outcome ++ line_end;
-  after = record { moves = p.moves ++ t.made; sessions = with_sight p.sessions session (sight_after number t.outcome) };
-}
-
--- a step of the machine for a session, on the branch of this number
-abbrev pub turn_told : DocFixed → Play → List ℕ → ℕ → machine.Step DocOp DocQuery → Told
-turn_told fixed p session number step = told p session number (name_of (store_of fixed.terms.origin p.moves).branches number) (full_turn fixed p.moves step)
-
--- an operation of a session that sees this, where the store has values of its kind; only sequences it may lack
-abbrev pub op_told : DocFixed → Play → List ℕ → Sight → Option DocOp → Told
-op_told fixed p session sight None = says p no_sequences_text
-op_told fixed p session sight (Some op) = turn_told fixed p session sight.branch (machine.Land sight.branch sight.head op)
-
--- and given what the session sees, if anything
-abbrev pub do_told : DocFixed → Play → List ℕ → Option DocOp → Option Sight → Told
-do_told fixed p session op None = says p (unseen_text session)
-do_told fixed p session op (Some sight) = op_told fixed p session sight op
-
--- a merge of the branch of this name into the one that a session sees, given the outcome of a look at the former: its head is merged
-abbrev pub head_merged_told : DocFixed → Play → List ℕ → List ℕ → Sight → machine.Outcome DocAnswer DocReply → Told
-head_merged_told fixed p session from sight (machine.Sees number head) = turn_told fixed p session sight.branch (machine.Merge sight.branch sight.head (head ∷ []))
-head_merged_told fixed p session from sight outcome = says p (outcome_text session from outcome)
-
--- and given what the session sees, if anything
-abbrev pub merge_told : DocFixed → Play → List ℕ → List ℕ → Option Sight → Told
-merge_told fixed p session from None = says p (unseen_text session)
-merge_told fixed p session from (Some sight) = head_merged_told fixed p session from sight (full_turn fixed p.moves (machine.Look from)).outcome
-
 -- the heads of the branches with these names, or the first of the names that no branch has
-abbrev pub and_head : List ℕ → machine.Outcome DocAnswer DocReply → Result (List ℕ) (List ℕ) → Result (List ℕ) (List ℕ)
+abbrev pub and_head : {A R : Type 0} → List ℕ → machine.Outcome A R → Result (List ℕ) (List ℕ) → Result (List ℕ) (List ℕ)
 and_head name (machine.Sees number head) (Ok heads) = Ok (head ∷ heads)
 and_head name (machine.Sees number head) (Err unknown) = Err unknown
 and_head name outcome rest = Err name
 
-abbrev pub heads_named : DocFixed → Play → List (List ℕ) → Result (List ℕ) (List ℕ)
+abbrev pub heads_named : {S O R Q A : Type 0} → Fixed S O R Q A → Play O R → List (List ℕ) → Result (List ℕ) (List ℕ)
 heads_named fixed p [] = Ok []
 heads_named fixed p (name ∷ names) =
     and_head name (full_turn fixed p.moves (machine.Look name)).outcome (heads_named fixed p names)
 
--- a join of branches into the one that a session sees, given their heads: all of them are merged at once
-abbrev pub heads_joined_told : DocFixed → Play → List ℕ → Sight → Result (List ℕ) (List ℕ) → Told
-heads_joined_told fixed p session sight (Err name) =
-    says p (outcome_text session name (machine.Refused (machine.UnknownBranch name)))
-heads_joined_told fixed p session sight (Ok heads) =
-    turn_told fixed p session sight.branch (machine.Merge sight.branch sight.head heads)
-
--- and given the names of the branches, and what the session sees, if anything
-abbrev pub join_told : DocFixed → Play → List ℕ → List (List ℕ) → Option Sight → Told
-join_told fixed p session from None = says p (unseen_text session)
-join_told fixed p session from (Some sight) =
-    heads_joined_told fixed p session sight (heads_named fixed p from)
-
--- a drop of the branch that a session sees, from the head that it sees, given what that is; it sees the same as before
-abbrev pub drop_told : DocFixed → Play → List ℕ → Option Sight → Told
-drop_told fixed p session None = says p (unseen_text session)
-drop_told fixed p session (Some sight) =
-    turn_told fixed p session sight.branch (machine.Drop sight.branch sight.head)
-
--- a query at a branch with this head, where the store has values of its kind; only sequences it may lack
-abbrev pub query_told : DocFixed → Play → List ℕ → ℕ → Option DocQuery → Told
-query_told fixed p branch head None = says p no_sequences_text
-query_told fixed p branch head (Some query) = says p (outcome_text [] branch (full_turn fixed p.moves (machine.Ask head query)).outcome)
-
--- and given the outcome of a look at the branch: it is asked at the head
-abbrev pub ask_told : DocFixed → Play → List ℕ → Option DocQuery → machine.Outcome DocAnswer DocReply → Told
-ask_told fixed p branch query (machine.Sees number head) = query_told fixed p branch head query
-ask_told fixed p branch query outcome = says p (outcome_text [] branch outcome)
-
-unfoldable pub step_told : DocFixed → Play → Step → Told
-step_told fixed p (Look session branch) = told p session 0 branch (full_turn fixed p.moves (machine.Look branch))
-step_told fixed p (Fork new from) = told p [] 0 new (full_turn fixed p.moves (machine.Fork new from))
-step_told fixed p (Merge session from) = merge_told fixed p session from (seen_by p.sessions session)
-step_told fixed p (Join session from) = join_told fixed p session from (seen_by p.sessions session)
-step_told fixed p (Drop session) = drop_told fixed p session (seen_by p.sessions session)
-step_told fixed p (Do session op) = do_told fixed p session (doc_op op) (seen_by p.sessions session)
-step_told fixed p (Ask branch query) = ask_told fixed p branch (doc_query query) (full_turn fixed p.moves (machine.Look branch)).outcome
-
--- an empty line or a comment is not answered; another line is, also where it is no step
-abbrev pub read_told : DocFixed → Play → Result (Option Step) LineRefused → Told
-read_told fixed p (Ok None) = record { text = []; after = p }
-read_told fixed p (Ok (Some step)) = step_told fixed p step
-read_told fixed p (Err refusal) = says p (line_refusal_text refusal)
-
-abbrev pub line_told : DocFixed → Play → List ℕ → Told
-line_told fixed p line = read_told fixed p (step_of line)
-
--- the text of lines, from a play on, and the play after them
-abbrev pub text_from : DocFixed → Play → List (List ℕ) → List ℕ
-text_from fixed p [] = []
-text_from fixed p (line ∷ lines) = (line_told fixed p line).text ++ text_from fixed (line_told fixed p line).after lines
-
-abbrev pub after_from : DocFixed → Play → List (List ℕ) → Play
-after_from fixed p [] = p
-after_from fixed p (line ∷ lines) = after_from fixed (line_told fixed p line).after lines
+-- a turn of the machine for a session, on the branch of this number and name, for a type of these plain forms; of a step
+-- it is told whether it takes an item out of a sequence
+abbrev pub told : {O R Q A : Type 0} → PlainForms O Q R A → Bool → Play O R → List ℕ → ℕ → List ℕ → machine.Turn O R A → Told O R
+told forms takes p session number branch t = record {
+  text = outcome_text forms takes session branch t.outcome ++ line_end;
+  after = record { moves = p.moves ++ t.made; sessions = with_sight p.sessions session (sight_after number t.outcome) };
+}
 
 -- a play over a history, in which no session has looked
-abbrev pub begins : History → Play
+abbrev pub begins : {O R : Type 0} → History O R → Play O R
 begins moves = record { moves = moves; sessions = [] }
 
--- the text of lines over a history, and the history after them
-unfoldable pub text_of : DocFixed → History → List (List ℕ) → List ℕ
-text_of fixed moves lines = text_from fixed (begins moves) lines
+-- the plain forms of a type, and what is fixed for a store of it
+module _ {S O R Q A : Type 0} (forms : PlainForms O Q R A) (fixed : Fixed S O R Q A) where
+  -- a step of the machine for a session, on the branch of this number
+  abbrev pub turn_told : Bool → Play O R → List ℕ → ℕ → machine.Step O Q → Told O R
+  turn_told takes p session number step =
+      told forms takes p session number (name_of (store_of fixed.terms.origin p.moves).branches number) (full_turn fixed p.moves step)
 
-unfoldable pub after_lines : DocFixed → History → List (List ℕ) → History
-after_lines fixed moves lines = (after_from fixed (begins moves) lines).moves
+  -- an operation of a session that sees this, where the store has values of its kind; only sequences it may lack
+  abbrev pub op_told : Bool → Play O R → List ℕ → Sight → Option O → Told O R
+  op_told takes p session sight None = says p no_sequences_text
+  op_told takes p session sight (Some op) = turn_told takes p session sight.branch (machine.Land sight.branch sight.head op)
+
+  -- and given what the session sees, if anything
+  abbrev pub do_told : Play O R → List ℕ → PlainOp → Option Sight → Told O R
+  do_told p session op None = says p (unseen_text session)
+  do_told p session op (Some sight) = op_told (takes_item op) p session sight (forms.op op)
+
+  -- a merge of the branch of this name into the one that a session sees, given the outcome of a look at the former: its head is merged
+  abbrev pub head_merged_told : Play O R → List ℕ → List ℕ → Sight → machine.Outcome A R → Told O R
+  head_merged_told p session from sight (machine.Sees number head) =
+      turn_told false p session sight.branch (machine.Merge sight.branch sight.head (head ∷ []))
+  head_merged_told p session from sight outcome = says p (outcome_text forms false session from outcome)
+
+  -- and given what the session sees, if anything
+  abbrev pub merge_told : Play O R → List ℕ → List ℕ → Option Sight → Told O R
+  merge_told p session from None = says p (unseen_text session)
+  merge_told p session from (Some sight) = head_merged_told p session from sight (full_turn fixed p.moves (machine.Look from)).outcome
+
+  -- a join of branches into the one that a session sees, given their heads: all of them are merged at once
+  abbrev pub heads_joined_told : Play O R → List ℕ → Sight → Result (List ℕ) (List ℕ) → Told O R
+  heads_joined_told p session sight (Err name) =
+      says p (outcome_text forms false session name (machine.Refused (machine.UnknownBranch name)))
+  heads_joined_told p session sight (Ok heads) =
+      turn_told false p session sight.branch (machine.Merge sight.branch sight.head heads)
+
+  -- and given the names of the branches, and what the session sees, if anything
+  abbrev pub join_told : Play O R → List ℕ → List (List ℕ) → Option Sight → Told O R
+  join_told p session from None = says p (unseen_text session)
+  join_told p session from (Some sight) = heads_joined_told p session sight (heads_named fixed p from)
+
+  -- a drop of the branch that a session sees, from the head that it sees, given what that is; it sees the same as before
+  abbrev pub drop_told : Play O R → List ℕ → Option Sight → Told O R
+  drop_told p session None = says p (unseen_text session)
+  drop_told p session (Some sight) = turn_told false p session sight.branch (machine.Drop sight.branch sight.head)
+
+  -- a query at a branch with this head, where the store has values of its kind; only sequences it may lack
+  abbrev pub query_told : Play O R → List ℕ → ℕ → Option Q → Told O R
+  query_told p branch head None = says p no_sequences_text
+  query_told p branch head (Some query) =
+      says p (outcome_text forms false [] branch (full_turn fixed p.moves (machine.Ask head query)).outcome)
+
+  -- and given the outcome of a look at the branch: it is asked at the head
+  abbrev pub ask_told : Play O R → List ℕ → Option Q → machine.Outcome A R → Told O R
+  ask_told p branch query (machine.Sees number head) = query_told p branch head query
+  ask_told p branch query outcome = says p (outcome_text forms false [] branch outcome)
+
+  unfoldable pub step_told : Play O R → Step → Told O R
+  step_told p (Look session branch) = told forms false p session 0 branch (full_turn fixed p.moves (machine.Look branch))
+  step_told p (Fork new from) = told forms false p [] 0 new (full_turn fixed p.moves (machine.Fork new from))
+  step_told p (Merge session from) = merge_told p session from (seen_by p.sessions session)
+  step_told p (Join session from) = join_told p session from (seen_by p.sessions session)
+  step_told p (Drop session) = drop_told p session (seen_by p.sessions session)
+  step_told p (Do session op) = do_told p session op (seen_by p.sessions session)
+  step_told p (Ask branch query) = ask_told p branch (forms.query query) (full_turn fixed p.moves (machine.Look branch)).outcome
+
+  -- an empty line or a comment is not answered; another line is, also where it is no step
+  abbrev pub read_told : Play O R → Result (Option Step) LineRefused → Told O R
+  read_told p (Ok None) = record { text = []; after = p }
+  read_told p (Ok (Some step)) = step_told p step
+  read_told p (Err refusal) = says p (line_refusal_text refusal)
+
+  abbrev pub line_told : Play O R → List ℕ → Told O R
+  line_told p line = read_told p (step_of line)
+
+  -- the text of lines, from a play on, and the play after them
+  abbrev pub text_from : Play O R → List (List ℕ) → List ℕ
+  text_from p [] = []
+  text_from p (line ∷ lines) = (line_told p line).text ++ text_from (line_told p line).after lines
+
+  abbrev pub after_from : Play O R → List (List ℕ) → Play O R
+  after_from p [] = p
+  after_from p (line ∷ lines) = after_from (line_told p line).after lines
+
+  -- the text of lines over a history, and the history after them
+  unfoldable pub text_of : History O R → List (List ℕ) → List ℕ
+  text_of moves lines = text_from (begins moves) lines
+
+  unfoldable pub after_lines : History O R → List (List ℕ) → History O R
+  after_lines moves lines = (after_from (begins moves) lines).moves

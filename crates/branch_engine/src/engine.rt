@@ -8,9 +8,9 @@ ghost use Rattle.store_seen.specs.Turns.{step_of};
 ghost use Rattle.store_core.specs.Views.{held};
 ghost use Rattle.branch_print.specs.Texts.{refusal_text, line_end};
 ghost use Rattle.mrdt_model.specs.Spelled.{AppendsPart};
-ghost use Rattle.branch_engine.specs.Readings.{doc_fixed};
-ghost use Rattle.store_core.specs.Answers.{had_failed};
-ghost use Rattle.branch_engine.specs.Engines.{IsAt, Does, Puts, KeepsLooks, SeesHead, kind_text, ungrouped_text, drop_answered, RepliesAs};
+ghost use Rattle.branch_machine.specs.Fixed.{fix};
+ghost use Rattle.store_core.specs.Answers.{had_failed, drop_answer};
+ghost use Rattle.branch_engine.specs.Engines.{IsAt, Does, Puts, KeepsLooks, SeesHead, kind_text, ungrouped_text, RepliesAs};
 ghost use Rattle.branch_engine.specs.Play.{begins, turn_told, step_told, line_told};
 ghost use Rattle.branch_script.specs.declared.step.Step.TheVariants as step;
 ghost use Rattle.store_seen.specs.declared.answers.PairRefused.TheVariants as pair_refusal;
@@ -18,7 +18,7 @@ ghost use Rattle.store_seen.specs.declared.answers.PairRefused.TheVariants as pa
 use crate::refused::TellRefused;
 use branch_address::Address;
 use branch_disk::Disk;
-use branch_doc::{DocReply, PlainOp, PlainQuery};
+use branch_doc::{Forms, PlainOp, PlainQuery};
 use branch_files::laws::reads_what_stands;
 use branch_names::Name;
 use branch_print::refusals::{
@@ -28,10 +28,9 @@ use branch_print::refusals::{
 };
 use branch_print::replies::{
     put_answer, put_dropped_branch, put_forked, put_forward, put_joined, put_landed, put_merged,
-    put_same, put_sees,
+    put_same, put_sees, takes_item,
 };
 use branch_script::{LineRefused, Step, read_line};
-use mrdt_doc::Doc;
 use mrdt_model::Memory;
 use std::alloc::Global;
 use std::collections::BTreeMap;
@@ -41,20 +40,20 @@ use store_core::{
     PairRefused, PairStep, PrepareRefused, Prepared, Seen,
 };
 
-/// A core of documents on a disk, and what each session sees. Contracts see an `EngineView`: the core's view, and
-/// that of each session's look.
+/// A core on a disk, and what each session sees, for values of a type with plain forms. Contracts see an `EngineView`: the
+/// core's view, and that of each session's look.
 #[derive(Drop)]
-pub struct Engine<D: Disk + Drop, A: Address> {
+pub struct Engine<T: Forms, D: Disk + Drop, A: Address> {
     alloc: Global,
-    core: Core<Doc, D, A>,
-    sessions: BTreeMap<Name, Seen<Doc>>,
+    core: Core<T, D, A>,
+    sessions: BTreeMap<Name, Seen<T>>,
 }
 
-impl<D: Disk + Drop, A: Address> Model for Engine<D, A> {
+impl<T: Forms, D: Disk + Drop, A: Address> Model for Engine<T, D, A> {
     ghost use Rattle.store_core.specs.Views.{held};
     ghost use Rattle.branch_engine.specs.Engines.{EngineView, AreLooksAt};
 
-    ghost Value = { EngineView D };
+    ghost Value = { EngineView T.Op T.Reply D };
 
     ghost view = { λ e. record { core = e.core; sessions = e.sessions.entries } };
 
@@ -76,18 +75,19 @@ fn set_session<S: Drop>(
     }
 }
 
-// What landed.
-fn put_kind(out: &mut Vec<u8>, kind: Kind<DocReply>) -> Result<(), Memory>
-    ensures ok { OnOk result (out.new.items ≡ out.old.items ++ (kind_text kind ++ line_end)) }
+// What landed, and of an operation whether it takes an item out of a sequence.
+fn put_kind<T: Forms>(out: &mut Vec<u8>, takes: bool, kind: Kind<T::Reply>) -> Result<(), Memory>
+    ensures ok { OnOk result (out.new.items
+        ≡ out.old.items ++ (kind_text T.forms.reply takes kind ++ line_end)) }
     ensures err { OnErr result
-        (AppendsPart out.old.items out.new.items (kind_text kind ++ line_end)) }
+        (AppendsPart out.old.items out.new.items (kind_text T.forms.reply takes kind ++ line_end)) }
 {
     match kind {
         Kind::Operation {
             commit,
             time,
             reply,
-        } => put_landed(out, commit, time, &branch_doc::reply(reply)),
+        } => put_landed(out, commit, time, takes, &T::reply(reply)),
         Kind::Merged { commit } => put_merged(out, commit),
         Kind::Joined { commit } => put_joined(out, commit),
         Kind::Forward { commit } => put_forward(out, commit),
@@ -108,8 +108,8 @@ fn put_ungrouped(out: &mut Vec<u8>, refused: PairRefused) -> Result<(), Memory>
 }
 
 // The name of the branch of this number; of a dropped one the name that it had.
-fn name_at<D: Disk + Drop, A: Address>(core: &Core<Doc, D, A>, branch: u32) -> Name
-    requires { branch < length (store_of core.now.terms.origin core.now.history).branches }
+fn name_at<T: Forms, D: Disk + Drop, A: Address>(core: &Core<T, D, A>, branch: u32) -> Name
+    requires within { branch < length (store_of core.now.terms.origin core.now.history).branches }
     ensures { result ≡ name_of (store_of core.now.terms.origin core.now.history).branches branch }
 {
     let (name, _) = core.branch(branch).unwrap();
@@ -117,14 +117,15 @@ fn name_at<D: Disk + Drop, A: Address>(core: &Core<Doc, D, A>, branch: u32) -> N
 }
 
 // Replies what the core answered to a drop of what was seen, on the branch with this name.
-fn put_drop(
+fn put_drop<T: Forms>(
     out: &mut Vec<u8>,
     name: &Name,
-    seen: &Seen<Doc>,
+    seen: &Seen<T>,
     answer: Result<u64, DropRefused>,
 ) -> Result<(), TellRefused>
-    requires { had_failed (drop_answered seen.now answer) ≡ false }
-    ensures { RepliesAs name.now (drop_answered seen.now answer) out.old.items out.new.items
+    requires worked { had_failed {A = T.Answer} {R = T.Reply} (drop_answer seen.now answer)
+        ≡ false }
+    ensures { RepliesAs T.forms name.now (drop_answer seen.now answer) out.old.items out.new.items
         result }
 {
     match answer {
@@ -147,14 +148,14 @@ fn replied(written: Result<(), Memory>) -> Result<(), TellRefused>
     Ok(written?)
 }
 
-impl<D: Disk + Drop, A: Address> Engine<D, A> {
+impl<T: Forms, D: Disk + Drop, A: Address> Engine<T, D, A> {
     /// An engine over a core, of which no session has looked.
-    pub fn new(alloc: Global, core: Core<Doc, D, A>) -> Engine<D, A>
+    pub fn new(alloc: Global, core: Core<T, D, A>) -> Engine<T, D, A>
         ensures core { result.core ≡ core }
         ensures begins { core.failed ≡ false
-            → IsAt D.may_leave (doc_fixed A.address core.terms) result (begins core.history) }
+            → IsAt D.may_leave (fix T.meaning core.terms A.address) result (begins core.history) }
     {
-        reads_what_stands::<Doc>();
+        reads_what_stands::<T>();
         let _ = core.moves();
         Engine {
             alloc,
@@ -164,7 +165,7 @@ impl<D: Disk + Drop, A: Address> Engine<D, A> {
     }
 
     // The session sees this from now on.
-    fn sees(&mut self, session: &Name, seen: Seen<Doc>) -> Result<(), Memory>
+    fn sees(&mut self, session: &Name, seen: Seen<T>) -> Result<(), Memory>
         requires history { IsPrefix seen.history self.old.core.history }
         requires terms { seen.terms ≡ self.old.core.terms }
         ensures core { self.new.core ≡ self.old.core }
@@ -176,8 +177,8 @@ impl<D: Disk + Drop, A: Address> Engine<D, A> {
 
     // The session sees the head of the branch of this number, which was not dropped, from now on.
     fn sees_head(&mut self, session: &Name, branch: u32) -> Result<(), Memory>
-        requires { IsKeptBranch (store_of self.old.core.terms.origin self.old.core.history).branches
-            branch }
+        requires kept { IsKeptBranch
+            (store_of self.old.core.terms.origin self.old.core.history).branches branch }
         ensures core { self.new.core ≡ self.old.core }
         ensures sees { OnOk result (SeesHead self.old self.new session.now branch) }
         ensures kept { OnErr result (KeepsLooks self.old.sessions self.new.sessions) }
@@ -193,8 +194,9 @@ impl<D: Disk + Drop, A: Address> Engine<D, A> {
     // A session looks at a branch.
     fn look(&mut self, out: &mut Vec<u8>, session: &Name, branch: &Name) -> Result<(), TellRefused>
         requires { self.old.core.failed ≡ false }
-        ensures { Does D.may_leave D.moment D.left_since D.faults A.address (λ fixed p.
-            step_told fixed p (step.Look session.now branch.now)) self.old self.new out.old.items
+        ensures { Does D.may_leave D.moment D.left_since D.faults T.meaning A.address (λ fixed p.
+            step_told T.forms fixed p (step.Look session.now branch.now)) self.old self.new
+            out.old.items
             out.new.items result }
     {
         match self.core.look(branch) {
@@ -210,11 +212,11 @@ impl<D: Disk + Drop, A: Address> Engine<D, A> {
     // A branch is forked from another.
     fn fork(&mut self, out: &mut Vec<u8>, new: &Name, from: &Name) -> Result<(), TellRefused>
         requires { self.old.core.failed ≡ false }
-        ensures { Does D.may_leave D.moment D.left_since D.faults A.address (λ fixed p.
-            step_told fixed p (step.Fork new.now from.now)) self.old self.new out.old.items
+        ensures { Does D.may_leave D.moment D.left_since D.faults T.meaning A.address (λ fixed p.
+            step_told T.forms fixed p (step.Fork new.now from.now)) self.old self.new out.old.items
             out.new.items result }
     {
-        reads_what_stands::<Doc>();
+        reads_what_stands::<T>();
         let _ = self.core.moves();
         let forked = match self.core.fork(*new, from) {
             Ok(forked) => forked,
@@ -233,10 +235,11 @@ impl<D: Disk + Drop, A: Address> Engine<D, A> {
     }
 
     // A query is asked at the head of a branch.
-    fn ask(&self, out: &mut Vec<u8>, branch: &Name, query: PlainQuery) -> Result<(), TellRefused>
+    fn ask(&self, out: &mut Vec<u8>, branch: &Name, query: &PlainQuery) -> Result<(), TellRefused>
         requires { self.now.core.failed ≡ false }
-        ensures { Does D.may_leave D.moment D.left_since D.faults A.address (λ fixed p.
-            step_told fixed p (step.Ask branch.now query)) self.now self.now out.old.items
+        ensures { Does D.may_leave D.moment D.left_since D.faults T.meaning A.address (λ fixed p.
+            step_told T.forms fixed p (step.Ask branch.now query.now)) self.now self.now
+            out.old.items
             out.new.items result }
     {
         let seen = match self.core.look(branch) {
@@ -244,29 +247,32 @@ impl<D: Disk + Drop, A: Address> Engine<D, A> {
             Err(LookRefused::UnknownBranch { .. }) => return replied(put_unknown(out, branch)),
             Err(LookRefused::Memory) => return Err(TellRefused::Memory),
         };
-        let Some(query) = branch_doc::query(query) else {
+        let query = T::query(query)?;
+        let Some(query) = query else {
             return replied(put_no_sequences(out));
         };
         let answer = seen.ask(&query)?;
-        replied(put_answer(out, &branch_doc::answer(answer)))
+        replied(put_answer(out, &<T as Forms>::answer(answer)))
     }
 
     // A session lands an operation on the branch that it sees.
-    fn land(&mut self, out: &mut Vec<u8>, session: &Name, op: PlainOp) -> Result<(), TellRefused>
+    fn land(&mut self, out: &mut Vec<u8>, session: &Name, op: &PlainOp) -> Result<(), TellRefused>
         requires { self.old.core.failed ≡ false }
-        ensures { Does D.may_leave D.moment D.left_since D.faults A.address (λ fixed p.
-            step_told fixed p (step.Do session.now op)) self.old self.new out.old.items
+        ensures { Does D.may_leave D.moment D.left_since D.faults T.meaning A.address (λ fixed p.
+            step_told T.forms fixed p (step.Do session.now op.now)) self.old self.new out.old.items
             out.new.items result }
     {
         let Some(seen) = self.sessions.get(session) else {
             return replied(put_unseen(out, session));
         };
-        let Some(op) = branch_doc::op(op) else {
+        let takes = takes_item(op);
+        let op = T::op(op)?;
+        let Some(op) = op else {
             return replied(put_no_sequences(out));
         };
         let branch = seen.branch();
         match seen.prepare(op) {
-            Ok(prepared) => self.move_on(out, session, branch, prepared),
+            Ok(prepared) => self.move_on(out, session, branch, takes, prepared),
             Err(PrepareRefused::Exhausted { clock }) => replied(put_exhausted(out, clock)),
             Err(PrepareRefused::ValueTooLarge { length }) => replied(put_too_large(out, length)),
             Err(PrepareRefused::Memory) => Err(TellRefused::Memory),
@@ -276,8 +282,9 @@ impl<D: Disk + Drop, A: Address> Engine<D, A> {
     // The head of a branch is merged into the branch that a session sees.
     fn merge(&mut self, out: &mut Vec<u8>, session: &Name, from: &Name) -> Result<(), TellRefused>
         requires { self.old.core.failed ≡ false }
-        ensures { Does D.may_leave D.moment D.left_since D.faults A.address (λ fixed p.
-            step_told fixed p (step.Merge session.now from.now)) self.old self.new out.old.items
+        ensures { Does D.may_leave D.moment D.left_since D.faults T.meaning A.address (λ fixed p.
+            step_told T.forms fixed p (step.Merge session.now from.now)) self.old self.new
+            out.old.items
             out.new.items result }
     {
         let Some(seen) = self.sessions.get(session) else {
@@ -294,7 +301,7 @@ impl<D: Disk + Drop, A: Address> Engine<D, A> {
             Ok(PairStep::Land(prepared)) => {
                 // The core lands in place where no pair shares its nodes.
                 drop(pair);
-                self.move_on(out, session, branch, prepared)
+                self.move_on(out, session, branch, false, prepared)
             }
             Err(PairPrepareRefused::ValueTooLarge { length }) => replied(put_too_large(
                 out, length,
@@ -308,8 +315,9 @@ impl<D: Disk + Drop, A: Address> Engine<D, A> {
         requires working { self.old.core.failed ≡ false }
         requires some { 1 ≤ length from.now }
         requires few { length from.now ≤ 8 }
-        ensures { Does D.may_leave D.moment D.left_since D.faults A.address (λ fixed p.
-            step_told fixed p (step.Join session.now from.now)) self.old self.new out.old.items
+        ensures { Does D.may_leave D.moment D.left_since D.faults T.meaning A.address (λ fixed p.
+            step_told T.forms fixed p (step.Join session.now from.now)) self.old self.new
+            out.old.items
             out.new.items result }
     {
         let Some(seen) = self.sessions.get(session) else {
@@ -325,7 +333,7 @@ impl<D: Disk + Drop, A: Address> Engine<D, A> {
             Ok(PairStep::Land(prepared)) => {
                 // The core lands in place where no group shares its nodes.
                 drop(group);
-                self.move_on(out, session, branch, prepared)
+                self.move_on(out, session, branch, false, prepared)
             }
             Err(PairPrepareRefused::ValueTooLarge { length }) => replied(put_too_large(
                 out, length,
@@ -337,11 +345,12 @@ impl<D: Disk + Drop, A: Address> Engine<D, A> {
     // The branch that a session sees is dropped, from the head that it sees. The session goes on seeing it.
     fn drop_seen(&mut self, out: &mut Vec<u8>, session: &Name) -> Result<(), TellRefused>
         requires { self.old.core.failed ≡ false }
-        ensures { Does D.may_leave D.moment D.left_since D.faults A.address (λ fixed p.
-            step_told fixed p (step.Drop session.now)) self.old self.new out.old.items out.new.items
+        ensures { Does D.may_leave D.moment D.left_since D.faults T.meaning A.address (λ fixed p.
+            step_told T.forms fixed p (step.Drop session.now)) self.old self.new out.old.items
+            out.new.items
             result }
     {
-        reads_what_stands::<Doc>();
+        reads_what_stands::<T>();
         let _ = self.core.moves();
         let Some(seen) = self.sessions.get(session) else {
             return replied(put_unseen(out, session));
@@ -352,13 +361,15 @@ impl<D: Disk + Drop, A: Address> Engine<D, A> {
         put_drop(out, &name, seen, answer)
     }
 
-    // Lands what was prepared for a session on the branch of this number. The session then sees the new head.
+    // Lands what was prepared for a session on the branch of this number, and of an operation whether it takes an item out
+    // of a sequence. The session then sees the new head.
     fn move_on(
         &mut self,
         out: &mut Vec<u8>,
         session: &Name,
         branch: u32,
-        prepared: Prepared<Doc>,
+        takes: bool,
+        prepared: Prepared<T>,
     ) -> Result<(), TellRefused>
         requires working { self.old.core.failed ≡ false }
         requires history { IsPrefix prepared.seen.history self.old.core.history }
@@ -366,16 +377,17 @@ impl<D: Disk + Drop, A: Address> Engine<D, A> {
         requires branch { prepared.seen.branch ≡ branch }
         requires within { branch
             < length (store_of self.old.core.terms.origin self.old.core.history).branches }
-        ensures { Does D.may_leave D.moment D.left_since D.faults A.address (λ fixed p.
-            turn_told fixed p session.now branch (step_of prepared.seen prepared.work)) self.old
+        ensures { Does D.may_leave D.moment D.left_since D.faults T.meaning A.address (λ fixed p.
+            turn_told T.forms fixed takes p session.now branch
+            (step_of prepared.seen prepared.work)) self.old
             self.new out.old.items out.new.items result }
     {
-        reads_what_stands::<Doc>();
+        reads_what_stands::<T>();
         let _ = self.core.moves();
         match self.core.land(prepared) {
             Ok(landed) => {
                 let _ = self.core.moves();
-                put_kind(out, landed.kind)?;
+                put_kind::<T>(out, takes, landed.kind)?;
                 replied(self.sees_head(session, branch))
             }
             Err(LandRefused::Dropped { branch }) => replied(put_dropped(out, branch)),
@@ -391,7 +403,7 @@ impl<D: Disk + Drop, A: Address> Engine<D, A> {
 
     // What was prepared is stale: the branch's head is a newer one.
     fn stale(&self, out: &mut Vec<u8>, branch: u32, newest: u32) -> Result<(), Memory>
-        requires { branch
+        requires within { branch
             < length (store_of self.now.core.terms.origin self.now.core.history).branches }
         ensures ok { OnOk result (out.new.items
             ≡ out.old.items ++ (refusal_text
@@ -409,8 +421,8 @@ impl<D: Disk + Drop, A: Address> Engine<D, A> {
     // Does a step, and writes its reply at the end.
     fn step(&mut self, out: &mut Vec<u8>, step: Step) -> Result<(), TellRefused>
         requires { self.old.core.failed ≡ false }
-        ensures { Does D.may_leave D.moment D.left_since D.faults A.address (λ fixed p.
-            step_told fixed p step) self.old self.new out.old.items out.new.items result }
+        ensures { Does D.may_leave D.moment D.left_since D.faults T.meaning A.address (λ fixed p.
+            step_told T.forms fixed p step) self.old self.new out.old.items out.new.items result }
     {
         match step {
             Step::Look { session, branch } => self.look(out, &session, &branch),
@@ -418,8 +430,8 @@ impl<D: Disk + Drop, A: Address> Engine<D, A> {
             Step::Merge { session, branch } => self.merge(out, &session, &branch),
             Step::Join { session, branches } => self.join(out, &session, branches.as_slice()),
             Step::Drop { session } => self.drop_seen(out, &session),
-            Step::Do { session, op } => self.land(out, &session, op),
-            Step::Ask { branch, query } => self.ask(out, &branch, query),
+            Step::Do { session, op } => self.land(out, &session, &op),
+            Step::Ask { branch, query } => self.ask(out, &branch, &query),
         }
     }
 
@@ -429,8 +441,9 @@ impl<D: Disk + Drop, A: Address> Engine<D, A> {
     /// moves a head; then nothing was written, and the store has failed.
     pub fn tell(&mut self, out: &mut Vec<u8>, line: &[u8]) -> Result<(), TellRefused>
         requires { self.old.core.failed ≡ false }
-        ensures { Does D.may_leave D.moment D.left_since D.faults A.address (λ fixed p.
-            line_told fixed p line.now) self.old self.new out.old.items out.new.items result }
+        ensures { Does D.may_leave D.moment D.left_since D.faults T.meaning A.address (λ fixed p.
+            line_told T.forms fixed p line.now) self.old self.new out.old.items out.new.items
+            result }
     {
         let refusal = match read_line(self.alloc, line) {
             Ok(None) => return Ok(()),
@@ -444,7 +457,7 @@ impl<D: Disk + Drop, A: Address> Engine<D, A> {
     }
 
     /// The core to which the lines are told.
-    pub fn core(&self) -> &Core<Doc, D, A>
+    pub fn core(&self) -> &Core<T, D, A>
         ensures { result.now ≡ self.now.core }
     {
         &self.core

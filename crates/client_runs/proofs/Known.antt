@@ -24,7 +24,8 @@ use Rattle.branch_machine.specs.Laws.{MakesFewerMoves, HasFullyValidPrefixes}
 use Rattle.branch_machine.specs.Validity.{IsFullyValid}
 use Rattle.branch_doc.specs.declared.plain.Kind.TheVariants as kind
 use Rattle.branch_doc.specs.declared.plain.PlainOp.{PlainOp}
-use Rattle.branch_doc.specs.Forms.{op_kind}
+use Rattle.branch_doc.specs.Kinds.{op_kind}
+use Rattle.branch_doc.specs.Types.{PlainForms}
 use Rattle.branch_script.specs.declared.step.Step.{Step}
 use Rattle.branch_script.specs.declared.step.Step.TheVariants.{Look, Fork, Merge, Join, Do, Ask, Drop}
 use Rattle.branch_gen.specs.Clients.{client_branch, own, top, drawn_steps, client_steps}
@@ -33,7 +34,6 @@ use Rattle.parallel_clients.specs.declared.outcome.ClientRefusal.{ClientRefusal}
 use Rattle.parallel_clients.specs.declared.outcome.ClientRefusal.TheVariants as refusal
 use Rattle.parallel_clients.specs.declared.outcome.Outcome.{Outcome}
 use Rattle.parallel_clients.specs.declared.outcome.Outcome.TheVariants.{Done, Refused, Unseen}
-use Rattle.parallel_clients.specs.Forms.{Forms}
 use Rattle.parallel_clients.specs.Played.{Sights, no_sights, with_sight, IsMoveAt, WasHead, HadHead, HasBranch, IsDone, IsForked, IsMerged, IsJoined, IsTaken, IsReached, BringsNothing, TakesOne, TakesNone, IfSees, PlayedFrom, PlayedTo}
 use Rattle.parallel_clients.specs.Outcomes.{Setting, RefusesLook, RefusesJoin, RefusesLanding, RefusesStep, LacksKind, StepRefused, SeesNone, ComesTo}
 use Rattle.client_runs.specs.Worked.{MayRefuse, MayComeTo}
@@ -171,7 +171,7 @@ module _ {O R : Type 0} (origin : ℕ) (old moves : List (Move O R)) (on : GoesO
   one-there new from Rest (place ∷ places) is = forked-there new from place is.0 is.1
 
   -- a branch that was to be forked is there
-  played-there : {Q : Type 0} (forms : Forms O Q) (new from : List ℕ) (steps : List Step) (places : List ℕ) (after : Sights) → PlayedTo forms origin (length old) (Fork new from ∷ steps) places moves after → IsThere origin moves new
+  played-there : {Q A : Type 0} (forms : PlainForms O Q R A) (new from : List ℕ) (steps : List Step) (places : List ℕ) (after : Sights) → PlayedTo forms origin (length old) (Fork new from ∷ steps) places moves after → IsThere origin moves new
   unfolding PlayedTo
   played-there forms new from steps places after is =
       ⊎_elim
@@ -196,7 +196,7 @@ module _ {O R : Type 0} (origin : ℕ) (old moves : List (Move O R)) (on : GoesO
   drawn-knows branch (Drop session) there is = absurd is
 
   -- a client knows each branch that its step names, where the history has what the steps before it made
-  pub client-knows : {Q : Type 0} (forms : Forms O Q) (client steps number k : ℕ) (s : Step) (places : List ℕ) (after : Sights)
+  pub client-knows : {Q A : Type 0} (forms : PlainForms O Q R A) (client steps number k : ℕ) (s : Step) (places : List ℕ) (after : Sights)
       → slice_get (client_steps client steps number) k ≡ Some s → PlayedTo forms origin (length old) (take k (client_steps client steps number)) places moves after → Knows origin moves s
   unfolding client_steps
   client-knows forms client steps number zero s places after is played =
@@ -230,7 +230,7 @@ put-sees true number sight sees none = let never : ⊥ = cc in never
 put-sees false number sight sees none = sees none
 
 -- a session that sees a branch sees one later
-module _ {O R Q : Type 0} (forms : Forms O Q) (origin : ℕ) (moves : List (Move O R)) (after : Sights) (session : List ℕ) where
+module _ {O R Q A : Type 0} (forms : PlainForms O Q R A) (origin : ℕ) (moves : List (Move O R)) (after : Sights) (session : List ℕ) where
   abbrev Sees : Sights → Type 0
   Sees sights = sights session ≡ None → ⊥
 
@@ -249,8 +249,8 @@ module _ {O R Q : Type 0} (forms : Forms O Q) (origin : ℕ) (moves : List (Move
   sees-on (Ask branch query ∷ steps) sights last places sees is = sees-on steps sights (length is.before) places sees is.rest
   sees-on (Do other op ∷ steps) sights last places sees is =
       let Rest = PlayedFrom forms origin moves steps sights after in
-      if-sees (sights other) (λ branch. TakesOne (IsDone moves branch (forms.op_of op)) Rest last places)
-      (λ branch one. one-sees (IsDone moves branch (forms.op_of op)) Rest last places (λ place more rest. sees-on steps sights place more sees rest) one)
+      if-sees (sights other) (λ branch. TakesOne (IsDone moves branch (forms.op op)) Rest last places)
+      (λ branch one. one-sees (IsDone moves branch (forms.op op)) Rest last places (λ place more rest. sees-on steps sights place more sees rest) one)
       is
   sees-on (Fork new from ∷ steps) sights last places sees is =
       let Rest = PlayedFrom forms origin moves steps sights after in
@@ -304,7 +304,7 @@ drawn-sees branch after sees (Ask from query) is none = absurd is
 drawn-sees branch after sees (Drop session) is none = absurd is
 
 -- no session of a client's step sees none
-pub client-sees : {O R Q : Type 0} (forms : Forms O Q) (origin begun : ℕ) (moves : List (Move O R)) (client steps number k : ℕ) (s : Step) (places : List ℕ) (after : Sights)
+pub client-sees : {O R Q A : Type 0} (forms : PlainForms O Q R A) (origin begun : ℕ) (moves : List (Move O R)) (client steps number k : ℕ) (s : Step) (places : List ℕ) (after : Sights)
     → slice_get (client_steps client steps number) k ≡ Some s → PlayedTo forms origin begun (take k (client_steps client steps number)) places moves after → SeesNone after s → ⊥
 unfolding client_steps PlayedTo
 client-sees forms origin begun moves client steps number zero s places after is played none = let same : s ≡ Fork (client_branch client) (codes "main") = cc in subst (SeesNone after) same none
@@ -333,7 +333,7 @@ module _ {S O R Q A : Type 0} (on : Setting S O R Q A) (moves : List (Move O R))
   knows-says sights (Ask from query) why knows is = absurd knows
   knows-says sights (Fork new from) why knows is = says-full (machine.Fork new from) why (says-fork on.fixed moves within (λ name. ⊥) new from why knows) is
   knows-says sights (Do session op) why knows is =
-      says-seen (sights session) (λ branch. RefusesLanding on moves branch (on.forms.op_of op) why) why
+      says-seen (sights session) (λ branch. RefusesLanding on moves branch (on.forms.op op) why) why
       (λ branch does. says-full (machine.Land branch does.head does.operation) why (says-land on.fixed moves within (λ name. ⊥) branch does.head does.operation why) does.refused)
       is
   knows-says sights (Merge session from) why knows is =
@@ -357,10 +357,10 @@ module _ {S O R Q A : Type 0} (on : Setting S O R Q A) (moves : List (Move O R))
   knows-says sights (Drop session) why knows is = absurd knows
 
   -- no step is of a kind that the store lacks, where it lacks sequences alone
-  lacks-none : ((op : PlainOp) → on.forms.op_of op ≡ None → op_kind op ≡ kind.Sequence) → (sights : Sights) (s : Step) → Knows on.fixed.terms.origin moves s → LacksKind on moves sights s → ⊥
+  lacks-none : ((op : PlainOp) → on.forms.op op ≡ None → op_kind op ≡ kind.Sequence) → (sights : Sights) (s : Step) → Knows on.fixed.terms.origin moves s → LacksKind on moves sights s → ⊥
   lacks-none lacks sights (Do session op) knows is = seen-lacks (sights session) is
     where
-      seen-lacks : (branch : Option ℕ) → IfSees branch (λ number. on.forms.op_of op ≡ None) → ⊥
+      seen-lacks : (branch : Option ℕ) → IfSees branch (λ number. on.forms.op op ≡ None) → ⊥
       seen-lacks None none = none
       seen-lacks (Some number) none = knows (lacks op none)
   lacks-none lacks sights (Ask from query) knows is = knows
@@ -371,7 +371,7 @@ module _ {S O R Q A : Type 0} (on : Setting S O R Q A) (moves : List (Move O R))
   lacks-none lacks sights (Drop session) knows is = is
 
   -- and what a longer history says
-  module _ (lacks : (op : PlainOp) → on.forms.op_of op ≡ None → op_kind op ≡ kind.Sequence) (later : List (Move O R)) (grows : IsPrefix moves later) (bounds : IsWithin on.fixed.terms later) where
+  module _ (lacks : (op : PlainOp) → on.forms.op op ≡ None → op_kind op ≡ kind.Sequence) (later : List (Move O R)) (grows : IsPrefix moves later) (bounds : IsWithin on.fixed.terms later) where
     prefix-length : length moves ≤ length later
     prefix-length = let e = ap (λ (ms : List (Move O R)). length ms) grows.1 in omega (arith, length-append moves grows.0, e)
 
@@ -421,7 +421,7 @@ module _ {S O R Q A : Type 0} (on : Setting S O R Q A) (moves : List (Move O R))
     says-may old drops refusal.Memory faults sights s knows is = tt
 
 -- what may become of a client
-module _ {S O R Q A : Type 0} (on : Setting S O R Q A) (lacks : (op : PlainOp) → on.forms.op_of op ≡ None → op_kind op ≡ kind.Sequence) (old new : List (Move O R)) (drops : DropsNone old new)
+module _ {S O R Q A : Type 0} (on : Setting S O R Q A) (lacks : (op : PlainOp) → on.forms.op op ≡ None → op_kind op ≡ kind.Sequence) (old new : List (Move O R)) (drops : DropsNone old new)
     (within : (moves : List (Move O R)) → IsPrefix moves new → IsWithin on.fixed.terms moves)
     (main : (moves : List (Move O R)) → IsPrefix moves new → IsKeptBranch (store_of on.fixed.terms.origin moves).branches 0) where
   -- up to a first part that begins with the old history, no branch is dropped either

@@ -18,8 +18,8 @@ use Rattle.branch_history.proofs.Lists.{slice_get-append, slice_get-new}
 use Rattle.branch_machine.specs.Fixed.{fix}
 use Rattle.branch_doc.specs.declared.plain.Kind.TheVariants as kind
 use Rattle.branch_doc.specs.declared.plain.PlainOp.{PlainOp}
-use Rattle.branch_doc.specs.declared.plain.PlainQuery.{PlainQuery}
-use Rattle.branch_doc.specs.Forms.{op_kind}
+use Rattle.branch_doc.specs.Kinds.{op_kind}
+use Rattle.branch_doc.specs.Types.{PlainForms}
 use Rattle.branch_script.specs.declared.step.Step.{Step}
 use Rattle.branch_gen.specs.Clients.{client_steps}
 use Rattle.branch_shared.specs.Keeps.{DropsNone}
@@ -43,10 +43,10 @@ all-say P Q says (x ∷ xs) [] is = is
 all-say P Q says (x ∷ xs) (y ∷ ys) is = (says x y is.0, all-say P Q says xs ys is.1)
 
 -- a store's setting is that of its name
-pub named-setting : {S O R Q A : Type 0} (m : Meaning S O R Q A) (address : List ℕ → List ℕ) (op_of : PlainOp → Option O) (query_of : PlainQuery → Option Q) (terms named : Terms) (opened given : ℕ) → terms ≡ named → opened ≡ given
-    → setting (fix m named address) op_of query_of given ≡ setting (fix m terms address) op_of query_of opened
-named-setting m address op_of query_of terms named opened given same at =
-    ap (λ l. setting (fix m l address) op_of query_of given) (sym same) ∙ ap (λ n. setting (fix m terms address) op_of query_of n) (sym at)
+pub named-setting : {S O R Q A : Type 0} (m : Meaning S O R Q A) (address : List ℕ → List ℕ) (forms : PlainForms O Q R A) (terms named : Terms) (opened given : ℕ) → terms ≡ named → opened ≡ given
+    → setting (fix m named address) forms given ≡ setting (fix m terms address) forms opened
+named-setting m address forms terms named opened given same at =
+    ap (λ l. setting (fix m l address) forms given) (sym same) ∙ ap (λ n. setting (fix m terms address) forms n) (sym at)
 
 -- what holds after want of memory, in other words
 pub failure-says : {T E : Type 0} (P Q : Type 0) (r : Result T E) → (P → Q) → OnErr r P → OnErr r Q
@@ -176,7 +176,7 @@ beside Q (x ∷ xs) (z ∷ ys) zero y all is = let same : z ≡ y = cc in record
 beside Q (x ∷ xs) (z ∷ ys) (suc k) y all is = let rest = beside Q xs ys k y all.1 is in record { first = rest.first; at = rest.at; holds = rest.holds }
 
 -- clients of drawn steps, over a valid history
-module _ {S O R Q A : Type 0} (on : Setting S O R Q A) (lacks : (op : PlainOp) → on.forms.op_of op ≡ None → op_kind op ≡ kind.Sequence) (old new : List (Move O R)) (drops : DropsNone old new)
+module _ {S O R Q A : Type 0} (on : Setting S O R Q A) (lacks : (op : PlainOp) → on.forms.op op ≡ None → op_kind op ≡ kind.Sequence) (old new : List (Move O R)) (drops : DropsNone old new)
     (within : (moves : List (Move O R)) → IsPrefix moves new → IsWithin on.fixed.terms moves)
     (main : (moves : List (Move O R)) → IsPrefix moves new → IsKeptBranch (store_of on.fixed.terms.origin moves).branches 0) (faults count steps number : ℕ) where
   pub have-worked : (outcomes : List Outcome) → HaveRun on old new faults (scripts_of count steps number) outcomes → HaveWorked on old new faults count steps number outcomes

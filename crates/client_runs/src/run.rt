@@ -11,10 +11,11 @@ use crate::scripts::scripts;
 use crate::share::{Finished, share};
 use branch_address::Address;
 use branch_disk::Disk;
+use branch_doc::Forms;
+use branch_doc::laws::lacks_only_sequences;
 use branch_history::laws::{keeps_limits, keeps_order};
 use branch_machine::laws::{has_fully_valid_prefixes, makes_fewer_moves};
 use branch_shared::Blank;
-use parallel_clients::Plain;
 use std::alloc::Global;
 use std::marker::Brand;
 use std::sync::Wait;
@@ -42,7 +43,7 @@ pub struct Work {
 /// the first client begins, that is the answer, and no move is made. That clients work in threads of their own is how the
 /// code goes, and in no clause.
 pub fn run_on<
-    T: Plain + Send + Sync,
+    T: Forms + Send + Sync,
     D: Disk + Drop + Send,
     A: Address + Send,
     R: Threads + Wait + Sync,
@@ -53,7 +54,7 @@ pub fn run_on<
     ensures opened { D.faults result.core.opened ≡ D.faults core.opened }
     ensures faults { D.faults core.disk ≤ D.faults result.core.disk }
     ensures worked { IfOk result.outcomes
-        (HaveWorked (setting (fix T.meaning core.terms A.address) T.op_of T.query_of (D.faults core.opened))
+        (HaveWorked (setting (fix T.meaning core.terms A.address) T.forms (D.faults core.opened))
         core.history result.core.history (faults_since D.faults result.core) work.count work.steps
         work.number) }
     ensures idle { OnErr result.outcomes (result.core.history ≡ core.history) }
@@ -62,6 +63,7 @@ pub fn run_on<
     keeps_order::<T>();
     makes_fewer_moves::<T>();
     has_fully_valid_prefixes::<T>();
+    lacks_only_sequences::<T>();
     // Its clauses say what is known of a core.
     let _ = core.moves();
     let scripts = match scripts(alloc, work.count, work.steps, work.number) {

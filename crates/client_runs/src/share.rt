@@ -10,11 +10,12 @@ ghost use Rattle.client_runs.specs.Worked.{HaveRun};
 
 use branch_address::Address;
 use branch_disk::Disk;
+use branch_doc::Forms;
 use branch_script::Step;
 use branch_shared::{Blank, Named, Shared};
 use mrdt_model::{Listing, Memory, Mrdt};
 use parallel_clients::laws::stays_outcome;
-use parallel_clients::{OpenGate, Outcome, Plain, run_clients};
+use parallel_clients::{OpenGate, Outcome, run_clients};
 use std::alloc::Global;
 use std::sync::Wait;
 use std::thread::Threads;
@@ -32,7 +33,7 @@ pub struct Finished<T: Mrdt, D: Disk + Drop, A: Address> {
 /// Runs the scripts over the store, and closes it when all are done: its last pass holds all parts then, so it claims each
 /// move that landed, once.
 pub(crate) fn share<
-    T: Plain + Send + Sync,
+    T: Forms + Send + Sync,
     D: Disk + Drop + Send,
     A: Address + Send,
     N: Named<T::Op, T::Reply> + Drop + Send + Sync,
@@ -50,7 +51,7 @@ pub(crate) fn share<
     ensures later { D.faults result.core.opened ≤ D.faults result.core.disk }
     ensures faults { faults_since D.faults blank.core ≤ faults_since D.faults result.core }
     ensures ran { IfOk result.outcomes
-        (HaveRun (setting (fix T.meaning blank.core.terms A.address) T.op_of T.query_of blank.opened)
+        (HaveRun (setting (fix T.meaning blank.core.terms A.address) T.forms blank.opened)
         blank.core.history result.core.history (faults_since D.faults result.core) scripts.now) }
     ensures idle { OnErr result.outcomes (result.core.history ≡ blank.core.history) }
 {

@@ -13,12 +13,12 @@ use Rattle.parallel_clients.specs.declared.outcome.ClientRefusal.{ClientRefusal}
 use Rattle.parallel_clients.specs.declared.outcome.ClientRefusal.TheVariants.{UnknownBranch, Dropped, KeepsMain, Exhausted, FullCommits, FullBranches, FullMoves, ValueTooLarge, Collision, NoSequences, DiskFault, Failed, Memory}
 use Rattle.parallel_clients.specs.declared.outcome.Outcome.{Outcome}
 use Rattle.parallel_clients.specs.declared.outcome.Outcome.TheVariants.{Done, Refused, Unseen}
-use Rattle.parallel_clients.specs.Forms.{Forms}
+use Rattle.branch_doc.specs.Types.{PlainForms}
 use Rattle.parallel_clients.specs.Played.{Sights, no_sights, with_sight, IsMoveAt, HasNumber, IsAsked, IsDone, IsForked, IsMerged, IsJoined, IsTaken, IsReached, BringsNothing, TakesOne, TakesNone, PlayedFrom, PlayedTo, Played}
 use Rattle.parallel_clients.specs.Outcomes.{Setting, HasFailed, StepRefused, ComesTo, StaysOutcome}
 use Rattle.parallel_clients.proofs.Went.{named-later, head-later, joins-later, sees-more}
 
-module _ {O R Q : Type 0} (forms : Forms O Q) (origin : ℕ) (moves later : List (Move O R)) (grows : IsPrefix moves later) where
+module _ {O R Q A : Type 0} (forms : PlainForms O Q R A) (origin : ℕ) (moves later : List (Move O R)) (grows : IsPrefix moves later) where
   move-later : (place : ℕ) (made : Move O R) → IsMoveAt moves place made → IsMoveAt later place made
   move-later place made at =
       let there : place - 1 < length moves = slice_get_within moves (place - 1) made at in
@@ -67,12 +67,12 @@ module _ {O R Q : Type 0} (forms : Forms O Q) (origin : ℕ) (moves later : List
       let seen = with_sight sights session is.0 in
       (is.0, none-later (HasNumber origin branch is.0) (PlayedFrom forms origin moves steps seen after) (PlayedFrom forms origin later steps seen after) (played_from-later steps seen after) last places is.1)
   played_from-later (Ask branch query ∷ steps) sights after last places is =
-      none-later (IsAsked origin branch (forms.query_of query)) (PlayedFrom forms origin moves steps sights after) (PlayedFrom forms origin later steps sights after) (played_from-later steps sights after) last places is
+      none-later (IsAsked origin branch (forms.query query)) (PlayedFrom forms origin moves steps sights after) (PlayedFrom forms origin later steps sights after) (played_from-later steps sights after) last places is
   played_from-later (Do session op ∷ steps) sights after last places is =
       let Rest = PlayedFrom forms origin moves steps sights after in
       let Rest' = PlayedFrom forms origin later steps sights after in
-      sees-more (λ branch. TakesOne (IsDone moves branch (forms.op_of op)) Rest last places) (λ branch. TakesOne (IsDone later branch (forms.op_of op)) Rest' last places)
-      (λ branch. takes-later (IsDone moves branch (forms.op_of op)) (IsDone later branch (forms.op_of op)) Rest Rest' (done-later branch (forms.op_of op)) (played_from-later steps sights after) last places)
+      sees-more (λ branch. TakesOne (IsDone moves branch (forms.op op)) Rest last places) (λ branch. TakesOne (IsDone later branch (forms.op op)) Rest' last places)
+      (λ branch. takes-later (IsDone moves branch (forms.op op)) (IsDone later branch (forms.op op)) Rest Rest' (done-later branch (forms.op op)) (played_from-later steps sights after) last places)
       (sights session) is
   played_from-later (Fork new from ∷ steps) sights after last places is =
       let Rest = PlayedFrom forms origin moves steps sights after in

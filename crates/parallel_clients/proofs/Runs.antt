@@ -12,7 +12,7 @@ use Rattle.parallel_clients.specs.declared.landing.Stop.{Stop}
 use Rattle.parallel_clients.specs.declared.landing.Stop.TheVariants.{Refused, Unseen}
 use Rattle.parallel_clients.specs.declared.outcome.ClientRefusal.TheVariants.{Memory}
 use Rattle.parallel_clients.specs.declared.outcome.Outcome.TheVariants.{Done}
-use Rattle.parallel_clients.specs.Forms.{Forms}
+use Rattle.branch_doc.specs.Types.{PlainForms}
 use Rattle.parallel_clients.specs.Played.{no_sights, PlayedTo}
 use Rattle.parallel_clients.specs.Outcomes.{Setting, ArePast, IsOutcome}
 use Rattle.parallel_clients.specs.Sessions.{Sessions, AreSessions, sights_of, stage_of, PlaysOn, Advances, Stops, stopped_at, IsPlaying}
@@ -37,7 +37,7 @@ advances-both a b c xs ys zs p q = record {
 pub advances-none : {M : Type 0} (a : PassView M) (xs : List ℕ) → Advances a a xs xs
 advances-none a xs = record { seen = prefix_self a.moves; faults = omega arith; parts = refl; counted = refl; mine = λ noted. noted; others = refl }
 
-module _ {O R Q : Type 0} (forms : Forms O Q) (terms : Terms) where
+module _ {O R Q A : Type 0} (forms : PlainForms O Q R A) (terms : Terms) where
   -- before the first step
   pub playing-none : (pass : PassView (Move O R)) → IsPlaying forms terms [] pass pass [] []
   playing-none pass = record {

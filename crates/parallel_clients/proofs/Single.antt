@@ -9,12 +9,12 @@ use Rattle.branch_doc.specs.declared.plain.PlainQuery.{PlainQuery}
 use Rattle.branch_script.specs.declared.step.Step.{Step}
 use Rattle.branch_script.specs.declared.step.Step.TheVariants.{Look, Fork, Merge, Join, Do, Ask, Drop}
 use Rattle.branch_shared.specs.Passes.{PassView}
-use Rattle.parallel_clients.specs.Forms.{Forms}
+use Rattle.branch_doc.specs.Types.{PlainForms}
 use Rattle.parallel_clients.specs.Played.{Sights, with_sight, IsMoveAt, WasNamed, HasNumber, IsAsked, IsDone, IsForked, IsMerged, IsJoined, IsTaken, IsReached, BringsNothing, TakesOne, TakesNone, IfSees, PlayedFrom}
 use Rattle.parallel_clients.specs.Sessions.{Stage, PlaysOn, HasMoved, HasDone, HasMerged, HasJoined, HasDropped}
 use Rattle.parallel_clients.proofs.Went.{named-later, head-later, joins-later, move-last, played-earlier, plays-still, plays-move}
 
-module _ {O R Q : Type 0} (forms : Forms O Q) (origin : ℕ) (old new : Stage (Move O R)) (mid after : PassView (Move O R)) (from_old : IsPrefix old.moves mid.moves) (to_new : IsPrefix after.moves new.moves) (places noted : List ℕ) (had : old.places ≡ places) (has : new.places ≡ noted) where
+module _ {O R Q A : Type 0} (forms : PlainForms O Q R A) (origin : ℕ) (old new : Stage (Move O R)) (mid after : PassView (Move O R)) (from_old : IsPrefix old.moves mid.moves) (to_new : IsPrefix after.moves new.moves) (places noted : List ℕ) (had : old.places ≡ places) (has : new.places ≡ noted) where
   -- a move that landed has its place behind what had been seen, and stands there in any longer history
   module _ (made : Move O R) (moved : HasMoved made mid after places noted) where
     abbrev place : ℕ
@@ -54,13 +54,13 @@ module _ {O R Q : Type 0} (forms : Forms O Q) (origin : ℕ) (old new : Stage (M
     kept : (later : List (Move O R)) (rest : List Step) (ends : Sights) (last : ℕ) (more : List ℕ) → PlayedFrom forms origin later rest new.sights ends last more → PlayedFrom forms origin later rest old.sights ends last more
     kept later rest ends last more played = subst (λ sights. PlayedFrom forms origin later rest sights ends last more) same played
 
-    pub plays-done : (session : List ℕ) (op : PlainOp) → HasDone (old.sights session) (forms.op_of op) mid after places noted → PlaysOn forms origin (Do session op ∷ []) old new
+    pub plays-done : (session : List ℕ) (op : PlainOp) → HasDone (old.sights session) (forms.op op) mid after places noted → PlaysOn forms origin (Do session op ∷ []) old new
     plays-done session op done =
         let made : Move O R = move.Operation done.branch done.operation done.reply in
         plays-made made done.moved (Do session op)
         (λ later rest ends more grows at played.
-        let is : IsDone later done.branch (forms.op_of op) (length after.moves) = record { operation = done.operation; is = done.is; reply = done.reply; made = at } in
-        subst (λ o. IfSees o (λ branch. TakesOne (IsDone later branch (forms.op_of op)) (PlayedFrom forms origin later rest old.sights ends) (length old.moves) (length after.moves ∷ more))) (sym done.sees)
+        let is : IsDone later done.branch (forms.op op) (length after.moves) = record { operation = done.operation; is = done.is; reply = done.reply; made = at } in
+        subst (λ o. IfSees o (λ branch. TakesOne (IsDone later branch (forms.op op)) (PlayedFrom forms origin later rest old.sights ends) (length old.moves) (length after.moves ∷ more))) (sym done.sees)
         (past made done.moved, is, kept later rest ends (length after.moves) more played))
 
     pub plays-dropped : (session : List ℕ) → HasDropped (old.sights session) mid after places noted → PlaysOn forms origin (Drop session ∷ []) old new
@@ -157,6 +157,6 @@ module _ {O R Q : Type 0} (forms : Forms O Q) (origin : ℕ) (old new : Stage (M
       plays-taken name from taken =
           plays-still forms origin old new on (Fork name from) (has ∙ none ∙ sym had) (λ later rest ends more grows played. inr (kept-none (IsTaken origin name from) later rest ends more taken grows played))
 
-      pub plays-asked : (branch : List ℕ) (query : PlainQuery) → IsAsked origin branch (forms.query_of query) after.moves → PlaysOn forms origin (Ask branch query ∷ []) old new
+      pub plays-asked : (branch : List ℕ) (query : PlainQuery) → IsAsked origin branch (forms.query query) after.moves → PlaysOn forms origin (Ask branch query ∷ []) old new
       plays-asked branch query there =
-          plays-still forms origin old new on (Ask branch query) (has ∙ none ∙ sym had) (λ later rest ends more grows played. kept-none (IsAsked origin branch (forms.query_of query)) later rest ends more there grows played)
+          plays-still forms origin old new on (Ask branch query) (has ∙ none ∙ sym had) (λ later rest ends more grows played. kept-none (IsAsked origin branch (forms.query query)) later rest ends more there grows played)

@@ -22,10 +22,10 @@ use Rattle.parallel_clients.proofs.Machines.{full-answers}
 use Rattle.parallel_clients.proofs.Sessioned.{session-head}
 
 module _ {S O R Q A : Type 0} (on : Setting S O R Q A) (moves : List (Move O R)) (s : Session (SeenView (Move O R))) (is : IsSession on.fixed.terms moves s)
-    (sights : Sights) (session : List ℕ) (sees : sights session ≡ Some s.seen.branch) (plain : PlainOp) (op : O) (op_is : on.forms.op_of plain ≡ Some op) where
+    (sights : Sights) (session : List ℕ) (sees : sights session ≡ Some s.seen.branch) (plain : PlainOp) (op : O) (op_is : on.forms.op plain ≡ Some op) where
   pub do-refused : (why : machine.Refusal) → FullyRefuses on.fixed moves (machine.Land s.seen.branch s.seen.head op) why → RefusesStep on moves sights (Do session plain) why
   do-refused why no_turn =
-      subst (λ o. IfSees o (λ branch. RefusesLanding on moves branch (on.forms.op_of plain) why)) (sym sees)
+      subst (λ o. IfSees o (λ branch. RefusesLanding on moves branch (on.forms.op plain) why)) (sym sees)
       (record { operation = op; is = op_is; head = s.seen.head; seen = session-head on.fixed.terms moves s is; refused = no_turn })
 
   -- what was refused while it was prepared
@@ -63,8 +63,8 @@ module _ {S O R Q A : Type 0} (on : Setting S O R Q A) (moves : List (Move O R))
 
 -- what a session that sees a branch was to do is of a kind that the store lacks
 pub do-lacking : {S O R Q A : Type 0} (on : Setting S O R Q A) (moves : List (Move O R)) (sights : Sights) (session : List ℕ) (branch : ℕ) → sights session ≡ Some branch
-    → (plain : PlainOp) → on.forms.op_of plain ≡ None → LacksKind on moves sights (Do session plain)
-do-lacking on moves sights session branch sees plain lacks = subst (λ o. IfSees o (λ branch. on.forms.op_of plain ≡ None)) (sym sees) lacks
+    → (plain : PlainOp) → on.forms.op plain ≡ None → LacksKind on moves sights (Do session plain)
+do-lacking on moves sights session branch sees plain lacks = subst (λ o. IfSees o (λ branch. on.forms.op plain ≡ None)) (sym sees) lacks
 
 -- what became of a try to land an operation
 pub do-tried : {O R : Type 0} (old new : PassView (Move O R)) (places after : List ℕ) (s : Session (SeenView (Move O R))) → (sight : Option ℕ) → sight ≡ Some s.seen.branch

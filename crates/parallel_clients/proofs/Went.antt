@@ -8,7 +8,7 @@ use Rattle.branch_history.specs.declared.moves.Move.TheVariants as move
 use Rattle.branch_history.proofs.Lists.{slice_get-append, slice_get-new}
 use Rattle.branch_script.specs.declared.step.Step.{Step}
 use Rattle.branch_script.specs.declared.step.Step.TheVariants.{Look, Fork, Merge, Join, Do, Ask, Drop}
-use Rattle.parallel_clients.specs.Forms.{Forms}
+use Rattle.branch_doc.specs.Types.{PlainForms}
 use Rattle.parallel_clients.specs.Played.{Sights, no_sights, with_sight, IsMoveAt, WasNamed, WasHead, HadHead, WereHeads, HasNumber, IsAsked, IsDone, IsForked, IsMerged, Joins, IsJoined, IsTaken, IsReached, BringsNothing, TakesOne, TakesNone, IfSees, PlayedFrom, PlayedTo}
 use Rattle.parallel_clients.specs.Outcomes.{ArePast}
 use Rattle.parallel_clients.specs.Sessions.{Stage, GoesOn, PlaysOn}
@@ -65,7 +65,7 @@ sees-more Does More more None is = is
 sees-more Does More more (Some branch) is = more branch is
 
 -- what was played from behind a place was played from behind an earlier one
-module _ {O R Q : Type 0} (forms : Forms O Q) (origin : ℕ) (moves : List (Move O R)) (m n : ℕ) (le : m ≤ n) where
+module _ {O R Q A : Type 0} (forms : PlainForms O Q R A) (origin : ℕ) (moves : List (Move O R)) (m n : ℕ) (le : m ≤ n) where
   one-earlier : (Is : ℕ → Type 0) (Rest : ℕ → List ℕ → Type 0) (places : List ℕ) → TakesOne Is Rest n places → TakesOne Is Rest m places
   one-earlier Is Rest [] is = is
   one-earlier Is Rest (place ∷ places) is = let behind = is.0 in (omega (arith, behind), is.1, is.2)
@@ -77,11 +77,11 @@ module _ {O R Q : Type 0} (forms : Forms O Q) (origin : ℕ) (moves : List (Move
   played-earlier [] sights after places is = is
   played-earlier (Look session branch ∷ steps) sights after places is =
       (is.0, none-earlier (HasNumber origin branch is.0) (PlayedFrom forms origin moves steps (with_sight sights session is.0) after) places is.1)
-  played-earlier (Ask branch query ∷ steps) sights after places is = none-earlier (IsAsked origin branch (forms.query_of query)) (PlayedFrom forms origin moves steps sights after) places is
+  played-earlier (Ask branch query ∷ steps) sights after places is = none-earlier (IsAsked origin branch (forms.query query)) (PlayedFrom forms origin moves steps sights after) places is
   played-earlier (Do session op ∷ steps) sights after places is =
       let Rest = PlayedFrom forms origin moves steps sights after in
-      sees-more (λ branch. TakesOne (IsDone moves branch (forms.op_of op)) Rest n places) (λ branch. TakesOne (IsDone moves branch (forms.op_of op)) Rest m places)
-      (λ branch. one-earlier (IsDone moves branch (forms.op_of op)) Rest places) (sights session) is
+      sees-more (λ branch. TakesOne (IsDone moves branch (forms.op op)) Rest n places) (λ branch. TakesOne (IsDone moves branch (forms.op op)) Rest m places)
+      (λ branch. one-earlier (IsDone moves branch (forms.op op)) Rest places) (sights session) is
   played-earlier (Fork new from ∷ steps) sights after places is =
       let Rest = PlayedFrom forms origin moves steps sights after in
       ⊎_elim (λ one. inl (one-earlier (IsForked origin moves new from) Rest places one)) (λ none. inr (none-earlier (IsTaken origin new from) Rest places none)) is
@@ -104,7 +104,7 @@ module _ {O R Q : Type 0} (forms : Forms O Q) (origin : ℕ) (moves : List (Move
 
 -- steps one after another
 
-module _ {O R Q : Type 0} (forms : Forms O Q) (origin : ℕ) where
+module _ {O R Q A : Type 0} (forms : PlainForms O Q R A) (origin : ℕ) where
   pub plays-none : (s : Stage (Move O R)) → PlaysOn forms origin [] s s
   plays-none s = record {
     own = [];

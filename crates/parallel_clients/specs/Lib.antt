@@ -1,5 +1,3 @@
-pub mod Forms
-pub mod DocForms
 pub mod Played
 pub mod Outcomes
 pub mod Clients

@@ -6,8 +6,7 @@ use Rattle.branch_io.specs.Causes.{Rose}
 use Rattle.branch_history.specs.declared.moves.Move.{Move}
 use Rattle.branch_history.specs.Steps as machine
 use Rattle.branch_machine.specs.Fixed.{Fixed}
-use Rattle.branch_doc.specs.declared.plain.PlainOp.{PlainOp}
-use Rattle.branch_doc.specs.declared.plain.PlainQuery.{PlainQuery}
+use Rattle.branch_doc.specs.Types.{PlainForms}
 use Rattle.branch_script.specs.declared.step.Step.{Step}
 use Rattle.branch_script.specs.declared.step.Step.TheVariants.{Look, Fork, Merge, Join, Do, Ask, Drop}
 use Rattle.recorded_history.specs.Machine.{FullyRefuses}
@@ -15,18 +14,17 @@ use Rattle.parallel_clients.specs.declared.outcome.ClientRefusal.{ClientRefusal}
 use Rattle.parallel_clients.specs.declared.outcome.ClientRefusal.TheVariants as client_refusal
 use Rattle.parallel_clients.specs.declared.outcome.Outcome.{Outcome}
 use Rattle.parallel_clients.specs.declared.outcome.Outcome.TheVariants.{Done, Refused, Unseen}
-use Rattle.parallel_clients.specs.Forms.{Forms, plain_forms}
 use Rattle.parallel_clients.specs.Played.{Sights, HasBranch, WasHead, HadHead, AreNamedHeads, WereHeads, IfSees, Played, PlayedTo}
 
 -- what is fixed for the clients of a store: the store's meaning, terms and addresses, what plain forms stand for, and the count of the disk's faults when
 -- the store was opened
 pub record Setting (S O R Q A : Type 0) : Type 1 where
   pub fixed : Fixed S O R Q A
-  pub forms : Forms O Q
+  pub forms : PlainForms O Q R A
   pub opened : ℕ
 
-abbrev pub setting : {S O R Q A : Type 0} → Fixed S O R Q A → (PlainOp → Option O) → (PlainQuery → Option Q) → ℕ → Setting S O R Q A
-setting fixed op_of query_of opened = record { fixed = fixed; forms = plain_forms op_of query_of; opened = opened }
+abbrev pub setting : {S O R Q A : Type 0} → Fixed S O R Q A → PlainForms O Q R A → ℕ → Setting S O R Q A
+setting fixed forms opened = record { fixed = fixed; forms = forms; opened = opened }
 
 -- the machine refuses a look at one of the branches with these names; those with the names before it are there
 pub record RefusesLook {S O R Q A : Type 0} (on : Setting S O R Q A) (moves : List (Move O R)) (from : List (List ℕ)) (refusal : machine.Refusal) : Type 0 where
@@ -61,7 +59,7 @@ RefusesStep on moves sights (Look session branch) refusal = FullyRefuses on.fixe
 RefusesStep on moves sights (Ask branch query) refusal = FullyRefuses on.fixed moves (machine.Look branch) refusal
 RefusesStep on moves sights (Fork new from) refusal = FullyRefuses on.fixed moves (machine.Fork new from) refusal
 RefusesStep on moves sights (Do session op) refusal =
-    IfSees (sights session) (λ branch. RefusesLanding on moves branch (on.forms.op_of op) refusal)
+    IfSees (sights session) (λ branch. RefusesLanding on moves branch (on.forms.op op) refusal)
 RefusesStep on moves sights (Merge session from) refusal =
     IfSees (sights session) (λ branch. FullyRefuses on.fixed moves (machine.Look from) refusal
     ⊎ ((head source commit : ℕ) × HadHead on.fixed.terms.origin moves branch head × WasHead on.fixed.terms.origin moves from source commit
@@ -85,8 +83,8 @@ HasFailed on faults = Rose on.opened (on.opened + faults)
 
 -- A client's step is an operation or a query of a kind that the store lacks; the session of the one sees a branch, and the branch of the other is there.
 abbrev pub LacksKind : {S O R Q A : Type 0} → Setting S O R Q A → List (Move O R) → Sights → Step → Type 0
-LacksKind on moves sights (Do session op) = IfSees (sights session) (λ branch. on.forms.op_of op ≡ None)
-LacksKind on moves sights (Ask branch query) = HasBranch on.fixed.terms.origin branch moves × (on.forms.query_of query ≡ None)
+LacksKind on moves sights (Do session op) = IfSees (sights session) (λ branch. on.forms.op op ≡ None)
+LacksKind on moves sights (Ask branch query) = HasBranch on.fixed.terms.origin branch moves × (on.forms.query query ≡ None)
 LacksKind on moves sights step = ⊥
 
 -- why a step was refused, after a history: by the machine, or as one of a kind that the store lacks, which only sequences may be, or by a disk that has failed, or for want of memory

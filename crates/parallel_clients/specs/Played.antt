@@ -11,7 +11,7 @@ use Rattle.branch_history.specs.History.{store_of}
 use Rattle.branch_history.specs.Merging.{brought}
 use Rattle.branch_script.specs.declared.step.Step.{Step}
 use Rattle.branch_script.specs.declared.step.Step.TheVariants.{Look, Fork, Merge, Join, Do, Ask, Drop}
-use Rattle.parallel_clients.specs.Forms.{Forms}
+use Rattle.branch_doc.specs.Types.{PlainForms}
 
 -- the branch of each session's last look, by the number that it had then
 abbrev pub Sights : Type 0
@@ -149,13 +149,13 @@ IfSees None Does = ⊥
 IfSees (Some branch) Does = Does branch
 
 -- the moves of a history at these places, behind the last one, are those of the steps, in order, where sessions see this at first and that at the end, in a store with this first origin
-abbrev pub PlayedFrom : {O R Q : Type 0} → Forms O Q → ℕ → List (Move O R) → List Step → Sights → Sights → ℕ → List ℕ → Type 0
+abbrev pub PlayedFrom : {O R Q A : Type 0} → PlainForms O Q R A → ℕ → List (Move O R) → List Step → Sights → Sights → ℕ → List ℕ → Type 0
 PlayedFrom forms origin moves [] sights after last places = (places ≡ []) × (sights ≡ after)
 PlayedFrom forms origin moves (Look session branch ∷ steps) sights after last places =
     (number : ℕ) × TakesNone moves (HasNumber origin branch number) (PlayedFrom forms origin moves steps (with_sight sights session number) after) last places
-PlayedFrom forms origin moves (Ask branch query ∷ steps) sights after last places = TakesNone moves (IsAsked origin branch (forms.query_of query)) (PlayedFrom forms origin moves steps sights after) last places
+PlayedFrom forms origin moves (Ask branch query ∷ steps) sights after last places = TakesNone moves (IsAsked origin branch (forms.query query)) (PlayedFrom forms origin moves steps sights after) last places
 PlayedFrom forms origin moves (Do session op ∷ steps) sights after last places =
-    IfSees (sights session) (λ branch. TakesOne (IsDone moves branch (forms.op_of op)) (PlayedFrom forms origin moves steps sights after) last places)
+    IfSees (sights session) (λ branch. TakesOne (IsDone moves branch (forms.op op)) (PlayedFrom forms origin moves steps sights after) last places)
 PlayedFrom forms origin moves (Fork new from ∷ steps) sights after last places =
     TakesOne (IsForked origin moves new from) (PlayedFrom forms origin moves steps sights after) last places
     ⊎ TakesNone moves (IsTaken origin new from) (PlayedFrom forms origin moves steps sights after) last places
@@ -175,13 +175,13 @@ PlayedFrom forms origin moves (Drop session ∷ steps) sights after last places 
 -- operation or a query of a kind that the store lacks is never done. Each step that makes none was
 -- done after some first part of the history, no shorter than that of the step before it: of a look and a query, one that has the branch. A session's branch is the one that had the name at its last
 -- look, also where another has the name later. Behind the steps the sessions see this.
-unfoldable pub PlayedTo : {O R Q : Type 0} → Forms O Q → ℕ → ℕ → List Step → List ℕ → List (Move O R) → Sights → Type 0
+unfoldable pub PlayedTo : {O R Q A : Type 0} → PlainForms O Q R A → ℕ → ℕ → List Step → List ℕ → List (Move O R) → Sights → Type 0
 PlayedTo forms origin begun steps places moves after = PlayedFrom forms origin moves steps no_sights after begun places
 
 -- and they see something
-abbrev pub Played : {O R Q : Type 0} → Forms O Q → ℕ → ℕ → List Step → List ℕ → List (Move O R) → Type 0
+abbrev pub Played : {O R Q A : Type 0} → PlainForms O Q R A → ℕ → ℕ → List Step → List ℕ → List (Move O R) → Type 0
 Played forms origin begun steps places moves = (after : Sights) × PlayedTo forms origin begun steps places moves after
 
 -- what a history has of a client's steps, each longer one has
-abbrev pub StaysPlayed : {O Q : Type 0} (R : Type 0) → Forms O Q → Type 0
-StaysPlayed {O} {Q} R forms = (origin : ℕ) (moves later : List (Move O R)) (begun : ℕ) (steps : List Step) (places : List ℕ) → IsPrefix moves later → Played forms origin begun steps places moves → Played forms origin begun steps places later
+abbrev pub StaysPlayed : {O R Q A : Type 0} → PlainForms O Q R A → Type 0
+StaysPlayed {O} {R} forms = (origin : ℕ) (moves later : List (Move O R)) (begun : ℕ) (steps : List Step) (places : List ℕ) → IsPrefix moves later → Played forms origin begun steps places moves → Played forms origin begun steps places later

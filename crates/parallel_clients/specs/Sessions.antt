@@ -33,7 +33,7 @@ use Rattle.parallel_clients.specs.declared.outcome.ClientRefusal.TheVariants as 
 use Rattle.parallel_clients.specs.declared.outcome.Outcome.{Outcome}
 use Rattle.parallel_clients.specs.declared.outcome.Outcome.TheVariants as outcome
 use Rattle.parallel_clients.specs.declared.sessions.Session.{Session}
-use Rattle.parallel_clients.specs.Forms.{Forms}
+use Rattle.branch_doc.specs.Types.{PlainForms}
 use Rattle.parallel_clients.specs.Played.{Sights, no_sights, WasHead, IsReached, Joins, BringsNothing, PlayedFrom}
 use Rattle.parallel_clients.specs.Outcomes.{Setting, ArePast, HasFailed, StepRefused, SeesNone}
 
@@ -71,13 +71,13 @@ pub record Stage (M : Type 0) : Type 0 where
   pub places : List ℕ
 
 -- where a client goes on from a stage, it has gone on so from an earlier one, by some steps and places in front
-abbrev pub GoesOn : {O R Q : Type 0} → Forms O Q → ℕ → List Step → List ℕ → Stage (Move O R) → Stage (Move O R) → Type 0
-GoesOn {O} {R} {Q} forms origin steps own old new =
+abbrev pub GoesOn : {O R Q A : Type 0} → PlainForms O Q R A → ℕ → List Step → List ℕ → Stage (Move O R) → Stage (Move O R) → Type 0
+GoesOn {O} {R} forms origin steps own old new =
     (later : List (Move O R)) (rest : List Step) (after : Sights) (more : List ℕ) → IsPrefix new.moves later → PlayedFrom forms origin later rest new.sights after (length new.moves) more
     → PlayedFrom forms origin later (steps ++ rest) old.sights after (length old.moves) (own ++ more)
 
 -- a client came by these steps from one stage to another
-pub record PlaysOn {O R Q : Type 0} (forms : Forms O Q) (origin : ℕ) (steps : List Step) (old new : Stage (Move O R)) : Type 0 where
+pub record PlaysOn {O R Q A : Type 0} (forms : PlainForms O Q R A) (origin : ℕ) (steps : List Step) (old new : Stage (Move O R)) : Type 0 where
   pub own : List ℕ
   pub grown : IsPrefix old.moves new.moves
   pub added : new.places ≡ old.places ++ own
@@ -258,7 +258,7 @@ pub record IsWaiting {O R : Type 0} (terms : Terms) (old new : PassView (Move O 
   pub noted : after ≡ places
 
 -- what a client has done so far, from a first pass on, of which the last look may have found no memory
-pub record IsPlaying {O R Q : Type 0} (forms : Forms O Q) (terms : Terms) (steps : List Step) (old new : PassView (Move O R)) (sessions : Sessions (Move O R)) (places : List ℕ) : Type 0 where
+pub record IsPlaying {O R Q A : Type 0} (forms : PlainForms O Q R A) (terms : Terms) (steps : List Step) (old new : PassView (Move O R)) (sessions : Sessions (Move O R)) (places : List ℕ) : Type 0 where
   pub plays : PlaysOn forms terms.origin steps (record { moves = old.moves; sights = no_sights; places = [] }) (stage_of new sessions places)
   pub sessions_are : AreSessions terms new.moves sessions
   pub advances : Advances old new [] places

@@ -9,10 +9,10 @@ ghost use Rattle.parallel_clients.specs.Played.{HasNumber, with_sight};
 ghost use Rattle.parallel_clients.specs.Sessions.{AreSessions, sights_of};
 
 use crate::gate::Gate;
-use crate::plain::Plain;
 use crate::sessions::{Session, set_session};
 use branch_address::Address;
 use branch_disk::Disk;
+use branch_doc::Forms;
 use branch_names::Name;
 use branch_shared::{Named, Pass, Shared};
 use mrdt_model::Memory;
@@ -27,7 +27,7 @@ pub(crate) type Sessions<T> = BTreeMap<Name, Session<Seen<T>>>;
 #[derive(Drop)]
 pub(crate) struct Client<
     'a,
-    T: Plain,
+    T: Forms,
     D: Disk + Drop,
     A: Address,
     N: Named<T::Op, T::Reply>,
@@ -40,7 +40,7 @@ pub(crate) struct Client<
     pub(crate) number: u64,
 }
 
-impl<T: Plain, D: Disk + Drop, A: Address, N: Named<T::Op, T::Reply>, G: Gate, R: Wait> Client<
+impl<T: Forms, D: Disk + Drop, A: Address, N: Named<T::Op, T::Reply>, G: Gate, R: Wait> Client<
     '_,
     T,
     D,

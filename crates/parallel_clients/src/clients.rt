@@ -10,9 +10,9 @@ use crate::client::Client;
 use crate::gate::Gate;
 use crate::landing::note;
 use crate::outcome::Outcome;
-use crate::plain::Plain;
 use branch_address::Address;
 use branch_disk::Disk;
+use branch_doc::Forms;
 use branch_script::Step;
 use branch_shared::{Named, Pass, Shared};
 use mrdt_model::{Listing, Memory};
@@ -50,7 +50,7 @@ fn take_seats(alloc: Global, scripts: &[Listing<Step>]) -> Result<Vec<Seat<'_>>,
 }
 
 // A client enters on a seat, with two parts of the pass.
-fn enter_one<'a, T: Plain, D: Disk + Drop, A: Address, N: Named<T::Op, T::Reply>>(
+fn enter_one<'a, T: Forms, D: Disk + Drop, A: Address, N: Named<T::Op, T::Reply>>(
     alloc: Global,
     shared: &Shared<T, D, A, N>,
     pass: &mut Pass<T, N>,
@@ -69,7 +69,7 @@ fn enter_one<'a, T: Plain, D: Disk + Drop, A: Address, N: Named<T::Op, T::Reply>
 }
 
 // A client for each seat enters. There is room for all.
-fn enter_all<'a, T: Plain, D: Disk + Drop, A: Address, N: Named<T::Op, T::Reply> + Drop>(
+fn enter_all<'a, T: Forms, D: Disk + Drop, A: Address, N: Named<T::Op, T::Reply> + Drop>(
     alloc: Global,
     shared: &Shared<T, D, A, N>,
     pass: &mut Pass<T, N>,
@@ -90,7 +90,7 @@ fn enter_all<'a, T: Plain, D: Disk + Drop, A: Address, N: Named<T::Op, T::Reply>
 }
 
 // A client does its steps.
-fn work<T: Plain, D: Disk + Drop, A: Address, N: Named<T::Op, T::Reply>, G: Gate, R: Wait>(
+fn work<T: Forms, D: Disk + Drop, A: Address, N: Named<T::Op, T::Reply>, G: Gate, R: Wait>(
     client: &Client<'_, T, D, A, N, G, R>,
     alloc: Global,
     entrant: &mut Entrant<'_, Pass<T, N>>,
@@ -98,7 +98,7 @@ fn work<T: Plain, D: Disk + Drop, A: Address, N: Named<T::Op, T::Reply>, G: Gate
     requires drops { AllByRecursion (MayDrop N.drops) entrant.old.seat.steps.now }
     requires none { entrant.old.seat.places.items ≡ [] }
     requires room { length entrant.old.seat.steps.now ≤ vec_capacity entrant.old.seat.places }
-    ensures { HasWorked (setting (fix T.meaning N.terms A.address) T.op_of T.query_of N.opened)
+    ensures { HasWorked (setting (fix T.meaning N.terms A.address) T.forms N.opened)
         entrant.old
         entrant.new }
 {
@@ -108,7 +108,7 @@ fn work<T: Plain, D: Disk + Drop, A: Address, N: Named<T::Op, T::Reply>, G: Gate
 
 // All clients do their steps, each in a thread of its own as far as threads are to be had.
 fn work_all<
-    T: Plain + Send + Sync,
+    T: Forms + Send + Sync,
     D: Disk + Drop + Send,
     A: Address + Send,
     N: Named<T::Op, T::Reply> + Send + Sync,
@@ -130,7 +130,7 @@ fn work_all<
         ≤ vec_capacity (slice_index_or entrants.old i d).seat.places }
     ensures same { length entrants.new ≡ length entrants.old }
     ensures worked { (i : ℕ) (d : _) → i < length entrants.old
-        → HasWorked (setting (fix T.meaning N.terms A.address) T.op_of T.query_of N.opened)
+        → HasWorked (setting (fix T.meaning N.terms A.address) T.forms N.opened)
         (slice_index_or entrants.old i d) (slice_index_or entrants.new i d) }
 {
     let threads = entrants.len().max(1);
@@ -143,7 +143,7 @@ fn work_all<
                 × (entrant.old.seat.places.items ≡ [])
                 × (length entrant.old.seat.steps.now ≤ vec_capacity entrant.old.seat.places) }
             ensures { HasWorked
-                (setting (fix T.meaning N.terms A.address) T.op_of T.query_of N.opened)
+                (setting (fix T.meaning N.terms A.address) T.forms N.opened)
                 entrant.old entrant.new }
         {
             let client = Client {
@@ -158,18 +158,18 @@ fn work_all<
 }
 
 // Each client leaves into the pass. Gives what became of them, for which there is room.
-fn leave_all<T: Plain, D: Disk + Drop, A: Address, N: Named<T::Op, T::Reply> + Drop>(
+fn leave_all<T: Forms, D: Disk + Drop, A: Address, N: Named<T::Op, T::Reply> + Drop>(
     shared: &Shared<T, D, A, N>,
     pass: &mut Pass<T, N>,
     entrants: Vec<Entrant<'_, Pass<T, N>>>,
     mut outcomes: Vec<Outcome>,
 ) -> Vec<Outcome>
     requires ran { AllByRecursion
-        (HasRunOwn (setting (fix T.meaning N.terms A.address) T.op_of T.query_of N.opened) pass.old)
+        (HasRunOwn (setting (fix T.meaning N.terms A.address) T.forms N.opened) pass.old)
         entrants.items }
     requires none { outcomes.items ≡ [] }
     requires room { length entrants.items ≤ vec_capacity outcomes }
-    ensures { HaveLeft (setting (fix T.meaning N.terms A.address) T.op_of T.query_of N.opened)
+    ensures { HaveLeft (setting (fix T.meaning N.terms A.address) T.forms N.opened)
         pass.old
         pass.new entrants.entry.items result.items }
 {
@@ -196,7 +196,7 @@ fn leave_all<T: Plain, D: Disk + Drop, A: Address, N: Named<T::Op, T::Reply> + D
 /// made none was done. No two clients have a place in common, and the pass claims the moves of all. All memory for them is
 /// taken before any client starts: after `Memory` the pass is as it was, so no move was made.
 pub fn run_clients<
-    T: Plain + Send + Sync,
+    T: Forms + Send + Sync,
     D: Disk + Drop + Send,
     A: Address + Send,
     N: Named<T::Op, T::Reply> + Drop + Send + Sync,
@@ -213,7 +213,7 @@ pub fn run_clients<
     requires parts { 2 * length scripts.now < pass.old.parts }
     requires drops { MayDropIn N.drops scripts.now }
     ensures ran { IfOk result
-        (Ran (setting (fix T.meaning N.terms A.address) T.op_of T.query_of N.opened) pass.old
+        (Ran (setting (fix T.meaning N.terms A.address) T.forms N.opened) pass.old
         pass.new
         scripts.now) }
     ensures kept { OnErr result (pass.new ≡ pass.old) }

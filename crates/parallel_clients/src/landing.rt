@@ -10,9 +10,9 @@ ghost use Rattle.parallel_clients.specs.Sessions.{HasStayed, IsLanding, IsLandRe
 use crate::client::Client;
 use crate::gate::Gate;
 use crate::outcome::ClientRefusal;
-use crate::plain::Plain;
 use branch_address::Address;
 use branch_disk::Disk;
+use branch_doc::Forms;
 use branch_shared::{Named, Pass};
 use std::sync::Wait;
 use store_core::LandRefused;
@@ -49,7 +49,7 @@ pub(crate) fn note<X: Drop>(list: &mut Vec<X>, item: X)
     }
 }
 
-impl<T: Plain, D: Disk + Drop, A: Address, N: Named<T::Op, T::Reply>, G: Gate, R: Wait> Client<
+impl<T: Forms, D: Disk + Drop, A: Address, N: Named<T::Op, T::Reply>, G: Gate, R: Wait> Client<
     '_,
     T,
     D,
@@ -76,7 +76,7 @@ impl<T: Plain, D: Disk + Drop, A: Address, N: Named<T::Op, T::Reply>, G: Gate, R
             (IsLanding (move_of prepared.seen.branch prepared.work) pass.old pass.new
             places.old.items places.new.items) }
         ensures refused { IfErr result (λ refusal.
-            IsLandRefused (setting (fix T.meaning N.terms A.address) T.op_of T.query_of N.opened)
+            IsLandRefused (setting (fix T.meaning N.terms A.address) T.forms N.opened)
             prepared
             pass.new refusal × HasStayed pass.old pass.new places.old.items places.new.items) }
     {

@@ -10,9 +10,9 @@ use crate::client::Client;
 use crate::gate::Gate;
 use crate::landing::Stop;
 use crate::outcome::{ClientRefusal, Outcome};
-use crate::plain::Plain;
 use branch_address::Address;
 use branch_disk::Disk;
+use branch_doc::Forms;
 use branch_script::Step;
 use branch_shared::{Named, Pass};
 use mrdt_model::Listing;
@@ -35,7 +35,7 @@ fn stopped(step: u64, stop: Stop, places: Vec<u64>) -> Outcome
     }
 }
 
-impl<T: Plain, D: Disk + Drop, A: Address, N: Named<T::Op, T::Reply>, G: Gate, R: Wait> Client<
+impl<T: Forms, D: Disk + Drop, A: Address, N: Named<T::Op, T::Reply>, G: Gate, R: Wait> Client<
     '_,
     T,
     D,
@@ -56,7 +56,7 @@ impl<T: Plain, D: Disk + Drop, A: Address, N: Named<T::Op, T::Reply>, G: Gate, R
         requires none { places.items ≡ [] }
         requires room { length steps.now ≤ vec_capacity places }
         ensures became { IsOutcome
-            (setting (fix T.meaning N.terms A.address) T.op_of T.query_of N.opened)
+            (setting (fix T.meaning N.terms A.address) T.forms N.opened)
             pass.old.moves pass.new.moves pass.new.faults steps.now result }
         ensures advances { Advances pass.old pass.new [] (places_of result) }
         ensures valid { KeepsValid (fix T.meaning N.terms A.address) pass.old pass.new }

@@ -5,7 +5,6 @@ ghost use Rattle.branch_machine.specs.Fixed.{fix};
 ghost use Rattle.branch_script.specs.declared.step.Step.TheVariants as step;
 ghost use Rattle.branch_shared.specs.Passes.{IsSeenOn};
 ghost use Rattle.parallel_clients.specs.Clients.{KeepsValid};
-ghost use Rattle.parallel_clients.specs.Forms.{plain_forms};
 ghost use Rattle.parallel_clients.specs.Outcomes.{MayDrop, setting};
 ghost use Rattle.parallel_clients.specs.Sessions.{AreSessions, Advances, IsStopped, PlaysOn, Stops, sights_of, stage_of};
 
@@ -13,11 +12,10 @@ use crate::client::{Client, Sessions};
 use crate::gate::Gate;
 use crate::landing::{Landing, Stop, note};
 use crate::outcome::ClientRefusal;
-use crate::plain::Plain;
 use crate::sessions::{Session, set_session};
 use branch_address::Address;
 use branch_disk::Disk;
-use branch_doc::{PlainOp, PlainQuery};
+use branch_doc::{Forms, PlainOp, PlainQuery};
 use branch_names::Name;
 use branch_script::Step;
 use branch_shared::{Named, Pass};
@@ -26,7 +24,7 @@ use std::sync::Wait;
 use store_core::ForkRefused;
 use store_seen::LookRefused;
 
-impl<T: Plain, D: Disk + Drop, A: Address, N: Named<T::Op, T::Reply>, G: Gate, R: Wait> Client<
+impl<T: Forms, D: Disk + Drop, A: Address, N: Named<T::Op, T::Reply>, G: Gate, R: Wait> Client<
     '_,
     T,
     D,
@@ -90,13 +88,13 @@ impl<T: Plain, D: Disk + Drop, A: Address, N: Named<T::Op, T::Reply>, G: Gate, R
         ensures capacity { vec_capacity places.old ≤ vec_capacity places.new }
         ensures sessions { OnOk result (AreSessions N.terms pass.new.moves sessions.new.entries) }
         ensures plays { OnOk result
-            (PlaysOn (plain_forms T.op_of T.query_of) N.terms.origin
+            (PlaysOn T.forms N.terms.origin
             (step.Do session.now op.now ∷ [])
             (stage_of pass.old sessions.old.entries places.old.items)
             (stage_of pass.new sessions.new.entries places.new.items)) }
         ensures few { length places.new.items ≤ length places.old.items + 1 }
         ensures stopped { IfErr result
-            (Stops (setting (fix T.meaning N.terms A.address) T.op_of T.query_of N.opened)
+            (Stops (setting (fix T.meaning N.terms A.address) T.forms N.opened)
             (sights_of sessions.old.entries) (step.Do session.now op.now) pass.old pass.new
             places.old.items places.new.items) }
     {
@@ -130,13 +128,13 @@ impl<T: Plain, D: Disk + Drop, A: Address, N: Named<T::Op, T::Reply>, G: Gate, R
         ensures capacity { vec_capacity places.old ≤ vec_capacity places.new }
         ensures sessions { OnOk result (AreSessions N.terms pass.new.moves sessions.new.entries) }
         ensures plays { OnOk result
-            (PlaysOn (plain_forms T.op_of T.query_of) N.terms.origin
+            (PlaysOn T.forms N.terms.origin
             (step.Merge session.now from.now ∷ [])
             (stage_of pass.old sessions.old.entries places.old.items)
             (stage_of pass.new sessions.new.entries places.new.items)) }
         ensures few { length places.new.items ≤ length places.old.items + 1 }
         ensures stopped { IfErr result
-            (Stops (setting (fix T.meaning N.terms A.address) T.op_of T.query_of N.opened)
+            (Stops (setting (fix T.meaning N.terms A.address) T.forms N.opened)
             (sights_of sessions.old.entries) (step.Merge session.now from.now) pass.old pass.new
             places.old.items places.new.items) }
     {
@@ -173,13 +171,13 @@ impl<T: Plain, D: Disk + Drop, A: Address, N: Named<T::Op, T::Reply>, G: Gate, R
         ensures capacity { vec_capacity places.old ≤ vec_capacity places.new }
         ensures sessions { OnOk result (AreSessions N.terms pass.new.moves sessions.new.entries) }
         ensures plays { OnOk result
-            (PlaysOn (plain_forms T.op_of T.query_of) N.terms.origin
+            (PlaysOn T.forms N.terms.origin
             (step.Join session.now from.now ∷ [])
             (stage_of pass.old sessions.old.entries places.old.items)
             (stage_of pass.new sessions.new.entries places.new.items)) }
         ensures few { length places.new.items ≤ length places.old.items + 1 }
         ensures stopped { IfErr result
-            (Stops (setting (fix T.meaning N.terms A.address) T.op_of T.query_of N.opened)
+            (Stops (setting (fix T.meaning N.terms A.address) T.forms N.opened)
             (sights_of sessions.old.entries) (step.Join session.now from.now) pass.old pass.new
             places.old.items places.new.items) }
     {
@@ -212,13 +210,13 @@ impl<T: Plain, D: Disk + Drop, A: Address, N: Named<T::Op, T::Reply>, G: Gate, R
         ensures valid { KeepsValid (fix T.meaning N.terms A.address) pass.old pass.new }
         ensures capacity { vec_capacity places.old ≤ vec_capacity places.new }
         ensures sessions { OnOk result (AreSessions N.terms pass.new.moves sessions.new.entries) }
-        ensures plays { OnOk result (PlaysOn (plain_forms T.op_of T.query_of) N.terms.origin
+        ensures plays { OnOk result (PlaysOn T.forms N.terms.origin
             (step.Drop session.now ∷ [])
             (stage_of pass.old sessions.old.entries places.old.items)
             (stage_of pass.new sessions.new.entries places.new.items)) }
         ensures few { length places.new.items ≤ length places.old.items + 1 }
         ensures stopped { IfErr result
-            (Stops (setting (fix T.meaning N.terms A.address) T.op_of T.query_of N.opened)
+            (Stops (setting (fix T.meaning N.terms A.address) T.forms N.opened)
             (sights_of sessions.old.entries) (step.Drop session.now)
             pass.old pass.new places.old.items places.new.items) }
     {
@@ -249,13 +247,13 @@ impl<T: Plain, D: Disk + Drop, A: Address, N: Named<T::Op, T::Reply>, G: Gate, R
         ensures valid { KeepsValid (fix T.meaning N.terms A.address) pass.old pass.new }
         ensures capacity { vec_capacity places.old ≤ vec_capacity places.new }
         ensures plays { OnOk result
-            (PlaysOn (plain_forms T.op_of T.query_of) N.terms.origin
+            (PlaysOn T.forms N.terms.origin
             (step.Fork new.now from.now ∷ [])
             (stage_of pass.old sessions.now.entries places.old.items)
             (stage_of pass.new sessions.now.entries places.new.items)) }
         ensures few { length places.new.items ≤ length places.old.items + 1 }
         ensures stopped { IfErr result
-            (Stops (setting (fix T.meaning N.terms A.address) T.op_of T.query_of N.opened)
+            (Stops (setting (fix T.meaning N.terms A.address) T.forms N.opened)
             (sights_of sessions.now.entries) (step.Fork new.now from.now) pass.old pass.new
             places.old.items places.new.items) }
     {
@@ -298,12 +296,12 @@ impl<T: Plain, D: Disk + Drop, A: Address, N: Named<T::Op, T::Reply>, G: Gate, R
         ensures rest { IsSeenOn pass.old pass.new }
         ensures sessions { AreSessions N.terms pass.new.moves sessions.new.entries }
         ensures plays { (places : _)
-            → OnOk result (PlaysOn (plain_forms T.op_of T.query_of) N.terms.origin
+            → OnOk result (PlaysOn T.forms N.terms.origin
             (step.Look session.now branch.now ∷ [])
             (stage_of pass.old sessions.old.entries places)
             (stage_of pass.new sessions.new.entries places)) }
         ensures stopped { IfErr result
-            (IsStopped (setting (fix T.meaning N.terms A.address) T.op_of T.query_of N.opened)
+            (IsStopped (setting (fix T.meaning N.terms A.address) T.forms N.opened)
             (sights_of sessions.old.entries) (step.Look session.now branch.now) pass.new) }
     {
         match self.look_at(pass, sessions, session, branch) {
@@ -328,12 +326,12 @@ impl<T: Plain, D: Disk + Drop, A: Address, N: Named<T::Op, T::Reply>, G: Gate, R
         ensures faults { pass.old.faults ≤ pass.new.faults }
         ensures rest { IsSeenOn pass.old pass.new }
         ensures plays { (places : _)
-            → OnOk result (PlaysOn (plain_forms T.op_of T.query_of) N.terms.origin
+            → OnOk result (PlaysOn T.forms N.terms.origin
             (step.Ask branch.now query.now ∷ [])
             (stage_of pass.old sessions.now.entries places)
             (stage_of pass.new sessions.now.entries places)) }
         ensures stopped { IfErr result
-            (IsStopped (setting (fix T.meaning N.terms A.address) T.op_of T.query_of N.opened)
+            (IsStopped (setting (fix T.meaning N.terms A.address) T.forms N.opened)
             (sights_of sessions.now.entries) (step.Ask branch.now query.now) pass.new) }
     {
         let seen = match self.shared.look(self.rt, pass, branch) {
@@ -369,13 +367,13 @@ impl<T: Plain, D: Disk + Drop, A: Address, N: Named<T::Op, T::Reply>, G: Gate, R
         ensures valid { KeepsValid (fix T.meaning N.terms A.address) pass.old pass.new }
         ensures capacity { vec_capacity places.old ≤ vec_capacity places.new }
         ensures sessions { OnOk result (AreSessions N.terms pass.new.moves sessions.new.entries) }
-        ensures plays { OnOk result (PlaysOn (plain_forms T.op_of T.query_of) N.terms.origin
+        ensures plays { OnOk result (PlaysOn T.forms N.terms.origin
             (step.now ∷ [])
             (stage_of pass.old sessions.old.entries places.old.items)
             (stage_of pass.new sessions.new.entries places.new.items)) }
         ensures few { length places.new.items ≤ length places.old.items + 1 }
         ensures stopped { IfErr result
-            (Stops (setting (fix T.meaning N.terms A.address) T.op_of T.query_of N.opened)
+            (Stops (setting (fix T.meaning N.terms A.address) T.forms N.opened)
             (sights_of sessions.old.entries) step.now pass.old pass.new places.old.items
             places.new.items) }
     {

@@ -13,10 +13,9 @@ use crate::client::{Client, Sessions};
 use crate::gate::Gate;
 use crate::landing::{Landing, Stop, note};
 use crate::outcome::ClientRefusal;
-use crate::plain::Plain;
 use branch_address::Address;
 use branch_disk::Disk;
-use branch_doc::PlainOp;
+use branch_doc::{Forms, PlainOp};
 use branch_history::laws::{keeps_order, raises_heads};
 use branch_machine::laws::makes_fewer_moves;
 use branch_names::Name;
@@ -51,7 +50,7 @@ fn ungrouped(refused: PairRefused) -> ClientRefusal
     }
 }
 
-impl<T: Plain, D: Disk + Drop, A: Address, N: Named<T::Op, T::Reply>, G: Gate, R: Wait> Client<
+impl<T: Forms, D: Disk + Drop, A: Address, N: Named<T::Op, T::Reply>, G: Gate, R: Wait> Client<
     '_,
     T,
     D,
@@ -76,9 +75,9 @@ impl<T: Plain, D: Disk + Drop, A: Address, N: Named<T::Op, T::Reply>, G: Gate, R
         ensures faults { pass.old.faults ≤ pass.new.faults }
         ensures capacity { vec_capacity places.old ≤ vec_capacity places.new }
         ensures tried { IfOk result (IsTried (sights_of sessions.now.entries session.now)
-            (T.op_of op.now) pass.old pass.new places.old.items places.new.items) }
+            (T.forms.op op.now) pass.old pass.new places.old.items places.new.items) }
         ensures stopped { IfErr result
-            (Stops (setting (fix T.meaning N.terms A.address) T.op_of T.query_of N.opened)
+            (Stops (setting (fix T.meaning N.terms A.address) T.forms N.opened)
             (sights_of sessions.now.entries) (step.Do session.now op.now) pass.old pass.new
             places.old.items places.new.items) }
     {
@@ -126,7 +125,7 @@ impl<T: Plain, D: Disk + Drop, A: Address, N: Named<T::Op, T::Reply>, G: Gate, R
             (IsTriedMerge N.terms.origin (sights_of sessions.now.entries session.now) from.now
             pass.old pass.new places.old.items places.new.items) }
         ensures stopped { IfErr result
-            (Stops (setting (fix T.meaning N.terms A.address) T.op_of T.query_of N.opened)
+            (Stops (setting (fix T.meaning N.terms A.address) T.forms N.opened)
             (sights_of sessions.now.entries) (step.Merge session.now from.now) pass.old pass.new
             places.old.items places.new.items) }
     {
@@ -212,7 +211,7 @@ impl<T: Plain, D: Disk + Drop, A: Address, N: Named<T::Op, T::Reply>, G: Gate, R
             (IsTriedJoin N.terms.origin (sights_of sessions.now.entries session.now) from.now
             pass.old pass.new places.old.items places.new.items) }
         ensures stopped { IfErr result
-            (Stops (setting (fix T.meaning N.terms A.address) T.op_of T.query_of N.opened)
+            (Stops (setting (fix T.meaning N.terms A.address) T.forms N.opened)
             (sights_of sessions.now.entries) (step.Join session.now from.now) pass.old pass.new
             places.old.items places.new.items) }
     {
@@ -252,7 +251,7 @@ impl<T: Plain, D: Disk + Drop, A: Address, N: Named<T::Op, T::Reply>, G: Gate, R
         ensures tried { IfOk result (IsTriedDrop (sights_of sessions.now.entries session.now)
             pass.old pass.new places.old.items places.new.items) }
         ensures stopped { IfErr result
-            (Stops (setting (fix T.meaning N.terms A.address) T.op_of T.query_of N.opened)
+            (Stops (setting (fix T.meaning N.terms A.address) T.forms N.opened)
             (sights_of sessions.now.entries) (step.Drop session.now)
             pass.old pass.new places.old.items places.new.items) }
     {

@@ -16,7 +16,7 @@ use std::str;
 use store_core::Core;
 
 // An engine over a store of no moves.
-fn begin(alloc: Global) -> Option<Engine<MemoryDisk, Sha256Address>>
+fn begin(alloc: Global) -> Option<Engine<Doc, MemoryDisk, Sha256Address>>
     ensures working { IfSome result (λ engine. engine.core.failed ≡ false) }
 {
     let disk = MemoryDisk::new(Vec::new(alloc));

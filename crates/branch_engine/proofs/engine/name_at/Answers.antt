@@ -1,4 +1,4 @@
-use Rattle.std.proofs.Common.{◌≡◌, ◌∙◌, sym}
+use Rattle.std.proofs.Common.{◌∙◌, sym}
 use Rattle.std.specs.Prelude.{slice_get}
 use Rattle.branch_history.specs.History.{store_of}
 use Rattle.branch_engine.proofs.Drops.{name-found}

@@ -38,21 +38,19 @@ returns-in-Ok-new-clause-worked g c =
     let blank = c.in-Ok-new.blank in
     let meaning = g.T.Mrdt.meaning in
     let address = g.A.Address.address in
-    let op_of = g.T.Plain.op_of in
-    let query_of = g.T.Plain.query_of in
+    let forms = g.T.Forms.forms in
     let history = c.share.result.core.history in
     let faults = faults_since g.D.Disk.faults c.share.result.core in
-    let on = setting (fix meaning core.terms address) op_of query_of (g.D.Disk.faults core.opened) in
+    let on = setting (fix meaning core.terms address) forms (g.D.Disk.faults core.opened) in
     let scripts = c.deref.result.now in
     let drawn : scripts ≡ scripts_of work.count work.steps work.number = c.deref.ensures.value ∙ c.in-Ok.ensures in
     let valid : IsFullyValid (fix meaning core.terms address) history = subst (λ (b : BlankView (Move _ _) _). IsFullyValid (fix meaning b.core.terms address) history) made c.share.ensures.valid in
     let within = first-within meaning core.terms address c.keeps_limits.ensures c.makes_fewer_moves.ensures c.has_fully_valid_prefixes.ensures history valid in
     let main = first-main meaning core.terms address c.keeps_order.ensures c.makes_fewer_moves.ensures c.has_fully_valid_prefixes.ensures history valid in
     let drops : DropsNone core.history history = subst (λ (b : BlankView (Move _ _) _). DropsNone b.core.history history) made c.share.ensures.drops_none in
-    answer-says (HaveRun (setting (fix meaning blank.core.terms address) op_of query_of blank.opened) blank.core.history history faults scripts) (HaveWorked on core.history history faults work.count work.steps work.number) c.share.result.outcomes
+    answer-says (HaveRun (setting (fix meaning blank.core.terms address) forms blank.opened) blank.core.history history faults scripts) (HaveWorked on core.history history faults work.count work.steps work.number) c.share.result.outcomes
     (λ outcomes run.
-    let lacks = (g.met.T.Plain g.world.𝓛 g.world.𝓜 g.world.𝓡 ((λ s x. x), (λ x. x), (λ x. x), λ x. x)).op_lacks in
-    let own = subst (λ (b : BlankView (Move _ _) _). HaveRun (setting (fix meaning b.core.terms address) op_of query_of b.opened) b.core.history history faults scripts outcomes) made run in
-    have-worked on lacks core.history history drops within main faults work.count work.steps work.number outcomes
+    let own = subst (λ (b : BlankView (Move _ _) _). HaveRun (setting (fix meaning b.core.terms address) forms b.opened) b.core.history history faults scripts outcomes) made run in
+    have-worked on c.lacks_only_sequences.ensures.op core.history history drops within main faults work.count work.steps work.number outcomes
     (subst (λ (xs : List (List Step)). HaveRun on core.history history faults xs outcomes) drawn own))
     c.share.ensures.ran

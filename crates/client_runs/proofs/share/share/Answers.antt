@@ -13,7 +13,7 @@ use Rattle.client_runs.proofs.share.share.Given as given
 use Rattle.client_runs.proofs.share.share.Goals as goal
 
 over : (g : given.Over) (c : goal.After-moves g)
-    → Over (setting (fix g.T.Mrdt.meaning c.args.blank.core.terms g.A.Address.address) g.T.Plain.op_of g.T.Plain.query_of c.args.blank.opened) c.args.blank.core.history c.close_with-closed.result.core.history
+    → Over (setting (fix g.T.Mrdt.meaning c.args.blank.core.terms g.A.Address.address) g.T.Forms.forms c.args.blank.opened) c.args.blank.core.history c.close_with-closed.result.core.history
     (faults_since g.D.Disk.faults c.args.blank.core) (faults_since g.D.Disk.faults c.close_with-closed.result.core) c.args.blank.parts c.args.scripts.now c.run_clients-outcomes.result
 over g c =
     let blank = c.args.blank in
@@ -24,7 +24,7 @@ over g c =
     let history = closed.result.core.history in
     let begun = g.N.Named.begun in
     let begins : IsPrefix begun history = closed.ensures.begun in
-    let same = named-setting g.T.Mrdt.meaning g.A.Address.address g.T.Plain.op_of g.T.Plain.query_of blank.core.terms g.N.Named.terms blank.opened g.N.Named.opened name.terms_are name.opened_is in
+    let same = named-setting g.T.Mrdt.meaning g.A.Address.address g.T.Forms.forms blank.core.terms g.N.Named.terms blank.opened g.N.Named.opened name.terms_are name.opened_is in
     record {
       old = old;
       new = new;
@@ -44,18 +44,18 @@ over g c =
 
 pub returns-clause-ran : goal.returns-clause-ran
 returns-clause-ran g c =
-    have-run (setting (fix g.T.Mrdt.meaning c.args.blank.core.terms g.A.Address.address) g.T.Plain.op_of g.T.Plain.query_of c.args.blank.opened) c.args.blank.core.history c.close_with-closed.result.core.history
+    have-run (setting (fix g.T.Mrdt.meaning c.args.blank.core.terms g.A.Address.address) g.T.Forms.forms c.args.blank.opened) c.args.blank.core.history c.close_with-closed.result.core.history
     (faults_since g.D.Disk.faults c.args.blank.core) (faults_since g.D.Disk.faults c.close_with-closed.result.core) c.args.blank.parts c.args.scripts.now c.run_clients-outcomes.result (over g c)
     (c.stays_outcome.ensures c.args.blank.core.terms g.A.Address.address c.args.blank.opened)
 
 pub returns-clause-faults : goal.returns-clause-faults
 returns-clause-faults g c =
-    faults-rise (setting (fix g.T.Mrdt.meaning c.args.blank.core.terms g.A.Address.address) g.T.Plain.op_of g.T.Plain.query_of c.args.blank.opened) c.args.blank.core.history c.close_with-closed.result.core.history
+    faults-rise (setting (fix g.T.Mrdt.meaning c.args.blank.core.terms g.A.Address.address) g.T.Forms.forms c.args.blank.opened) c.args.blank.core.history c.close_with-closed.result.core.history
     (faults_since g.D.Disk.faults c.args.blank.core) (faults_since g.D.Disk.faults c.close_with-closed.result.core) c.args.blank.parts c.args.scripts.now c.run_clients-outcomes.result (over g c)
 
 pub returns-clause-idle : goal.returns-clause-idle
 returns-clause-idle g c =
-    stays-so (setting (fix g.T.Mrdt.meaning c.args.blank.core.terms g.A.Address.address) g.T.Plain.op_of g.T.Plain.query_of c.args.blank.opened) c.args.blank.core.history c.close_with-closed.result.core.history
+    stays-so (setting (fix g.T.Mrdt.meaning c.args.blank.core.terms g.A.Address.address) g.T.Forms.forms c.args.blank.opened) c.args.blank.core.history c.close_with-closed.result.core.history
     (faults_since g.D.Disk.faults c.args.blank.core) (faults_since g.D.Disk.faults c.close_with-closed.result.core) c.args.blank.parts c.args.scripts.now c.run_clients-outcomes.result (over g c)
 
 pub returns-clause-drops_none : goal.returns-clause-drops_none

@@ -10,7 +10,7 @@ use Rattle.parallel_clients.proofs.clients.leave_all.Goals as goal
 
 pub note-requires : goal.note-requires
 note-requires g c =
-    let on = setting (fix g.T.Mrdt.meaning g.N.Named.terms g.A.Address.address) g.T.Plain.op_of g.T.Plain.query_of g.N.Named.opened in
+    let on = setting (fix g.T.Mrdt.meaning g.N.Named.terms g.A.Address.address) g.T.Forms.forms g.N.Named.opened in
     let before = c.loop-entrant.yielded in
     let rest = c.next.new.self.rest.items in
     let inv = c.loop-entrant.invariant in
@@ -22,7 +22,7 @@ note-requires g c =
 
 pub loop-entrant-preserved : goal.loop-entrant-preserved
 loop-entrant-preserved g c =
-    let on = setting (fix g.T.Mrdt.meaning g.N.Named.terms g.A.Address.address) g.T.Plain.op_of g.T.Plain.query_of g.N.Named.opened in
+    let on = setting (fix g.T.Mrdt.meaning g.N.Named.terms g.A.Address.address) g.T.Forms.forms g.N.Named.opened in
     let from = c.args.pass.now in
     let before = c.loop-entrant.yielded in
     let entrant = c.in-Some.entrant in
@@ -40,7 +40,7 @@ loop-entrant-preserved g c =
 
 pub loop-entrant-init : goal.loop-entrant-init
 loop-entrant-init g c =
-    let on = setting (fix g.T.Mrdt.meaning g.N.Named.terms g.A.Address.address) g.T.Plain.op_of g.T.Plain.query_of g.N.Named.opened in
+    let on = setting (fix g.T.Mrdt.meaning g.N.Named.terms g.A.Address.address) g.T.Forms.forms g.N.Named.opened in
     let first : [] ++ c.into_iter-entrant-iterator.result.rest.items ≡ c.args.entrants.items = search rules in
     let none : HaveLeft on c.args.pass.now c.args.pass.now [] c.args.outcomes.items = subst (HaveLeft on c.args.pass.now c.args.pass.now []) (sym c.requires.none) (left-none on c.args.pass.now) in
     (first, none, c.requires.room)

@@ -8,5 +8,5 @@ use Rattle.parallel_clients.proofs.clients.leave_all.Given as goal
 abbrev pub invariant-loop-entrant : goal.invariant-loop-entrant
 invariant-loop-entrant g l =
     (l.yielded ++ l.entrant-iterator.rest.items ≡ l.fn.entrants.items)
-    × HaveLeft (setting (fix g.T.Mrdt.meaning g.N.Named.terms g.A.Address.address) g.T.Plain.op_of g.T.Plain.query_of g.N.Named.opened) l.fn.pass l.pass l.yielded l.outcomes.items
+    × HaveLeft (setting (fix g.T.Mrdt.meaning g.N.Named.terms g.A.Address.address) g.T.Forms.forms g.N.Named.opened) l.fn.pass l.pass l.yielded l.outcomes.items
     × (length l.fn.entrants.items ≤ vec_capacity l.outcomes)

@@ -5,4 +5,4 @@ use Rattle.parallel_clients.proofs.Grown.{outcome-later}
 use Rattle.parallel_clients.proofs.laws.stays_outcome.Goals as goal
 
 pub returns : goal.returns
-returns g c terms address opened = outcome-later (setting (fix g.T.Mrdt.meaning terms address) g.T.Plain.op_of g.T.Plain.query_of opened)
+returns g c terms address opened = outcome-later (setting (fix g.T.Mrdt.meaning terms address) g.T.Forms.forms opened)

@@ -16,5 +16,5 @@ returns-clause-err g c =
     let out = c.args.out.now.items in
     let out' = c.put_stale.new.out.items in
     let name : c.unwrap-name.result.0 ≡ name_of branches c.args.branch = name-found (slice_get branches c.args.branch) c.unwrap-name.result (sym c.branch-self.ensures.found ∙ c.unwrap-name.ensures) in
-    subst (λ (v : EngineView g.row.D.Denot). OnErr c.put_stale.result (AppendsPart out out' (refusal_text (name_of (store_of v.core.terms.origin v.core.history).branches c.args.branch) (Stale c.args.newest) ++ line_end))) c.self.view_is
+    subst (λ (v : EngineView g.row.T-Op.Denot g.row.T-Reply.Denot g.row.D.Denot). OnErr c.put_stale.result (AppendsPart out out' (refusal_text (name_of (store_of v.core.terms.origin v.core.history).branches c.args.branch) (Stale c.args.newest) ++ line_end))) c.self.view_is
     (subst (λ n. OnErr c.put_stale.result (AppendsPart out out' (refusal_text n (Stale c.args.newest) ++ line_end))) name c.put_stale.ensures.err)

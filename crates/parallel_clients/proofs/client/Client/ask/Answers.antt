@@ -3,7 +3,6 @@ use Rattle.std.proofs.Common.{◌≡◌, ◌∙◌, refl, sym, subst, Some}
 use Rattle.std.specs.Prelude.{IsSome}
 use Rattle.branch_history.specs.Steps as machine
 use Rattle.branch_machine.specs.Fixed.{fix}
-use Rattle.parallel_clients.specs.Forms.{plain_forms}
 use Rattle.parallel_clients.specs.Sessions.{stage_of}
 use Rattle.parallel_clients.proofs.Machines.{full-answers}
 use Rattle.branch_front.proofs.Prefixes.{prefix_self}
@@ -13,10 +12,10 @@ use Rattle.parallel_clients.proofs.client.Client.ask.Goals as goal
 
 pub returns-in-Ok-ask-clause-plays : goal.returns-in-Ok-ask-clause-plays
 returns-in-Ok-ask-clause-plays g c = λ places.
-    plays-asked (plain_forms g.T.Plain.op_of g.T.Plain.query_of) g.N.Named.terms.origin (stage_of c.args.pass.now c.args.sessions.now.entries places) (stage_of c.look.new.pass c.args.sessions.now.entries places)
+    plays-asked g.T.Forms.forms g.N.Named.terms.origin (stage_of c.args.pass.now c.args.sessions.now.entries places) (stage_of c.look.new.pass c.args.sessions.now.entries places)
     c.args.pass.now c.look.new.pass (prefix_self c.args.pass.now.moves) (prefix_self c.look.new.pass.moves) places places refl refl c.look.ensures.prefix refl refl c.args.branch.now c.args.query.now (
       look-there g.T.Mrdt.meaning g.N.Named.terms c.look.new.pass.moves c.args.branch.now c.in-Ok.seen.branch c.in-Ok.seen.head c.in-Ok.ensures.sees,
-      let is : g.T.Plain.query_of c.args.query.now ≡ Some c.in-Ok-Some.query = sym c.in-Ok-Some.ensures ∙ c.in-Ok-Some.field-0-is in
+      let is : g.T.Forms.forms.query c.args.query.now ≡ Some c.in-Ok-Some.query = sym c.in-Ok-Some.ensures ∙ c.in-Ok-Some.field-0-is in
           subst IsSome (sym is) refl,
     )
 

@@ -2,7 +2,6 @@
 use Rattle.std.proofs.Common.{sym, subst, refl, arith}
 use Rattle.branch_history.specs.declared.moves.Move.TheVariants as move
 use Rattle.branch_front.proofs.Prefixes.{prefix_self}
-use Rattle.parallel_clients.specs.Forms.{plain_forms}
 use Rattle.parallel_clients.specs.Sessions.{sights_of, stage_of, HasDropped}
 use Rattle.parallel_clients.proofs.Sessioned.{sessions_later}
 use Rattle.parallel_clients.proofs.Single.{plays-dropped}
@@ -28,7 +27,7 @@ returns-in-Moved-clause-plays g c =
     let tried = rw c.in-Moved.is at c.in_ok-try_drop.ensures.tried in
     let done : HasDropped (sights_of c.args.sessions.now.entries session) mid after places noted =
     subst (λ sights. HasDropped (sights session) mid after places noted) wait.sights tried in
-    plays-dropped (plain_forms g.T.Plain.op_of g.T.Plain.query_of) g.N.Named.terms.origin (stage_of c.args.pass.now c.args.sessions.now.entries c.args.places.now.items) (stage_of after c.loop.sessions.entries noted)
+    plays-dropped g.T.Forms.forms g.N.Named.terms.origin (stage_of c.args.pass.now c.args.sessions.now.entries c.args.places.now.items) (stage_of after c.loop.sessions.entries noted)
     mid after wait.seen (prefix_self after.moves) places noted (sym wait.noted) refl wait.sights session done
 
 pub returns-in-Moved-clause-advances : goal.returns-in-Moved-clause-advances

@@ -3,7 +3,6 @@ use Rattle.std.proofs.Common.{◌∷◌, [], ◌++◌, ◌∙◌, ap, sym, subst
 use mathlib.Core.List.{IsPrefix}
 use Rattle.branch_history.specs.declared.moves.Move.TheVariants as move
 use Rattle.branch_machine.specs.Fixed.{fix}
-use Rattle.parallel_clients.specs.Forms.{plain_forms}
 use Rattle.parallel_clients.specs.Sessions.{stage_of}
 use Rattle.branch_front.proofs.Prefixes.{prefix_self, prefix_more}
 use Rattle.parallel_clients.proofs.Single.{plays-forked, plays-taken}
@@ -22,7 +21,7 @@ returns-in-Ok-clause-plays g c =
     let sessions = c.args.sessions.now.entries in
     let places = c.args.places.now.items in
     let noted = c.note.new.list.items in
-    plays-forked (plain_forms g.T.Plain.op_of g.T.Plain.query_of) g.N.Named.terms.origin (stage_of mid sessions places) (stage_of after sessions noted) mid after (prefix_self mid.moves) (prefix_self after.moves) places noted refl refl refl name from number source
+    plays-forked g.T.Forms.forms g.N.Named.terms.origin (stage_of mid sessions places) (stage_of after sessions noted) mid after (prefix_self mid.moves) (prefix_self after.moves) places noted refl refl refl name from number source
     (record {
       before = f.before;
       begins = subst (IsPrefix f.before) (sym f.last) (prefix_more f.before (move.Fork name number source ∷ []));
@@ -40,5 +39,5 @@ returns-in-Err-NameTaken-clause-plays g c =
     let places = c.args.places.now.items in
     let refused = rw c.in-Err-NameTaken.field-0-is at c.in-Err-NameTaken.ensures.refused in
     let number = c.in-Err-NameTaken.field-0-0 in
-    plays-taken (plain_forms g.T.Plain.op_of g.T.Plain.query_of) g.N.Named.terms.origin (stage_of mid sessions places) (stage_of after sessions places) mid after (prefix_self mid.moves) (prefix_self after.moves) places places refl refl c.fork.ensures.prefix refl refl name from
+    plays-taken g.T.Forms.forms g.N.Named.terms.origin (stage_of mid sessions places) (stage_of after sessions places) mid after (prefix_self mid.moves) (prefix_self after.moves) places places refl refl c.fork.ensures.prefix refl refl name from
     (fork-has (fix g.T.Mrdt.meaning g.N.Named.terms g.A.Address.address) after.moves name from number refused)

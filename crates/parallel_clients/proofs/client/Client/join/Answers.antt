@@ -1,6 +1,5 @@
 -- One join, behind the tries before it.
 use Rattle.std.proofs.Common.{◌∙◌, sym, subst, refl}
-use Rattle.parallel_clients.specs.Forms.{plain_forms}
 use Rattle.parallel_clients.specs.Sessions.{sights_of, stage_of, HasJoined, HasNothing}
 use Rattle.parallel_clients.proofs.Sessioned.{sessions_later}
 use Rattle.branch_front.proofs.Prefixes.{prefix_self}
@@ -31,7 +30,7 @@ returns-in-Moved-clause-plays g c =
     let tried = rw c.in-Moved.is at c.in_ok-try_join.ensures.tried in
     let done : HasJoined g.N.Named.terms.origin (sights_of c.args.sessions.now.entries session) c.args.from.now mid after places noted =
     subst (λ sights. HasJoined g.N.Named.terms.origin (sights session) c.args.from.now mid after places noted) wait.sights tried in
-    plays-joined (plain_forms g.T.Plain.op_of g.T.Plain.query_of) g.N.Named.terms.origin (stage_of c.args.pass.now c.args.sessions.now.entries c.args.places.now.items) (stage_of c.look_again.new.pass c.look_again.new.sessions.entries noted)
+    plays-joined g.T.Forms.forms g.N.Named.terms.origin (stage_of c.args.pass.now c.args.sessions.now.entries c.args.places.now.items) (stage_of c.look_again.new.pass c.look_again.new.sessions.entries noted)
     mid after wait.seen c.look_again.ensures.prefix places noted (sym wait.noted) refl (c.look_again.ensures.sights ∙ wait.sights) session c.args.from.now done
 
 pub returns-in-Moved-clause-advances : goal.returns-in-Moved-clause-advances
@@ -61,5 +60,5 @@ returns-in-Same-clause-plays g c =
     let tried = rw c.in-Same.is at c.in_ok-try_join.ensures.tried in
     let done : HasNothing g.N.Named.terms.origin (sights_of c.args.sessions.now.entries session) c.args.from.now mid after places noted =
     subst (λ sights. HasNothing g.N.Named.terms.origin (sights session) c.args.from.now mid after places noted) wait.sights tried in
-    plays-nothing (plain_forms g.T.Plain.op_of g.T.Plain.query_of) g.N.Named.terms.origin (stage_of c.args.pass.now c.args.sessions.now.entries c.args.places.now.items) (stage_of after c.loop.sessions.entries noted)
+    plays-nothing g.T.Forms.forms g.N.Named.terms.origin (stage_of c.args.pass.now c.args.sessions.now.entries c.args.places.now.items) (stage_of after c.loop.sessions.entries noted)
     mid after wait.seen (prefix_self after.moves) places noted (sym wait.noted) refl c.try_join.ensures.prefix done.stayed.noted wait.sights session c.args.from.now done.branch done.sees done.brings

@@ -1,6 +1,5 @@
 -- One operation, behind the tries before it.
 use Rattle.std.proofs.Common.{◌∙◌, sym, subst, refl}
-use Rattle.parallel_clients.specs.Forms.{plain_forms}
 use Rattle.parallel_clients.specs.Sessions.{sights_of, stage_of, HasDone}
 use Rattle.parallel_clients.proofs.Sessioned.{sessions_later}
 use Rattle.parallel_clients.proofs.Single.{plays-done}
@@ -19,9 +18,9 @@ returns-in-Moved-clause-plays g c =
     let places = c.loop.places.items in
     let noted = c.try_operation.new.places.items in
     let tried = rw c.in-Moved.is at c.in_ok-try_operation.ensures.tried in
-    let done : HasDone (sights_of c.args.sessions.now.entries session) (g.T.Plain.op_of c.args.op.now) mid after places noted =
-    subst (λ sights. HasDone (sights session) (g.T.Plain.op_of c.args.op.now) mid after places noted) wait.sights tried in
-    plays-done (plain_forms g.T.Plain.op_of g.T.Plain.query_of) g.N.Named.terms.origin (stage_of c.args.pass.now c.args.sessions.now.entries c.args.places.now.items) (stage_of c.look_again.new.pass c.look_again.new.sessions.entries noted)
+    let done : HasDone (sights_of c.args.sessions.now.entries session) (g.T.Forms.forms.op c.args.op.now) mid after places noted =
+    subst (λ sights. HasDone (sights session) (g.T.Forms.forms.op c.args.op.now) mid after places noted) wait.sights tried in
+    plays-done g.T.Forms.forms g.N.Named.terms.origin (stage_of c.args.pass.now c.args.sessions.now.entries c.args.places.now.items) (stage_of c.look_again.new.pass c.look_again.new.sessions.entries noted)
     mid after wait.seen c.look_again.ensures.prefix places noted (sym wait.noted) refl (c.look_again.ensures.sights ∙ wait.sights) session c.args.op.now done
 
 pub look_again-requires-in-Stale-clause-sessions : goal.look_again-requires-in-Stale-clause-sessions

@@ -5,7 +5,6 @@ use Rattle.std.proofs.lemmas.Grind.{take_at_read}
 use Rattle.std.proofs.lemmas.List.{take_all}
 use Rattle.std.proofs.lemmas.Option.{slice_get_read}
 use Rattle.branch_machine.specs.Fixed.{fix}
-use Rattle.parallel_clients.specs.Forms.{plain_forms}
 use Rattle.parallel_clients.specs.declared.outcome.Outcome.TheVariants.{Done}
 use Rattle.parallel_clients.specs.Outcomes.{IsOutcome, MayDrop, setting}
 use Rattle.parallel_clients.specs.Sessions.{IsPlaying}
@@ -15,7 +14,7 @@ use Rattle.parallel_clients.proofs.client.Client.run.Goals as goal
 pub loop-number-init : goal.loop-number-init
 loop-number-init g c =
     let pass = c.args.pass.now in
-    let forms = plain_forms g.T.Plain.op_of g.T.Plain.query_of in
+    let forms = g.T.Forms.forms in
     let terms = g.N.Named.terms in
     let playing = subst (λ ps. IsPlaying forms terms [] pass pass c.new-sessions.result.entries ps) (sym c.requires.none)
     (subst (λ ss. IsPlaying forms terms [] pass pass ss []) (sym c.new-sessions.ensures.empty) (playing-none forms terms pass)) in
@@ -32,7 +31,7 @@ step-requires-clause-drops g c κs within =
 
 pub returns-then-not-sees-clause-became : goal.returns-then-not-sees-clause-became
 returns-then-not-sees-clause-became g c =
-    let on = setting (fix g.T.Mrdt.meaning g.N.Named.terms g.A.Address.address) g.T.Plain.op_of g.T.Plain.query_of g.N.Named.opened in
+    let on = setting (fix g.T.Mrdt.meaning g.N.Named.terms g.A.Address.address) g.T.Forms.forms g.N.Named.opened in
     let steps = c.args.steps.now in
     let number = c.loop-number.number in
     let step = c.index-steps-number.result in
@@ -43,7 +42,7 @@ returns-then-not-sees-clause-became g c =
 
 pub returns-in-Err-clause-became : goal.returns-in-Err-clause-became
 returns-in-Err-clause-became g c =
-    let on = setting (fix g.T.Mrdt.meaning g.N.Named.terms g.A.Address.address) g.T.Plain.op_of g.T.Plain.query_of g.N.Named.opened in
+    let on = setting (fix g.T.Mrdt.meaning g.N.Named.terms g.A.Address.address) g.T.Forms.forms g.N.Named.opened in
     let steps = c.args.steps.now in
     let number = c.loop-number.number in
     let step = c.index-steps-number.result in
@@ -57,7 +56,7 @@ returns-in-Err-clause-became g c =
 
 pub loop-number-preserved : goal.loop-number-preserved
 loop-number-preserved g c =
-    let forms = plain_forms g.T.Plain.op_of g.T.Plain.query_of in
+    let forms = g.T.Forms.forms in
     let terms = g.N.Named.terms in
     let steps = c.args.steps.now in
     let number = c.loop-number.number in
@@ -79,12 +78,12 @@ loop-number-preserved g c =
 
 pub returns-clause-became : goal.returns-clause-became
 returns-clause-became g c =
-    let on = setting (fix g.T.Mrdt.meaning g.N.Named.terms g.A.Address.address) g.T.Plain.op_of g.T.Plain.query_of g.N.Named.opened in
+    let on = setting (fix g.T.Mrdt.meaning g.N.Named.terms g.A.Address.address) g.T.Forms.forms g.N.Named.opened in
     let steps = c.args.steps.now in
     let old = c.args.pass.now in
     let mid = c.loop-number.pass in
     let sessions = c.loop-number.sessions.entries in
     let places = c.loop-number.places.items in
     let all : take c.loop-number.number steps ≡ steps = take_all c.loop-number.number steps c.loop-number-test.false in
-    let playing = subst (λ ss. IsPlaying (plain_forms g.T.Plain.op_of g.T.Plain.query_of) g.N.Named.terms ss old mid sessions places) all c.loop-number.invariant.0 in
+    let playing = subst (λ ss. IsPlaying g.T.Forms.forms g.N.Named.terms ss old mid sessions places) all c.loop-number.invariant.0 in
     subst (λ ps. IsOutcome on old.moves mid.moves mid.faults steps (Done ps)) (sym c.from_vec.ensures) (done-became on steps old mid sessions places playing)

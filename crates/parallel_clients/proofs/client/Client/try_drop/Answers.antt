@@ -23,7 +23,7 @@ drop_branch-requires-clause-terms g c κs within =
 
 pub returns-in-Ok-clause-tried : goal.returns-in-Ok-clause-tried
 returns-in-Ok-clause-tried g c =
-    let on = setting (fix g.T.Mrdt.meaning g.N.Named.terms g.A.Address.address) g.T.Plain.op_of g.T.Plain.query_of g.N.Named.opened in
+    let on = setting (fix g.T.Mrdt.meaning g.N.Named.terms g.A.Address.address) g.T.Forms.forms g.N.Named.opened in
     let s = c.in-Some.at.now in
     let sessions = c.args.sessions.now.entries in
     let session = c.args.session.now in
@@ -33,7 +33,7 @@ returns-in-Ok-clause-tried g c =
 
 pub returns-in-Some-undropped-clause-stopped : goal.returns-in-Some-undropped-clause-stopped
 returns-in-Some-undropped-clause-stopped g c =
-    let on = setting (fix g.T.Mrdt.meaning g.N.Named.terms g.A.Address.address) g.T.Plain.op_of g.T.Plain.query_of g.N.Named.opened in
+    let on = setting (fix g.T.Mrdt.meaning g.N.Named.terms g.A.Address.address) g.T.Forms.forms g.N.Named.opened in
     let s = c.in-Some.at.now in
     let old = c.args.pass.now in
     let new = c.drop_branch.new.pass in
@@ -49,5 +49,5 @@ returns-in-Some-undropped-clause-stopped g c =
 
 pub returns-in-None-clause-tried : goal.returns-in-None-clause-tried
 returns-in-None-clause-tried g c =
-    let on = setting (fix g.T.Mrdt.meaning g.N.Named.terms g.A.Address.address) g.T.Plain.op_of g.T.Plain.query_of g.N.Named.opened in
+    let on = setting (fix g.T.Mrdt.meaning g.N.Named.terms g.A.Address.address) g.T.Forms.forms g.N.Named.opened in
     record { rest = drop-stays on c.args.pass.now c.drop_branch.new.pass c.in-Some.at.now c.in-Err.refused c.in-Err.ensures.answered; noted = refl }

@@ -26,7 +26,7 @@ prepare_join-requires-clause-terms g c κs within =
 
 pub returns-in-Err-clause-stopped : goal.returns-in-Err-clause-stopped
 returns-in-Err-clause-stopped g c =
-    let on = setting (fix g.T.Mrdt.meaning g.N.Named.terms g.A.Address.address) g.T.Plain.op_of g.T.Plain.query_of g.N.Named.opened in
+    let on = setting (fix g.T.Mrdt.meaning g.N.Named.terms g.A.Address.address) g.T.Forms.forms g.N.Named.opened in
     let s = c.in-Some.at.now in
     let old = c.args.pass.now in
     let mid = c.prepare_join.new.pass in
@@ -43,7 +43,7 @@ returns-in-Err-clause-stopped g c =
 
 pub returns-in-Ok-Same-clause-tried : goal.returns-in-Ok-Same-clause-tried
 returns-in-Ok-Same-clause-tried g c =
-    let on = setting (fix g.T.Mrdt.meaning g.N.Named.terms g.A.Address.address) g.T.Plain.op_of g.T.Plain.query_of g.N.Named.opened in
+    let on = setting (fix g.T.Mrdt.meaning g.N.Named.terms g.A.Address.address) g.T.Forms.forms g.N.Named.opened in
     let s = c.in-Some.at.now in
     let old = c.args.pass.now in
     let mid = c.prepare_join.new.pass in
@@ -59,7 +59,7 @@ returns-in-Ok-Same-clause-tried g c =
 
 pub land-requires-clause-made : goal.land-requires-clause-made
 land-requires-clause-made g c κs within =
-    let on = setting (fix g.T.Mrdt.meaning g.N.Named.terms g.A.Address.address) g.T.Plain.op_of g.T.Plain.query_of g.N.Named.opened in
+    let on = setting (fix g.T.Mrdt.meaning g.N.Named.terms g.A.Address.address) g.T.Forms.forms g.N.Named.opened in
     let s = c.in-Some.at.now in
     let old = c.args.pass.now in
     let mid = c.prepare_join.new.pass in
@@ -76,7 +76,7 @@ land-requires-clause-made g c κs within =
 
 pub returns-in-Ok-clause-tried : goal.returns-in-Ok-clause-tried
 returns-in-Ok-clause-tried g c =
-    let on = setting (fix g.T.Mrdt.meaning g.N.Named.terms g.A.Address.address) g.T.Plain.op_of g.T.Plain.query_of g.N.Named.opened in
+    let on = setting (fix g.T.Mrdt.meaning g.N.Named.terms g.A.Address.address) g.T.Forms.forms g.N.Named.opened in
     let s = c.in-Some.at.now in
     let old = c.args.pass.now in
     let mid = c.prepare_join.new.pass in
@@ -94,7 +94,7 @@ returns-in-Ok-clause-tried g c =
 
 pub returns-in-Err-land-clause-stopped : goal.returns-in-Err-land-clause-stopped
 returns-in-Err-land-clause-stopped g c =
-    let on = setting (fix g.T.Mrdt.meaning g.N.Named.terms g.A.Address.address) g.T.Plain.op_of g.T.Plain.query_of g.N.Named.opened in
+    let on = setting (fix g.T.Mrdt.meaning g.N.Named.terms g.A.Address.address) g.T.Forms.forms g.N.Named.opened in
     let s = c.in-Some.at.now in
     let old = c.args.pass.now in
     let mid = c.prepare_join.new.pass in

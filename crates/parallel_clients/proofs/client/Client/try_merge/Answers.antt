@@ -30,7 +30,7 @@ returns-in-Err-UnknownBranch-clause-stopped g c =
     let found : session_named sessions session ≡ Some s = sym c.in-Some.ensures.value in
     let refused = rw c.in-Err-UnknownBranch.field-0-is at c.in-Err-UnknownBranch.ensures.refused in
     record {
-      why = merge-unknown (setting (fix g.T.Mrdt.meaning g.N.Named.terms g.A.Address.address) g.T.Plain.op_of g.T.Plain.query_of g.N.Named.opened) c.pair.new.pass.moves (sights_of sessions) session c.args.from.now s.seen.branch (sight-found sessions session s found) refused.1;
+      why = merge-unknown (setting (fix g.T.Mrdt.meaning g.N.Named.terms g.A.Address.address) g.T.Forms.forms g.N.Named.opened) c.pair.new.pass.moves (sights_of sessions) session c.args.from.now s.seen.branch (sight-found sessions session s found) refused.1;
       stayed = record { rest = c.pair.ensures.rest; noted = refl };
     }
 
@@ -45,7 +45,7 @@ returns-in-Ok-Same-clause-tried g c =
     let found : session_named sessions session ≡ Some s = sym c.in-Some.ensures.value in
     let is = c.requires.sessions.each session s found in
     let same = rw c.in-Ok-Same.field-0-is at c.in-Ok-Same.ensures.step in
-    merge-same (setting (fix g.T.Mrdt.meaning g.N.Named.terms g.A.Address.address) g.T.Plain.op_of g.T.Plain.query_of g.N.Named.opened) old mid c.in-Ok.ensures.prefix c.in-Ok.ensures.rest s is (sights_of sessions) session from (sight-found sessions session s found) c.in-Ok.pair c.in-Ok.ensures.paired c.keeps_order.ensures c.raises_heads.ensures (c.makes_fewer_moves.ensures g.N.Named.terms g.A.Address.address c.pair.new.pass.moves c.in-Ok.ensures.valid) c.args.places.now.items same
+    merge-same (setting (fix g.T.Mrdt.meaning g.N.Named.terms g.A.Address.address) g.T.Forms.forms g.N.Named.opened) old mid c.in-Ok.ensures.prefix c.in-Ok.ensures.rest s is (sights_of sessions) session from (sight-found sessions session s found) c.in-Ok.pair c.in-Ok.ensures.paired c.keeps_order.ensures c.raises_heads.ensures (c.makes_fewer_moves.ensures g.N.Named.terms g.A.Address.address c.pair.new.pass.moves c.in-Ok.ensures.valid) c.args.places.now.items same
 
 pub returns-in-Err-ValueTooLarge-clause-stopped : goal.returns-in-Err-ValueTooLarge-clause-stopped
 returns-in-Err-ValueTooLarge-clause-stopped g c =
@@ -58,7 +58,7 @@ returns-in-Err-ValueTooLarge-clause-stopped g c =
     let found : session_named sessions session ≡ Some s = sym c.in-Some.ensures.value in
     let is = c.requires.sessions.each session s found in
     let refused = rw c.in-Err-ValueTooLarge.field-0-is at c.in-Err-ValueTooLarge.ensures.refused in
-    record { why = merge-unprepared (setting (fix g.T.Mrdt.meaning g.N.Named.terms g.A.Address.address) g.T.Plain.op_of g.T.Plain.query_of g.N.Named.opened) old mid c.in-Ok.ensures.prefix c.in-Ok.ensures.rest s is (sights_of sessions) session from (sight-found sessions session s found) c.in-Ok.pair c.in-Ok.ensures.paired (machine.ValueTooLarge c.in-Err-ValueTooLarge.length) refused; stayed = record { rest = c.in-Ok.ensures.rest; noted = refl } }
+    record { why = merge-unprepared (setting (fix g.T.Mrdt.meaning g.N.Named.terms g.A.Address.address) g.T.Forms.forms g.N.Named.opened) old mid c.in-Ok.ensures.prefix c.in-Ok.ensures.rest s is (sights_of sessions) session from (sight-found sessions session s found) c.in-Ok.pair c.in-Ok.ensures.paired (machine.ValueTooLarge c.in-Err-ValueTooLarge.length) refused; stayed = record { rest = c.in-Ok.ensures.rest; noted = refl } }
 
 pub land-requires-clause-made : goal.land-requires-clause-made
 land-requires-clause-made g c κs within =
@@ -72,7 +72,7 @@ land-requires-clause-made g c κs within =
     let is = c.requires.sessions.each session s found in
     let work = rw c.in-Ok-Land.field-0-is at c.in-Ok-Land.ensures.step in
     let made = c.in-Ok-Land.prepared in
-    merge-begins (setting (fix g.T.Mrdt.meaning g.N.Named.terms g.A.Address.address) g.T.Plain.op_of g.T.Plain.query_of g.N.Named.opened) old mid c.in-Ok.ensures.prefix c.in-Ok.ensures.rest s is (sights_of sessions) session from (sight-found sessions session s found) c.in-Ok.pair c.in-Ok.ensures.paired made work.0 work.1
+    merge-begins (setting (fix g.T.Mrdt.meaning g.N.Named.terms g.A.Address.address) g.T.Forms.forms g.N.Named.opened) old mid c.in-Ok.ensures.prefix c.in-Ok.ensures.rest s is (sights_of sessions) session from (sight-found sessions session s found) c.in-Ok.pair c.in-Ok.ensures.paired made work.0 work.1
 
 pub returns-in-Ok-land-clause-tried : goal.returns-in-Ok-land-clause-tried
 returns-in-Ok-land-clause-tried g c =
@@ -86,7 +86,7 @@ returns-in-Ok-land-clause-tried g c =
     let is = c.requires.sessions.each session s found in
     let work = rw c.in-Ok-Land.field-0-is at c.in-Ok-Land.ensures.step in
     let made = c.in-Ok-Land.prepared in
-    merge-tried (setting (fix g.T.Mrdt.meaning g.N.Named.terms g.A.Address.address) g.T.Plain.op_of g.T.Plain.query_of g.N.Named.opened) old mid c.in-Ok.ensures.prefix c.in-Ok.ensures.rest s is (sights_of sessions) session from (sight-found sessions session s found) c.in-Ok.pair c.in-Ok.ensures.paired made work.0 work.1 c.land.new.pass c.land.ensures.prefix c.args.places.now.items c.land.new.places.items c.in-Ok-land.landing c.in-Ok-land.ensures.landed
+    merge-tried (setting (fix g.T.Mrdt.meaning g.N.Named.terms g.A.Address.address) g.T.Forms.forms g.N.Named.opened) old mid c.in-Ok.ensures.prefix c.in-Ok.ensures.rest s is (sights_of sessions) session from (sight-found sessions session s found) c.in-Ok.pair c.in-Ok.ensures.paired made work.0 work.1 c.land.new.pass c.land.ensures.prefix c.args.places.now.items c.land.new.places.items c.in-Ok-land.landing c.in-Ok-land.ensures.landed
 
 pub returns-clause-stopped : goal.returns-clause-stopped
 returns-clause-stopped g c =
@@ -101,6 +101,6 @@ returns-clause-stopped g c =
     let work = rw c.in-Ok-Land.field-0-is at c.in-Ok-Land.ensures.step in
     let made = c.in-Ok-Land.prepared in
     record {
-      why = merge-unlanded (setting (fix g.T.Mrdt.meaning g.N.Named.terms g.A.Address.address) g.T.Plain.op_of g.T.Plain.query_of g.N.Named.opened) old mid c.in-Ok.ensures.prefix c.in-Ok.ensures.rest s is (sights_of sessions) session from (sight-found sessions session s found) c.in-Ok.pair c.in-Ok.ensures.paired made work.0 work.1 c.land.new.pass c.land.ensures.prefix c.in-Err.refusal c.in-Err.ensures.refused.0;
+      why = merge-unlanded (setting (fix g.T.Mrdt.meaning g.N.Named.terms g.A.Address.address) g.T.Forms.forms g.N.Named.opened) old mid c.in-Ok.ensures.prefix c.in-Ok.ensures.rest s is (sights_of sessions) session from (sight-found sessions session s found) c.in-Ok.pair c.in-Ok.ensures.paired made work.0 work.1 c.land.new.pass c.land.ensures.prefix c.in-Err.refusal c.in-Err.ensures.refused.0;
       stayed = stayed-earlier old mid c.land.new.pass c.args.places.now.items c.land.new.places.items c.in-Ok.ensures.rest c.in-Err.ensures.refused.1;
     }

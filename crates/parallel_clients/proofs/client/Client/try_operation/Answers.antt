@@ -16,7 +16,7 @@ returns-in-Ok-None-clause-stopped g c =
     let sessions = c.args.sessions.now.entries in
     let found : session_named sessions c.args.session.now ≡ Some s = sym c.in-Some.ensures.value in
     record {
-      why = do-lacking (setting (fix g.T.Mrdt.meaning g.N.Named.terms g.A.Address.address) g.T.Plain.op_of g.T.Plain.query_of g.N.Named.opened) c.args.pass.now.moves (sights_of sessions) c.args.session.now s.seen.branch
+      why = do-lacking (setting (fix g.T.Mrdt.meaning g.N.Named.terms g.A.Address.address) g.T.Forms.forms g.N.Named.opened) c.args.pass.now.moves (sights_of sessions) c.args.session.now s.seen.branch
           (sight-found sessions c.args.session.now s found) c.args.op.now (sym c.in-Ok-None.ensures ∙ c.in-Ok-None.field-0-is);
       stayed = record { rest = refl; noted = refl };
     }
@@ -29,7 +29,7 @@ returns-in-Err-Exhausted-clause-stopped g c =
     let found : session_named sessions c.args.session.now ≡ Some s = sym c.in-Some.ensures.value in
     let is = c.requires.sessions.each c.args.session.now s found in
     let refused = rw c.in-Err-Exhausted.field-0-is at c.in-Err-Exhausted.ensures.refused in
-    record { why = do-unprepared (setting (fix g.T.Mrdt.meaning g.N.Named.terms g.A.Address.address) g.T.Plain.op_of g.T.Plain.query_of g.N.Named.opened) moves s is (sights_of sessions) c.args.session.now (sight-found sessions c.args.session.now s found) c.args.op.now c.in-Ok-Some.op (sym c.in-Ok-Some.ensures ∙ c.in-Ok-Some.field-0-is) (machine.Exhausted c.in-Err-Exhausted.clock) refused; stayed = record { rest = refl; noted = refl } }
+    record { why = do-unprepared (setting (fix g.T.Mrdt.meaning g.N.Named.terms g.A.Address.address) g.T.Forms.forms g.N.Named.opened) moves s is (sights_of sessions) c.args.session.now (sight-found sessions c.args.session.now s found) c.args.op.now c.in-Ok-Some.op (sym c.in-Ok-Some.ensures ∙ c.in-Ok-Some.field-0-is) (machine.Exhausted c.in-Err-Exhausted.clock) refused; stayed = record { rest = refl; noted = refl } }
 
 pub returns-in-Err-ValueTooLarge-clause-stopped : goal.returns-in-Err-ValueTooLarge-clause-stopped
 returns-in-Err-ValueTooLarge-clause-stopped g c =
@@ -39,7 +39,7 @@ returns-in-Err-ValueTooLarge-clause-stopped g c =
     let found : session_named sessions c.args.session.now ≡ Some s = sym c.in-Some.ensures.value in
     let is = c.requires.sessions.each c.args.session.now s found in
     let refused = rw c.in-Err-ValueTooLarge.field-0-is at c.in-Err-ValueTooLarge.ensures.refused in
-    record { why = do-unprepared (setting (fix g.T.Mrdt.meaning g.N.Named.terms g.A.Address.address) g.T.Plain.op_of g.T.Plain.query_of g.N.Named.opened) moves s is (sights_of sessions) c.args.session.now (sight-found sessions c.args.session.now s found) c.args.op.now c.in-Ok-Some.op (sym c.in-Ok-Some.ensures ∙ c.in-Ok-Some.field-0-is) (machine.ValueTooLarge c.in-Err-ValueTooLarge.length) refused; stayed = record { rest = refl; noted = refl } }
+    record { why = do-unprepared (setting (fix g.T.Mrdt.meaning g.N.Named.terms g.A.Address.address) g.T.Forms.forms g.N.Named.opened) moves s is (sights_of sessions) c.args.session.now (sight-found sessions c.args.session.now s found) c.args.op.now c.in-Ok-Some.op (sym c.in-Ok-Some.ensures ∙ c.in-Ok-Some.field-0-is) (machine.ValueTooLarge c.in-Err-ValueTooLarge.length) refused; stayed = record { rest = refl; noted = refl } }
 
 pub land-requires-clause-made : goal.land-requires-clause-made
 land-requires-clause-made g c κs within =
@@ -54,7 +54,7 @@ returns-in-Ok-land-clause-tried g c =
     let sessions = c.args.sessions.now.entries in
     let found : session_named sessions c.args.session.now ≡ Some s = sym c.in-Some.ensures.value in
     do-tried c.args.pass.now c.land.new.pass c.args.places.now.items c.land.new.places.items s (sights_of sessions c.args.session.now) (sight-found sessions c.args.session.now s found)
-    c.in-Ok.prepared (g.T.Plain.op_of c.args.op.now) c.in-Ok-Some.op (g.T.Mrdt.meaning.reply_of (visible (store_of s.seen.terms.origin s.seen.history).commits s.seen.head) c.in-Ok-Some.op) (sym c.in-Ok-Some.ensures ∙ c.in-Ok-Some.field-0-is) c.in-Ok.ensures.prepared
+    c.in-Ok.prepared (g.T.Forms.forms.op c.args.op.now) c.in-Ok-Some.op (g.T.Mrdt.meaning.reply_of (visible (store_of s.seen.terms.origin s.seen.history).commits s.seen.head) c.in-Ok-Some.op) (sym c.in-Ok-Some.ensures ∙ c.in-Ok-Some.field-0-is) c.in-Ok.ensures.prepared
     c.in-Ok-land.landing c.in-Ok-land.ensures.landed
 
 pub returns-in-Err-land-clause-stopped : goal.returns-in-Err-land-clause-stopped
@@ -66,7 +66,7 @@ returns-in-Err-land-clause-stopped g c =
     let found : session_named sessions c.args.session.now ≡ Some s = sym c.in-Some.ensures.value in
     let is = session-later g.N.Named.terms old new.moves s c.land.ensures.prefix (c.requires.sessions.each c.args.session.now s found) in
     record {
-      why = do-unlanded (setting (fix g.T.Mrdt.meaning g.N.Named.terms g.A.Address.address) g.T.Plain.op_of g.T.Plain.query_of g.N.Named.opened) new.moves s is (sights_of sessions) c.args.session.now (sight-found sessions c.args.session.now s found) c.args.op.now c.in-Ok-Some.op (sym c.in-Ok-Some.ensures ∙ c.in-Ok-Some.field-0-is)
+      why = do-unlanded (setting (fix g.T.Mrdt.meaning g.N.Named.terms g.A.Address.address) g.T.Forms.forms g.N.Named.opened) new.moves s is (sights_of sessions) c.args.session.now (sight-found sessions c.args.session.now s found) c.args.op.now c.in-Ok-Some.op (sym c.in-Ok-Some.ensures ∙ c.in-Ok-Some.field-0-is)
           new c.in-Ok.prepared (g.T.Mrdt.meaning.reply_of (visible (store_of s.seen.terms.origin s.seen.history).commits s.seen.head) c.in-Ok-Some.op) c.in-Err-land.refusal refl c.in-Ok.ensures.prepared c.in-Err-land.ensures.refused.0;
       stayed = c.in-Err-land.ensures.refused.1;
     }
