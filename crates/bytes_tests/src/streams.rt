@@ -1,7 +1,5 @@
-// A source and a sink in memory, and over a reader and a writer, with calls that fail in mid-stream.
-use branch_io::{
-    MemorySink, MemorySource, ReadSource, Sink, SinkFailed, Source, SourceFailed, WriteSink,
-};
+// A source and a sink over a reader and a writer, with calls that fail in mid-stream.
+use branch_io::{ReadSource, Sink, SinkFailed, Source, SourceFailed, WriteSink};
 use std::io;
 use std::io::{Cursor, ErrorKind, Read, Write};
 use std::test::Fail;
@@ -16,31 +14,6 @@ fn put<K: Sink>(sink: &mut K, bytes: &[u8]) -> Result<usize, SinkFailed> {
     let count = sink.give(bytes)?;
     sink.finish()?;
     Ok(count)
-}
-
-#[test]
-fn a_source_gives_pieces_and_fails_where_it_is_told(rt: HostRuntime) -> Result<(), Fail> {
-    let bytes = b"look a main".to_vec(rt.alloc())?;
-    let mut source = MemorySource::new(bytes, 5, vec![in rt.alloc(); 2]?);
-    assert_eq!(rt; next(&mut source), Ok((4, *b"look")));
-    assert_eq!(rt; next(&mut source), Err(SourceFailed));
-    assert_eq!(rt; next(&mut source), Ok((4, *b" a m")));
-    assert_eq!(rt; next(&mut source), Ok((3, *b"ain\0")));
-    assert_eq!(rt; next(&mut source), Ok((0, [0; 4])));
-    let mut slow = MemorySource::new(b"ab".to_vec(rt.alloc())?, 1, vec![in rt.alloc()]?);
-    assert_eq!(rt; next(&mut slow), Ok((1, *b"a\0\0\0")));
-    Ok(())
-}
-
-#[test]
-fn a_sink_keeps_what_it_is_given_and_fails_where_it_is_told(rt: HostRuntime) -> Result<(), Fail> {
-    let mut sink = MemorySink::new(vec![in rt.alloc(); 3, 6]?);
-    assert_eq!(rt; put(&mut sink, b"landed"), Ok(6));
-    assert_eq!(rt; put(&mut sink, b" #1"), Err(SinkFailed));
-    assert_eq!(rt; put(&mut sink, b" #2"), Ok(3));
-    assert_eq!(rt; sink.finish(), Err(SinkFailed));
-    assert!(rt; sink.bytes() == b"landed #2".as_slice());
-    Ok(())
 }
 
 #[test]

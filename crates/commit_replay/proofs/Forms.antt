@@ -1,5 +1,5 @@
 -- What does not depend on the form of the files: the objects of a history but for their header, its records, and the moves of the machine.
-use Rattle.std.proofs.Common.{◌≡◌, ℕ, ◌-◌, ◌<◌, List, [], ◌∷◌, ◌++◌, length, take, drop, refl, sym, ◌∙◌, ap, ap₂, arith, length-append, Option, Some, None, option_and_then, codes}
+use Rattle.std.proofs.Common.{◌≡◌, ℕ, ◌<◌, List, [], ◌∷◌, ◌++◌, length, drop, refl, sym, ◌∙◌, ap, ap₂, arith, length-append, Option, Some, None, option_and_then, codes}
 use Rattle.std.specs.List.{concat, flat_map}
 use Rattle.std.specs.Option.{option_map}
 use Rattle.mrdt_model.specs.Laws.{Meaning}
@@ -23,7 +23,7 @@ use Rattle.branch_machine.specs.Validity.{IsFullMove, IsFullyValidAfter, IsFully
 use Rattle.heads_journal.specs.declared.record.Record.{Record}
 use Rattle.heads_journal.specs.declared.record.Record.TheVariants.{Fork, Operation, Merge, Forward, Join, Received, Place, Drop}
 use Rattle.branch_files.specs.Records.{new_address, record_with, record_of, records_after, records_of}
-use Rattle.branch_files.specs.Next.{end_at, bytes_behind, Suits, Does, HasShape, IsMade}
+use Rattle.branch_files.specs.Next.{Suits, Does, HasShape, IsMade}
 
 length-header : (version : ℕ) → length (header_of version) ≡ 16
 length-header version =
@@ -175,6 +175,3 @@ module _ {S O R Q A : Type 0} (m : Meaning S O R Q A) (terms : Terms) (address :
   pub made-same : (moves : List (Move O R)) (r : Record) (bytes : List ℕ) → IsMade x moves r bytes → IsMade y moves r bytes
   made-same moves r bytes (made, full, recorded, stored) =
       (made, full-same moves made full, sym (record-same moves made) ∙ recorded, sym (region-same moves made) ∙ stored)
-
-  pub behind-same : (moves : List (Move O R)) (objects : List ℕ) (r : Record) → bytes_behind x moves objects r ≡ bytes_behind y moves objects r
-  behind-same moves objects r = ap (λ (end : ℕ). take (end_at r - end) (drop end objects)) (end-same moves)

@@ -7,11 +7,11 @@ use Rattle.branch_wire.specs.declared.action.Action.{Action}
 use Rattle.mrdt_model.specs.Laws.{Meaning, KeepsLaws}
 use Rattle.branch_wire.specs.Fields.{field}
 use Rattle.branch_wire.specs.Reading.{HasLength64}
-use Rattle.branch_wire.specs.Objects.{CommitFields, value_object, commit_object}
+use Rattle.branch_wire.specs.Objects.{value_object, commit_object}
 use Rattle.branch_wire.specs.StoredObjects.{Stored, same, first_with, clash, collision, fresh}
 use Rattle.branch_history.specs.declared.moves.Move.{Move}
 use Rattle.branch_history.specs.declared.moves.Move.TheVariants as move
-use Rattle.branch_history.specs.Commits.{Commit, visible, clock_of, greatest_clock}
+use Rattle.branch_history.specs.Commits.{Commit, clock_of, greatest_clock}
 use Rattle.branch_history.specs.History.{Store, received_commit, merge_commit, operation_commit}
 use Rattle.branch_history.specs.Machine.{turn, makes, received_merge_refusal}
 use Rattle.branch_history.specs.Steps.{Step, ReceiveOperation, ReceiveMerge, Outcome, Refusal, New, Turn}
@@ -27,8 +27,8 @@ use Rattle.branch_machine.specs.Fixed.{Fixed, fix}
 use Rattle.branch_machine.specs.Laws.{HasSize}
 use Rattle.branch_machine.specs.Machine.{collision_refusal, commit_received, pair_next, commit_at, commit_here, unless_here, unless_made, full_turn}
 use Rattle.branch_history.specs.Machine.{unless}
-use Rattle.branch_machine.specs.Objects.{Pair, both, store_after, objects_of, new_objects, end_of, region}
-use Rattle.branch_machine.specs.Validity.{IsFullMove, IsFullyValid, IsItem, Receives}
+use Rattle.branch_machine.specs.Objects.{Pair, store_after, objects_of, end_of, region}
+use Rattle.branch_machine.specs.Validity.{IsFullMove, IsFullyValid, Receives}
 use Rattle.branch_machine.proofs.Distinct.{no-collision}
 use Rattle.branch_machine.proofs.Items.{answered-once}
 use Rattle.branch_machine.proofs.Stored.{clash-none}

@@ -466,6 +466,17 @@ no-bytes fixed moves (Received address end) makes suits = absurd (makes tt)
 no-bytes fixed moves (Place number k name end) makes suits = suits.2
 no-bytes fixed moves (Drop b end) makes suits = suits.2
 
+-- and one of a move that makes a commit adds some
+pub some-bytes : {S O R Q A : Type 0} (fixed : Fixed S O R Q A) (moves : List (Move O R)) (r : Record) → MakesCommit r → Suits fixed moves r → end_of fixed moves < end_at r
+some-bytes fixed moves (Fork number from name end) makes suits = absurd makes
+some-bytes fixed moves (Operation b address end) makes suits = suits.1.0
+some-bytes fixed moves (Merge b k address end) makes suits = suits.4.0
+some-bytes fixed moves (Forward b k end) makes suits = absurd makes
+some-bytes fixed moves (Join b ks end) makes suits = suits.2.0
+some-bytes fixed moves (Received address end) makes suits = suits
+some-bytes fixed moves (Place number k name end) makes suits = absurd makes
+some-bytes fixed moves (Drop b end) makes suits = absurd makes
+
 -- there is a number for one more move
 pub few-moves : {S O R Q A : Type 0} (fixed : Fixed S O R Q A) → KeepsLaws fixed.meaning → (moves : List (Move O R)) → IsFullyValid fixed moves → length moves + 1 < 2 ^ 64
 few-moves fixed laws moves valid =

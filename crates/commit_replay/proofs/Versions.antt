@@ -2,6 +2,7 @@
 use Rattle.std.proofs.Common.{◌≡◌, ℕ, ◌-◌, ◌<◌, ◌≤◌, Bool, true, false, cond, ◌==◌, List, length, take, drop, Option, refl, sym, ◌∙◌, ap, arith, subst}
 use Rattle.std.specs.List.{AllByRecursion}
 use Rattle.std.proofs.lemmas.Bool.{eqb-true}
+use Rattle.std.proofs.lemmas.List.{length-drop}
 use Rattle.mrdt_model.specs.Laws.{Meaning}
 use Rattle.branch_names.specs.declared.terms.Terms.{Terms}
 use Rattle.branch_disk.specs.declared.part.Part.TheVariants.{Objects}
@@ -20,10 +21,11 @@ use Rattle.commit_replay.specs.declared.commit.NotRemade.TheVariants as unmade
 use Rattle.commit_replay.specs.declared.refused.ReplayRefused.TheVariants.{Truncated, BadObject, BadCommit}
 use Rattle.commit_replay.specs.Follows.{form_of, MayCome}
 use Rattle.commit_replay.specs.Parts.{AreParts}
-use Rattle.commit_replay.specs.Refusals.{ComesWhole, StopsAs}
+use Rattle.commit_replay.specs.Refusals.{ComesWhole, StopsAheadAs}
 use Rattle.commit_replay.specs.Walk.{NotRemadeAs}
-use Rattle.commit_replay.proofs.Forms.{end-same, records-same, suits-same, does-same, shape-later, made-same, behind-same}
+use Rattle.commit_replay.proofs.Forms.{end-same, records-same, suits-same, does-same, shape-later, made-same}
 use Rattle.commit_replay.proofs.Parted.{shape-parts, parts-shape, parts-same}
+use Rattle.commit_replay.proofs.Steps.{some-bytes}
 
 last-few : (version : ℕ) → last_in version ≤ 8
 last-few version = at (version == 1)
@@ -81,26 +83,34 @@ module _ {S O R Q A : Type 0} (m : Meaning S O R Q A) (terms : Terms) (address :
   pub bad-own : (moves : List (Move O R)) (r : Record) → (MayCome today moves r → ⊥) → MayCome own moves r → ⊥
   bad-own moves r none may = none (may-today moves r may)
 
-  module _ (moves : List (Move O R)) (objects : List ℕ) (r : Record) (is : IsRecord version r) (may : MayCome today moves r) (place : ℕ) (at : place ≡ end_of today moves) where
-    pub cut-own : length objects < end_at r → StopsAs own moves objects r (Truncated Objects place)
-    cut-own less = (at ∙ end-same m terms address present (form_of version) moves, may-own moves r is may, less)
+  module _ (moves : List (Move O R)) (ahead : List ℕ) (r : Record) (is : IsRecord version r) (may : MayCome today moves r) (place : ℕ) (at : place ≡ end_of today moves) where
+    at-own : place ≡ end_of own moves
+    at-own = at ∙ end-same m terms address present (form_of version) moves
 
-    module _ (makes : MakesCommit r) (end : ℕ) (ends : end ≡ end_at r) (long : end ≤ length objects) where
-      whole : ComesWhole own moves objects r
-      whole = record { may = may-own moves r is may; long = omega (arith, ends, long); makes = makes }
+    pub cut-own : length ahead < end_at r - place → StopsAheadAs own moves ahead r (Truncated Objects place)
+    cut-own less objects behind = (at-own, may-own moves r is may, omega (arith, less, at-own, ap length behind, length-drop (end_of own moves) objects))
 
-      -- the bytes from the end of the history's objects to where those of the record end
+    module _ (makes : MakesCommit r) (end : ℕ) (ends : end ≡ end_at r) (long : end - place ≤ length ahead) where
+      -- the bytes up to where those of the record end
       abbrev bytes : List ℕ
-      bytes = take (end - place) (drop place objects)
+      bytes = take (end - place) ahead
 
-      behind : bytes ≡ bytes_behind own moves objects r
-      behind =
-          ap (λ (n : ℕ). take (n - place) (drop place objects)) ends ∙ ap (λ (n : ℕ). take (end_at r - n) (drop n objects)) at
-          ∙ behind-same m terms address present (form_of version) moves objects r
+      module _ (objects : List ℕ) (behind : ahead ≡ drop (end_of own moves) objects) where
+        whole : ComesWhole own moves objects r
+        whole = record {
+          may = may-own moves r is may;
+          long = let more = some-bytes today moves r makes may.suits in omega (arith, ends, long, at, at-own, more, ap length behind, length-drop (end_of own moves) objects);
+          makes = makes;
+        }
 
-      pub object-own : NotRemadeAs own moves r bytes unmade.Object → StopsAs own moves objects r (BadObject place)
-      object-own none = (at ∙ end-same m terms address present (form_of version) moves, whole, subst (λ (l : List ℕ). HasShape own r l → ⊥) behind none)
+        are : bytes ≡ bytes_behind own moves objects r
+        are =
+            ap (λ (n : ℕ). take (n - place) ahead) ends ∙ ap (λ (n : ℕ). take (end_at r - n) ahead) at-own
+            ∙ ap (λ (l : List ℕ). take (end_at r - end_of own moves) l) behind
 
-      pub commit-own : (number : ℕ) → number ≡ length (store_of terms.origin moves).commits → NotRemadeAs own moves r bytes unmade.Commit → StopsAs own moves objects r (BadCommit number)
-      commit-own number counted why =
-          (counted, whole, subst (HasShape own r) behind why.0, subst (λ (l : List ℕ). IsMade own moves r l → ⊥) behind why.1)
+      pub object-own : NotRemadeAs own moves r bytes unmade.Object → StopsAheadAs own moves ahead r (BadObject place)
+      object-own none objects behind = (at-own, whole objects behind, subst (λ (l : List ℕ). HasShape own r l → ⊥) (are objects behind) none)
+
+      pub commit-own : (number : ℕ) → number ≡ length (store_of terms.origin moves).commits → NotRemadeAs own moves r bytes unmade.Commit → StopsAheadAs own moves ahead r (BadCommit number)
+      commit-own number counted why objects behind =
+          (counted, whole objects behind, subst (HasShape own r) (are objects behind) why.0, subst (λ (l : List ℕ). IsMade own moves r l → ⊥) (are objects behind) why.1)

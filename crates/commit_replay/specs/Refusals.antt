@@ -1,5 +1,5 @@
 -- Why records and bytes of objects are not those of a history: behind those of one comes a record that goes no further.
-use Rattle.std.specs.Prelude.{◌≡◌, ℕ, ◌+◌, ◌<◌, ◌≤◌, List, [], length, slice_get}
+use Rattle.std.specs.Prelude.{◌≡◌, ℕ, ◌+◌, ◌<◌, ◌≤◌, List, [], length, drop, slice_get}
 use Rattle.std.specs.declared.option.Option.TheVariants.{Some}
 use Rattle.branch_wire.specs.StoredObjects.{Begins}
 use Rattle.branch_disk.specs.declared.part.Part.TheVariants.{Objects, Heads}
@@ -31,6 +31,10 @@ StopsAs fixed moves objects r (BadCommit number) =
     (number ≡ length (store_after fixed moves).commits) × ComesWhole fixed moves objects r
     × HasShape fixed r (bytes_behind fixed moves objects r) × ¬ IsMade fixed moves r (bytes_behind fixed moves objects r)
 StopsAs fixed moves objects r Memory = Unit {0}
+
+-- whatever bytes of objects have these behind those of the history, the record goes no further
+abbrev pub StopsAheadAs : {S O R Q A : Type 0} {form : Form} → FixedIn form S O R Q A → List (Move O R) → List ℕ → Record → ReplayRefused → Type 0
+StopsAheadAs fixed moves ahead r refusal = (objects : List ℕ) → ahead ≡ drop (end_of fixed moves) objects → StopsAs fixed moves objects r refusal
 
 -- The objects do not begin with those of the empty history; or the record that comes behind some history goes no further.
 abbrev pub ReplayRefusedAs : {S O R Q A : Type 0} {form : Form} → FixedIn form S O R Q A → List Record → List ℕ → ReplayRefused → Type 0

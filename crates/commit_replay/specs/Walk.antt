@@ -1,5 +1,5 @@
 -- How the walk over the records goes on.
-use Rattle.std.specs.Prelude.{◌≡◌, ℕ, Bool, true, false, List, [], ◌∷◌, ◌++◌, length}
+use Rattle.std.specs.Prelude.{◌≡◌, ℕ, ◌-◌, Bool, true, false, List, [], ◌∷◌, ◌++◌, length, take, drop}
 use Rattle.std.specs.declared.option.Option.{Option}
 use Rattle.std.specs.declared.option.Option.TheVariants.{None, Some}
 use Rattle.branch_wire.specs.Objects.{value_object}
@@ -12,7 +12,7 @@ use Rattle.branch_machine.specs.Fixed.{Form, FixedIn, Fixed}
 use Rattle.branch_machine.specs.Objects.{Pair, store_after, end_of, objects_of, region}
 use Rattle.branch_machine.specs.Validity.{IsFullMove, IsFullyValid, Receives}
 use Rattle.branch_files.specs.Records.{record_of}
-use Rattle.branch_files.specs.Next.{HasBranch, HasCommit, AreJoined, HasShape, IsMade}
+use Rattle.branch_files.specs.Next.{end_at, HasBranch, HasCommit, AreJoined, HasShape, IsMade}
 use Rattle.recorded_history.specs.Views.{RecordedView}
 use Rattle.commit_replay.specs.declared.commit.NotRemade.{NotRemade}
 use Rattle.commit_replay.specs.declared.commit.NotRemade.TheVariants as unmade
@@ -38,6 +38,14 @@ abbrev pub HasPlan : {O R : Type 0} → Store O R → Plan O → Type 0
 HasPlan s (plan.Operation branch op) = HasBranch s branch
 HasPlan s (plan.Merge branch commit) = HasBranch s branch × HasCommit s commit
 HasPlan s (plan.Join branch commits) = HasBranch s branch × AreJoined s branch commits
+
+-- of the bytes that stand behind the objects of the history, those up to where the objects of the record end
+abbrev pub bytes_ahead : {S O R Q A : Type 0} {form : Form} → FixedIn form S O R Q A → List (Move O R) → List ℕ → Record → List ℕ
+bytes_ahead fixed moves ahead r = take (end_at r - end_of fixed moves) ahead
+
+-- and those behind them
+abbrev pub left_ahead : {S O R Q A : Type 0} {form : Form} → FixedIn form S O R Q A → List (Move O R) → List ℕ → Record → List ℕ
+left_ahead fixed moves ahead r = drop (end_at r - end_of fixed moves) ahead
 
 -- the history goes on by a move of the machine with this record and this region
 pub record GoesOn {S O R Q A : Type 0} (fixed : Fixed S O R Q A) (old new : RecordedView (Move O R)) (r : Record) (bytes : List ℕ) : Type 0 where

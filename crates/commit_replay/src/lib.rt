@@ -4,6 +4,7 @@
 //! and what results is compared with the bytes.
 #![tactic(auto)]
 
+mod ahead;
 mod apart;
 mod commit;
 mod first;

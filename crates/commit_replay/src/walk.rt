@@ -1,14 +1,15 @@
 // The walk over the records.
 ghost use Rattle.std.specs.Prelude.{◌≡◌, ℕ, [], All, length, IfOk, IfErr, OnOk};
 ghost use Rattle.branch_machine.specs.Fixed.{fix, fix_in};
-ghost use Rattle.branch_files.specs.Next.{bytes_behind, end_at, MakesCommit};
+ghost use Rattle.branch_files.specs.Next.{end_at, MakesCommit};
 ghost use Rattle.heads_journal.specs.declared.record.Record.TheVariants as entry;
 ghost use Rattle.branch_files.specs.Records.{records_of, IsKnown, AreKnown};
 ghost use Rattle.heads_journal.specs.Format.{Fits, IsRecord};
 ghost use Rattle.commit_replay.specs.Follows.{form_of, Follows, MayCome};
-ghost use Rattle.commit_replay.specs.Refusals.{ReplayRefusedAs, StopsAs};
-ghost use Rattle.commit_replay.specs.Walk.{GoesOn};
+ghost use Rattle.commit_replay.specs.Refusals.{ReplayRefusedAs, StopsAheadAs};
+ghost use Rattle.commit_replay.specs.Walk.{bytes_ahead, left_ahead, GoesOn};
 
+use crate::ahead::Ahead;
 use crate::commit::{NotRemade, remake_commit};
 use crate::first::first_text;
 use crate::lookups::standing_of;
@@ -35,22 +36,24 @@ const FOLDS: u32 = 4096;
 /// and the addresses are those that the machine makes. What the bytes say of them is only compared.
 ///
 /// The records must be such as files of the version have, as those that `heads_journal::read_all` has read are.
+///
+/// The bytes of the objects are given up, and go from memory as their moves are made.
 pub fn replay<T: Mrdt, A: Address>(
     alloc: Global,
     version: u32,
     terms: Terms,
     records: &[Record],
-    objects: &[u8],
+    objects: Vec<u8>,
 ) -> Result<Recorded<T, A>, ReplayRefused>
     requires { All (IsRecord version) records.now }
     ensures settled { IfOk result (λ recorded.
         recorded ≡ record { written = recorded.written; pending = []; terms = terms }) }
     ensures replayed { let fixed = fix_in (form_of version) T.meaning terms A.address in
-        IfOk result (λ recorded. Follows fixed recorded.written records.now objects.now) }
+        IfOk result (λ recorded. Follows fixed recorded.written records.now objects.items) }
     ensures all { let fixed = fix_in (form_of version) T.meaning terms A.address in
         IfOk result (λ recorded. records_of fixed recorded.written ≡ records.now) }
     ensures refused { let fixed = fix_in (form_of version) T.meaning terms A.address in
-        IfErr result (ReplayRefusedAs fixed records.now objects.now) }
+        IfErr result (ReplayRefusedAs fixed records.now objects.items) }
 {
     let Ok(first) = first_text::<T, A>(alloc, version) else {
         return Err(ReplayRefused::Memory);
@@ -58,6 +61,10 @@ pub fn replay<T: Mrdt, A: Address>(
     if !objects.starts_with(&first) {
         return Err(ReplayRefused::NotAStore);
     }
+    let mut ahead = Ahead::new(objects);
+    let Ok(_) = ahead.take(first.len() as u64) else {
+        return Err(ReplayRefused::Memory);
+    };
     let Ok(mut recorded) = Recorded::fresh(alloc, terms) else {
         return Err(ReplayRefused::Memory);
     };
@@ -65,7 +72,7 @@ pub fn replay<T: Mrdt, A: Address>(
         return Err(ReplayRefused::Memory);
     };
     for next in records {
-        if let Err(refused) = replay_record(alloc, version, &mut recorded, next, objects) {
+        if let Err(refused) = replay_record(alloc, version, &mut recorded, next, &mut ahead) {
             return Err(refused);
         }
     }
@@ -73,24 +80,27 @@ pub fn replay<T: Mrdt, A: Address>(
     Ok(recorded)
 }
 
-// Goes on by the move of one record of a version.
+// Goes on by the move of one record of a version, and takes the bytes of its objects off those ahead.
 fn replay_record<T: Mrdt, A: Address>(
     alloc: Global,
     version: u32,
     recorded: &mut Recorded<T, A>,
     next: &Record,
-    objects: &[u8],
+    ahead: &mut Ahead,
 ) -> Result<(), ReplayRefused>
     requires settled { recorded.old.pending ≡ [] }
     requires known { AreKnown (fix T.meaning recorded.old.terms A.address) recorded.old.written }
     requires of { IsRecord version next.now }
     ensures went { OnOk result
         (GoesOn (fix T.meaning recorded.old.terms A.address) recorded.old recorded.new next.now
-        (bytes_behind (fix T.meaning recorded.old.terms A.address) recorded.old.written objects.now
+        (bytes_ahead (fix T.meaning recorded.old.terms A.address) recorded.old.written ahead.old
         next.now)) }
+    ensures left { OnOk result
+        (ahead.new ≡ left_ahead (fix T.meaning recorded.old.terms A.address) recorded.old.written
+        ahead.old next.now) }
     ensures read { OnOk result (IsKnown next.now) }
     ensures stops { let own = fix_in (form_of version) T.meaning recorded.old.terms A.address in
-        IfErr result (StopsAs own recorded.old.written objects.now next.now) }
+        IfErr result (StopsAheadAs own recorded.old.written ahead.old next.now) }
 {
     let Ok(may) = may_come(recorded, next) else {
         return Err(ReplayRefused::Memory);
@@ -105,20 +115,16 @@ fn replay_record<T: Mrdt, A: Address>(
             Ok(()) => Ok(()),
             Err(Memory) => Err(ReplayRefused::Memory),
         },
-        Record::Operation { end, .. } => replay_commit(
-            alloc, version, recorded, next, *end, objects,
-        ),
-        Record::Merge { end, .. } => replay_commit(alloc, version, recorded, next, *end, objects),
+        Record::Operation { end, .. } => replay_commit(alloc, version, recorded, next, *end, ahead),
+        Record::Merge { end, .. } => replay_commit(alloc, version, recorded, next, *end, ahead),
         Record::Forward { branch, to, .. } => {
             match replay_forward(recorded, next, *branch, *to) {
                 Ok(()) => Ok(()),
                 Err(Memory) => Err(ReplayRefused::Memory),
             }
         }
-        Record::Join { end, .. } => replay_commit(alloc, version, recorded, next, *end, objects),
-        Record::Received { end, .. } => replay_commit(
-            alloc, version, recorded, next, *end, objects,
-        ),
+        Record::Join { end, .. } => replay_commit(alloc, version, recorded, next, *end, ahead),
+        Record::Received { end, .. } => replay_commit(alloc, version, recorded, next, *end, ahead),
         Record::Place { commit, name, .. } => match replay_place(recorded, next, *commit, *name) {
             Ok(()) => Ok(()),
             Err(Memory) => Err(ReplayRefused::Memory),
@@ -237,7 +243,7 @@ fn replay_commit<T: Mrdt, A: Address>(
     recorded: &mut Recorded<T, A>,
     next: &Record,
     end: u64,
-    objects: &[u8],
+    ahead: &mut Ahead,
 ) -> Result<(), ReplayRefused>
     requires settled { recorded.old.pending ≡ [] }
     requires end { end ≡ end_at next.now }
@@ -248,21 +254,26 @@ fn replay_commit<T: Mrdt, A: Address>(
         next.now }
     ensures went { OnOk result
         (GoesOn (fix T.meaning recorded.old.terms A.address) recorded.old recorded.new next.now
-        (bytes_behind (fix T.meaning recorded.old.terms A.address) recorded.old.written objects.now
+        (bytes_ahead (fix T.meaning recorded.old.terms A.address) recorded.old.written ahead.old
         next.now)) }
+    ensures left { OnOk result
+        (ahead.new ≡ left_ahead (fix T.meaning recorded.old.terms A.address) recorded.old.written
+        ahead.old next.now) }
     ensures stops { let own = fix_in (form_of version) T.meaning recorded.old.terms A.address in
-        IfErr result (StopsAs own recorded.old.written objects.now next.now) }
+        IfErr result (StopsAheadAs own recorded.old.written ahead.old next.now) }
 {
     let now = standing_of(recorded);
     let place = now.end;
-    if end > objects.len() as u64 {
+    if end - place > ahead.len() {
         return Err(ReplayRefused::Truncated {
             part: Part::Objects,
             place,
         });
     }
-    let bytes = &objects[place as usize..end as usize];
-    match remake_commit(alloc, version, recorded, next, bytes) {
+    let Ok(bytes) = ahead.take(end - place) else {
+        return Err(ReplayRefused::Memory);
+    };
+    match remake_commit(alloc, version, recorded, next, &bytes) {
         Ok(()) => Ok(()),
         Err(NotRemade::Object) => Err(ReplayRefused::BadObject { place }),
         Err(NotRemade::Commit) => Err(ReplayRefused::BadCommit {

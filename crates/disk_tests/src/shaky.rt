@@ -7,53 +7,31 @@ use std::io;
 use std::io::{ErrorKind, Read, Seek, SeekFrom, Write};
 use std::rt::Files;
 
-// How often a file was opened, and how often it was asked for a sync.
-#[derive(Drop)]
-pub struct Asked {
-    pub opened: Cell<u64>,
-    pub syncs: Cell<u64>,
-}
-
-impl Asked {
-    fn new() -> Asked {
-        Asked {
-            opened: Cell::new(0),
-            syncs: Cell::new(0),
-        }
-    }
-}
-
-// What was asked of the two files and of their folder, how long each of them is, and whether the locks are taken.
+// How often each of the two files and their folder was asked for a sync, and how long each of them is.
 #[derive(Drop)]
 pub struct Shaky {
-    pub objects: Asked,
-    pub heads: Asked,
-    pub folder: Asked,
-    pub length: u64,
-    pub taken: Cell<bool>,
+    objects: Cell<u64>,
+    heads: Cell<u64>,
+    folder: Cell<u64>,
+    length: u64,
 }
 
 impl Shaky {
     pub fn new(length: u64) -> Shaky {
         Shaky {
-            objects: Asked::new(),
-            heads: Asked::new(),
-            folder: Asked::new(),
+            objects: Cell::new(0),
+            heads: Cell::new(0),
+            folder: Cell::new(0),
             length,
-            taken: Cell::new(false),
         }
     }
 
     // How often each was asked for a sync: the objects, the heads, and the folder.
     pub fn syncs(&self) -> (u64, u64, u64) {
-        (
-            self.objects.syncs.get(),
-            self.heads.syncs.get(),
-            self.folder.syncs.get(),
-        )
+        (self.objects.get(), self.heads.get(), self.folder.get())
     }
 
-    fn asked(&self, path: &str) -> &Asked {
+    fn syncs_of(&self, path: &str) -> &Cell<u64> {
         if path.ends_with(".objects") {
             &self.objects
         } else if path.ends_with(".heads") {
@@ -67,8 +45,8 @@ impl Shaky {
 // One of them. It takes each byte and gives none.
 #[derive(Drop)]
 pub struct ShakyFile<'a> {
-    files: &'a Shaky,
-    asked: &'a Asked,
+    length: u64,
+    syncs: &'a Cell<u64>,
 }
 
 fn refused<T>() -> io::Result<T> {
@@ -93,7 +71,7 @@ impl<'a> Write for ShakyFile<'a> {
 
 impl<'a> Seek for ShakyFile<'a> {
     fn seek(&mut self, _to: SeekFrom) -> io::Result<u64> {
-        Ok(self.files.length)
+        Ok(self.length)
     }
 }
 
@@ -107,8 +85,8 @@ impl<'a> OpenFile for ShakyFile<'a> {
     }
 
     fn sync_all(&self) -> io::Result<()> {
-        let before = self.asked.syncs.get();
-        self.asked.syncs.set(before.saturating_add(1));
+        let before = self.syncs.get();
+        self.syncs.set(before.saturating_add(1));
         if before == 0 { refused() } else { Ok(()) }
     }
 
@@ -119,11 +97,7 @@ impl<'a> OpenFile for ShakyFile<'a> {
 
 impl<'a> LockFile for ShakyFile<'a> {
     fn take_lock(&self) -> io::Result<()> {
-        if self.files.taken.get() {
-            refused()
-        } else {
-            Ok(())
-        }
+        Ok(())
     }
 }
 
@@ -133,11 +107,9 @@ impl<'a> Files for &'a Shaky {
     type Dir = ShakyFile<'a>;
 
     fn open_file(&self, _how: &OpenOptions, path: &str) -> io::Result<ShakyFile<'a>> {
-        let asked = self.asked(path);
-        asked.opened.set(asked.opened.get().saturating_add(1));
         Ok(ShakyFile {
-            files: *self,
-            asked,
+            length: self.length,
+            syncs: self.syncs_of(path),
         })
     }
 

@@ -1,7 +1,7 @@
 -- The item is answered in one way, so a move that the machine makes of it is the one that was made.
-use Rattle.std.proofs.Common.{◌≡◌, subst}
+use Rattle.std.proofs.Common.{subst}
 use Rattle.branch_history.specs.Steps as machine
-use Rattle.branch_machine.specs.Fixed.{Fixed, fix}
+use Rattle.branch_machine.specs.Fixed.{fix}
 use Rattle.branch_machine.specs.Objects.{Pair}
 use Rattle.branch_machine.specs.Validity.{IsFullyValid}
 use Rattle.recorded_history.specs.Receives.{ReceivesItem, HasItsRecord, item_arrived, item_refused}

@@ -15,7 +15,7 @@ overflow_add-result g c =
 
 pub returns-then-not-may-clause-stops : goal.returns-then-not-may-clause-stops
 returns-then-not-may-clause-stops g c =
-    let r = c.args.recorded.now in (
+    let r = c.args.recorded.now in λ _ _. (
       ap (λ (n : ℕ). n + 1) (c.moves.ensures.moves ∙ ap length (settled-moves r.written r.pending c.requires.settled)),
       bad-own g.T.Mrdt.meaning r.terms g.A.Address.address c.args.version r.written c.args.next.now
           (λ may. both_ways c.in-Ok.may c.if-not-may.true (c.in-Ok.ensures.1 may)),

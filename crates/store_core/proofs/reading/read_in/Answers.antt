@@ -45,7 +45,7 @@ pub returns-clause-reads : goal.returns-clause-reads
 returns-clause-reads g c = λ f told.
     let form = form_of c.args.version in let m = g.T.Mrdt.meaning in let address = g.A.Address.address in
     let terms = c.in_ok-journal.terms in let moves = c.in_ok-recorded.recorded.written in
-    let objects = sym (c.deref.ensures.value ∙ c.in-Ok.ensures.bytes f (c.read_heads.ensures.same ∙ told)) in
+    let objects = sym (c.in-Ok.ensures.bytes f (c.read_heads.ensures.same ∙ told)) in
     let heads = subst (λ (rs : List Record). heads_reading.ReadsAs f.heads (header_in form terms) rs c.in_ok-journal.stop) (sym c.as_slice.ensures) (c.in_ok-journal.ensures.read f told) in
     let same = ap (λ (r : RecordedView (Move g.row.T-Op.Denot g.row.T-Reply.Denot)). r.terms) c.in_ok-recorded.ensures.settled in
     subst₂ (λ (l : Terms) (k : ℕ). ReadsInOf form k m address f (Opens l moves)) (sym same) c.in_ok-journal.ensures.kind (c.in_ok-recorded.ensures.reads f objects heads)
@@ -54,7 +54,7 @@ pub returns-clause-only : goal.returns-clause-only
 returns-clause-only g c = λ f told.
     let form = form_of c.args.version in let m = g.T.Mrdt.meaning in let address = g.A.Address.address in
     let terms = c.in_ok-journal.terms in let moves = c.in_ok-recorded.recorded.written in
-    let objects = sym (c.deref.ensures.value ∙ c.in-Ok.ensures.bytes f (c.read_heads.ensures.same ∙ told)) in
+    let objects = sym (c.in-Ok.ensures.bytes f (c.read_heads.ensures.same ∙ told)) in
     let heads = subst (λ (rs : List Record). heads_reading.ReadsAs f.heads (header_in form terms) rs c.in_ok-journal.stop) (sym c.as_slice.ensures) (c.in_ok-journal.ensures.read f told) in
     let same = ap (λ (r : RecordedView (Move g.row.T-Op.Denot g.row.T-Reply.Denot)). r.terms) c.in_ok-recorded.ensures.settled in
     let short = subst (λ (o : List ℕ). HasLength64 o) (sym objects) c.replay_all.ensures.short in
@@ -65,7 +65,7 @@ returns-in_err-recorded-clause-refused_only g c =
     let form = form_of c.args.version in let m = g.T.Mrdt.meaning in let address = g.A.Address.address in
     refused-if (IsNone form c.args.kind m address (g.D.Disk.contents c.args.disk.now)) c.in_err-recorded.field-0.0 c.from_residual-in_err-recorded.result c.from_residual-in_err-recorded.ensures.1
     (λ no_fault no_want f told.
-    let objects = sym (c.deref.ensures.value ∙ c.in-Ok.ensures.bytes f (c.read_heads.ensures.same ∙ told)) in
+    let objects = sym (c.in-Ok.ensures.bytes f (c.read_heads.ensures.same ∙ told)) in
     let heads = subst (λ (rs : List Record). heads_reading.ReadsAs f.heads (header_in form c.in_ok-journal.terms) rs c.in_ok-journal.stop) (sym c.as_slice.ensures) (c.in_ok-journal.ensures.read f told) in
     let short = subst (λ (o : List ℕ). HasLength64 o) (sym objects) c.replay_all.ensures.short in
     refused-none form c.args.kind m address f (c.reads_of_a_kind_in_one_way.ensures form) g.met.A.Address.size short c.in_err-recorded.field-0.0 (subst (λ (k : ℕ). OpenRefusedInOf form k m address c.in_err-recorded.field-0.0 f) c.in_ok-journal.ensures.kind (c.in_err-recorded.ensures.refused f objects heads)) no_fault no_want)
@@ -79,7 +79,7 @@ returns-in_err-recorded-clause-only_refused g c =
     let form = form_of c.args.version in let m = g.T.Mrdt.meaning in let address = g.A.Address.address in
     refused-if (λ (e : OpenRefused). ForSome (g.D.Disk.contents c.args.disk.now) (RefusedOnlyInOf form c.args.kind m address e)) c.in_err-recorded.field-0.0 c.from_residual-in_err-recorded.result c.from_residual-in_err-recorded.ensures.1
     (λ f told.
-    let objects = sym (c.deref.ensures.value ∙ c.in-Ok.ensures.bytes f (c.read_heads.ensures.same ∙ told)) in
+    let objects = sym (c.in-Ok.ensures.bytes f (c.read_heads.ensures.same ∙ told)) in
     let heads = subst (λ (rs : List Record). heads_reading.ReadsAs f.heads (header_in form c.in_ok-journal.terms) rs c.in_ok-journal.stop) (sym c.as_slice.ensures) (c.in_ok-journal.ensures.read f told) in
     let short = subst (λ (o : List ℕ). HasLength64 o) (sym objects) c.replay_all.ensures.short in
     refused-only form c.args.kind m address f (c.reads_of_a_kind_in_one_way.ensures form) g.met.A.Address.size short c.in_err-recorded.field-0.0 (subst (λ (k : ℕ). OpenRefusedInOf form k m address c.in_err-recorded.field-0.0 f) c.in_ok-journal.ensures.kind (c.in_err-recorded.ensures.refused f objects heads)))
@@ -89,7 +89,7 @@ returns-in_err-recorded-clause-refused g c =
     let form = form_of c.args.version in let m = g.T.Mrdt.meaning in let address = g.A.Address.address in
     refused-if (λ (e : OpenRefused). ForSome (g.D.Disk.contents c.args.disk.now) (OpenRefusedInOf form c.args.kind m address e)) c.in_err-recorded.field-0.0 c.from_residual-in_err-recorded.result c.from_residual-in_err-recorded.ensures.1
     (λ f told.
-    let objects = sym (c.deref.ensures.value ∙ c.in-Ok.ensures.bytes f (c.read_heads.ensures.same ∙ told)) in
+    let objects = sym (c.in-Ok.ensures.bytes f (c.read_heads.ensures.same ∙ told)) in
     let heads = subst (λ (rs : List Record). heads_reading.ReadsAs f.heads (header_in form c.in_ok-journal.terms) rs c.in_ok-journal.stop) (sym c.as_slice.ensures) (c.in_ok-journal.ensures.read f told) in
     subst (λ (k : ℕ). OpenRefusedInOf form k m address c.in_err-recorded.field-0.0 f) c.in_ok-journal.ensures.kind (c.in_err-recorded.ensures.refused f objects heads))
 
