@@ -1,7 +1,7 @@
 -- Objects that are copied one behind the other, each once.
-use Rattle.std.proofs.Common.{◌≡◌, ℕ, ◌+◌, ◌<◌, Bool, true, false, cond, Some, None, slice_get, ◌||◌, List, [], ◌∷◌, ◌++◌, length, map, take, zero, suc, get_or, refl, sym, ◌∙◌, ap, arith, append_assoc, append-nil}
-use Rattle.std.specs.Borrow.{Bor}
+use Rattle.std.proofs.Common.{◌≡◌, ℕ, ◌+◌, ◌<◌, Bool, true, false, cond, Some, None, slice_get, List, [], ◌∷◌, ◌++◌, length, map, take, zero, suc, get_or, refl, sym, ◌∙◌, ap, arith, append_assoc, append-nil}
 use Rattle.std.specs.List.{list_any, flat_map, concat}
+use Rattle.std.specs.Option.{option_map_or}
 use Rattle.std.proofs.lemmas.List.{map-append, length-take}
 use Rattle.std.proofs.lemmas.List.Concat.{flat_map-append}
 use Rattle.branch_machine.specs.Objects.{Pair, both, commit_text, value_text}
@@ -10,28 +10,26 @@ use Rattle.branch_wire.specs.StoredObjects.{Stored, file_of, fresh, same}
 use Rattle.object_store.proofs.Written.{file-both}
 use Rattle.branch_compact.specs.Compact.{at_places}
 use Rattle.store_compact.specs.declared.copying.Placed.{Placed}
-use Rattle.store_compact.specs.Copied.{lent, objects_in, placed_after, placed_of}
+use Rattle.store_compact.specs.Copied.{added, objects_in, pair_of, placed_after, placed_of, unless_known, values_in}
 
--- an object is known where an equal one is
-pub any-lent : (x : List ℕ) (keys : List (Bor (List ℕ))) → list_any (λ (k : Bor (List ℕ)). same x k.now) keys ≡ list_any (same x) (lent keys)
-any-lent x [] = refl
-any-lent x (k ∷ keys) = ap (λ (b : Bool). same x k.now || b) (any-lent x keys)
-
--- what an object adds that is known, or is not
-pub insert-lent : (x : Bor (List ℕ)) (keys new : List (Bor (List ℕ))) → new ≡ cond (list_any (λ (k : Bor (List ℕ)). same x.now k.now) keys) keys (keys ++ x ∷ [])
-    → lent new ≡ lent keys ++ fresh (lent keys) (x.now ∷ [])
-insert-lent x keys new is =
-    ap lent is ∙ at (list_any (λ (k : Bor (List ℕ)). same x.now k.now) keys) ∙ ap (λ (b : Bool). lent keys ++ cond b [] (x.now ∷ [])) (any-lent x.now keys)
+-- what is told of an address goes in where it is not known
+pub insert-known : (a : List ℕ) (known new : List (List ℕ)) → new ≡ cond (list_any (same a) known) known (known ++ a ∷ []) → new ≡ known ++ fresh known (a ∷ [])
+insert-known a known new is = is ∙ at (list_any (same a) known)
   where
-    at : (b : Bool) → lent (cond b keys (keys ++ x ∷ [])) ≡ lent keys ++ cond b [] (x.now ∷ [])
-    at true = sym (append-nil (lent keys))
-    at false = map-append (λ (object : Bor (List ℕ)). object.now) keys (x ∷ [])
+    at : (b : Bool) → cond b known (known ++ a ∷ []) ≡ known ++ cond b [] (a ∷ [])
+    at true = sym (append-nil known)
+    at false = refl
 
-pub copied-new : (x : List ℕ) (keys : List (Bor (List ℕ))) → list_any (λ (k : Bor (List ℕ)). same x k.now) keys ≡ false → concat (fresh (lent keys) (x ∷ [])) ≡ x
-copied-new x keys is = ap (λ (b : Bool). concat (cond b [] (x ∷ []))) (sym (any-lent x keys) ∙ is) ∙ append-nil x
+pub copied-new : (a x : List ℕ) (known : List (List ℕ)) → list_any (same a) known ≡ false → concat (unless_known known a x) ≡ x
+copied-new a x known is = ap (λ (b : Bool). concat (cond b [] (x ∷ []))) is ∙ append-nil x
 
-pub copied-known : (x : List ℕ) (keys : List (Bor (List ℕ))) → list_any (λ (k : Bor (List ℕ)). same x k.now) keys ≡ true → concat (fresh (lent keys) (x ∷ [])) ≡ []
-copied-known x keys is = ap (λ (b : Bool). concat (cond b [] (x ∷ []))) (sym (any-lent x keys) ∙ is)
+pub copied-known : (a x : List ℕ) (known : List (List ℕ)) → list_any (same a) known ≡ true → concat (unless_known known a x) ≡ []
+copied-known a x known is = ap (λ (b : Bool). concat (cond b [] (x ∷ []))) is
+
+-- the addresses of values with one more
+pub values-more : (address : List ℕ → List ℕ) (pairs : List Pair) (p : Pair) → values_in address (pairs ++ p ∷ []) ≡ values_in address pairs ++ fresh (values_in address pairs) (address p.value ∷ [])
+values-more address pairs p =
+    ap (fresh []) (map-append (λ (q : Pair). address q.value) pairs (p ∷ [])) ∙ fresh-append [] (map (λ (q : Pair). address q.value) pairs) (address p.value ∷ [])
 
 -- the objects with one more
 pub objects-more : (pairs : List Pair) (p : Pair) → objects_in (pairs ++ p ∷ []) ≡ objects_in pairs ++ fresh (objects_in pairs) (both p)
@@ -81,7 +79,7 @@ at_places-more {X} keep n (y ∷ ys) x =
     either false rest = rest
 
 -- the objects of the next commit
-take-pair : (pairs : List Pair) (k : ℕ) → k < length pairs → take (suc k) pairs ≡ take k pairs ++ record { value = value_text pairs k; commit = commit_text pairs k } ∷ []
+take-pair : (pairs : List Pair) (k : ℕ) → k < length pairs → take (suc k) pairs ≡ take k pairs ++ pair_of pairs k ∷ []
 take-pair [] k lt = absurd (omega (arith, lt))
 take-pair (p ∷ ps) zero lt = refl
 take-pair (p ∷ ps) (suc k) lt = ap (λ (l : List Pair). p ∷ l) (take-pair ps k (omega (arith, lt)))
@@ -91,7 +89,7 @@ module _ (keep : ℕ → Bool) (pairs : List Pair) (k : ℕ) (lt : k < length pa
   kept_to n = at_places keep 0 (take n pairs)
 
   abbrev next : Pair
-  next = record { value = value_text pairs k; commit = commit_text pairs k }
+  next = pair_of pairs k
 
   with-next : kept_to (k + 1) ≡ kept_to k ++ cond (keep k) (next ∷ []) []
   with-next =
@@ -106,28 +104,55 @@ module _ (keep : ℕ → Bool) (pairs : List Pair) (k : ℕ) (lt : k < length pa
   pub next-gone : keep k ≡ false → kept_to (k + 1) ≡ kept_to k
   next-gone is = with-next ∙ ap (λ (b : Bool). kept_to k ++ cond b (next ∷ []) []) is ∙ append-nil (kept_to k)
 
-  module _ (is : keep k ≡ true) (old new : Stored) (was : old ≡ objects_in (kept_to k)) (grown : new ≡ old ++ fresh old (value_text pairs k ∷ commit_text pairs k ∷ [])) where
-    pub known-next : new ≡ objects_in (kept_to (k + 1))
-    known-next =
-        grown ∙ ap (λ (l : Stored). l ++ fresh l (value_text pairs k ∷ commit_text pairs k ∷ [])) was ∙ sym (objects-more (kept_to k) next)
-        ∙ sym (ap objects_in (next-kept is))
+  module _ (is : keep k ≡ true) (address : List ℕ → List ℕ) (known : List (List ℕ)) (was : known ≡ values_in address (kept_to k)) where
+    pub known-next : (new : List (List ℕ)) → new ≡ known ++ fresh known (address (value_text pairs k) ∷ []) → new ≡ values_in address (kept_to (k + 1))
+    known-next new grown =
+        grown ∙ ap (λ (l : List (List ℕ)). l ++ fresh l (address (value_text pairs k) ∷ [])) was ∙ sym (values-more address (kept_to k) next)
+        ∙ sym (ap (values_in address) (next-kept is))
 
-    pub placed-next : (address : List ℕ → List ℕ) (before after : List Placed) → before ≡ placed_of address (kept_to k)
-        → after ≡ before ++ record { address = address (commit_text pairs k); end = length (file_of new) } ∷ [] → after ≡ placed_of address (kept_to (k + 1))
-    placed-next address before after stood stands =
-        stands ∙ ap (λ (l : List Placed). l ++ record { address = address (commit_text pairs k); end = length (file_of new) } ∷ []) stood
-        ∙ ap (λ (l : Stored). placed_of address (kept_to k) ++ record { address = address (commit_text pairs k); end = length (file_of l) } ∷ []) (known-next ∙ ap objects_in (next-kept is))
-        ∙ sym (placed-more address (kept_to k) next) ∙ sym (ap (placed_of address) (next-kept is))
+    module _ (adds : fresh (objects_in (kept_to k)) (both next) ≡ added address (values_in address (kept_to k)) next) (text longer : List ℕ) (stood : text ≡ file_of (objects_in (kept_to k)))
+        (copied : longer ≡ text ++ concat (added address known next)) where
+      pub whole-next : longer ≡ file_of (objects_in (kept_to (k + 1)))
+      whole-next =
+          copied ∙ ap (λ (l : List ℕ). l ++ concat (added address known next)) stood
+          ∙ ap (λ (l : Stored). file_of (objects_in (kept_to k)) ++ concat l) (ap (λ (l : List (List ℕ)). added address l next) was ∙ sym adds)
+          ∙ sym (file-both (objects_in (kept_to k)) (fresh (objects_in (kept_to k)) (both next)))
+          ∙ sym (ap file_of (objects-more (kept_to k) next)) ∙ sym (ap (λ (ps : List Pair). file_of (objects_in ps)) (next-kept is))
 
--- an object behind another, in the list and in the file
-pub both-known : (first second third : Stored) (value commit : List ℕ) → second ≡ first ++ fresh first (value ∷ []) → third ≡ second ++ fresh second (commit ∷ [])
-    → third ≡ first ++ fresh first (value ∷ commit ∷ [])
-both-known first second third value commit one two =
-    two ∙ ap (λ (l : Stored). l ++ fresh l (commit ∷ [])) one ∙ append_assoc first (fresh first (value ∷ [])) (fresh (first ++ fresh first (value ∷ [])) (commit ∷ []))
-    ∙ ap (λ (l : Stored). first ++ l) (sym (fresh-append first (value ∷ []) (commit ∷ [])))
+      pub placed-next : (before after : List Placed) → before ≡ placed_of address (kept_to k)
+          → after ≡ before ++ record { address = address (commit_text pairs k); end = length longer } ∷ [] → after ≡ placed_of address (kept_to (k + 1))
+      placed-next before after first stands =
+          stands ∙ ap (λ (l : List Placed). l ++ record { address = address (commit_text pairs k); end = length longer } ∷ []) first
+          ∙ ap (λ (l : List ℕ). placed_of address (kept_to k) ++ record { address = address (commit_text pairs k); end = length l } ∷ [])
+          (whole-next ∙ ap (λ (ps : List Pair). file_of (objects_in ps)) (next-kept is))
+          ∙ sym (placed-more address (kept_to k) next) ∙ sym (ap (placed_of address) (next-kept is))
 
-pub whole-more : (old new more : Stored) (text longer : List ℕ) → text ≡ file_of old → longer ≡ text ++ concat more → new ≡ old ++ more → longer ≡ file_of new
-whole-more old new more text longer was is grown = is ∙ ap (λ (l : List ℕ). l ++ concat more) was ∙ sym (file-both old more) ∙ sym (ap file_of grown)
+-- the objects that were found
+pub value-found : (pairs : List Pair) (k : ℕ) (p : Pair) → Some p ≡ slice_get pairs k → p.value ≡ value_text pairs k
+value-found pairs k p is = ap (λ o. option_map_or (λ q. q.value) o []) is
+
+pub commit-found : (pairs : List Pair) (k : ℕ) (p : Pair) → Some p ≡ slice_get pairs k → p.commit ≡ commit_text pairs k
+commit-found pairs k p is = ap (λ o. option_map_or (λ q. q.commit) o []) is
+
+-- the object of a commit behind that of its value
+added-both : (known : List (List ℕ)) (a value commit first second third : List ℕ) → second ≡ first ++ concat (unless_known known a value) → third ≡ second ++ commit
+    → third ≡ first ++ concat (unless_known known a value ++ commit ∷ [])
+added-both known a value commit first second third one two =
+    two ∙ ap (λ (l : List ℕ). l ++ commit) one ∙ at (list_any (same a) known)
+  where
+    at : (b : Bool) → (first ++ concat (cond b [] (value ∷ []))) ++ commit ≡ first ++ concat (cond b [] (value ∷ []) ++ commit ∷ [])
+    at true = append_assoc first [] commit ∙ ap (λ (l : List ℕ). first ++ l) (sym (append-nil commit))
+    at false =
+        append_assoc first (value ++ []) commit ∙ ap (λ (l : List ℕ). first ++ (l ++ commit)) (append-nil value)
+        ∙ ap (λ (l : List ℕ). first ++ (value ++ l)) (sym (append-nil commit))
+
+pub added-same : (address : List ℕ → List ℕ) (known : List (List ℕ)) (a value commit : List ℕ) (p : Pair) → a ≡ address p.value → value ≡ p.value → commit ≡ p.commit → (first second third : List ℕ)
+    → second ≡ first ++ concat (unless_known known a value) → third ≡ second ++ commit → third ≡ first ++ concat (added address known p)
+added-same address known a value commit p is one two first second third behind last =
+    added-both known a value commit first second third behind last
+    ∙ ap (λ (b : List ℕ). first ++ concat (unless_known known b value ++ commit ∷ [])) is
+    ∙ ap (λ (v : List ℕ). first ++ concat (unless_known known (address p.value) v ++ commit ∷ [])) one
+    ∙ ap (λ (c : List ℕ). first ++ concat (unless_known known (address p.value) p.value ++ c ∷ [])) two
 
 -- what is there is found
 pub not-none : {X : Type 0} (xs : List X) (k : ℕ) → k < length xs → None ≡ slice_get xs k → ⊥

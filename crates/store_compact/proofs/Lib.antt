@@ -1,4 +1,5 @@
 mod Writes
+mod Told
 mod Copies
 mod Spells
 mod Gathered

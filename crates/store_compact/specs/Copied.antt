@@ -1,18 +1,29 @@
 -- The objects of a history as they are copied, commit by commit.
-use Rattle.std.specs.Prelude.{ℕ, List, [], ◌∷◌, ◌++◌, length, map}
-use Rattle.std.specs.Borrow.{Bor}
-use Rattle.std.specs.List.{flat_map}
-use Rattle.branch_machine.specs.Objects.{Pair, both}
-use Rattle.branch_wire.specs.StoredObjects.{Stored, file_of, fresh}
+use Rattle.std.specs.Prelude.{ℕ, List, [], ◌∷◌, ◌++◌, length, map, if◌then◌else◌}
+use Rattle.std.specs.List.{flat_map, list_any}
+use Rattle.branch_machine.specs.Objects.{Pair, both, commit_text, value_text}
+use Rattle.branch_wire.specs.StoredObjects.{Stored, file_of, fresh, same}
 use Rattle.store_compact.specs.declared.copying.Placed.{Placed}
-
--- the bytes that are lent
-abbrev pub lent : List (Bor (List ℕ)) → Stored
-lent objects = map (λ object. object.now) objects
 
 -- the objects of commits in the order of the file, each once
 abbrev pub objects_in : List Pair → Stored
 objects_in pairs = fresh [] (flat_map both pairs)
+
+-- the addresses of the values of commits, each once
+abbrev pub values_in : (List ℕ → List ℕ) → List Pair → List (List ℕ)
+values_in address pairs = fresh [] (map (λ p. address p.value) pairs)
+
+-- the objects of the commit of this number
+abbrev pub pair_of : List Pair → ℕ → Pair
+pair_of pairs n = record { value = value_text pairs n; commit = commit_text pairs n }
+
+-- an object, but where its address is known
+abbrev pub unless_known : List (List ℕ) → List ℕ → List ℕ → Stored
+unless_known known address object = if list_any (same address) known then [] else object ∷ []
+
+-- what a commit adds where these addresses of values are known: the object of its value, if it is not there, and its own
+abbrev pub added : (List ℕ → List ℕ) → List (List ℕ) → Pair → Stored
+added address known p = unless_known known (address p.value) p.value ++ p.commit ∷ []
 
 -- of more commits, behind others, the address of each, and where the objects end behind it
 abbrev pub placed_after : (List ℕ → List ℕ) → List Pair → List Pair → List Placed

@@ -3,12 +3,14 @@ ghost use Rattle.std.specs.Prelude.{◌≡◌, ◌<◌, ◌++◌, ◌∷◌, [],
 ghost use Rattle.std.specs.List.{concat};
 ghost use Rattle.branch_machine.specs.Fixed.{fix};
 ghost use Rattle.branch_machine.specs.Objects.{commit_text, pairs_of, value_text};
+ghost use Rattle.branch_machine.specs.Validity.{IsFullyValid};
 ghost use Rattle.branch_history.specs.History.{store_of};
 ghost use Rattle.branch_wire.specs.StoredObjects.{file_of, fresh, header};
 ghost use Rattle.branch_compact.specs.Compact.{at_places};
 ghost use Rattle.branch_compact.specs.Marks.{is_marked};
-ghost use Rattle.store_compact.specs.Copied.{lent, objects_in, placed_of};
+ghost use Rattle.store_compact.specs.Copied.{added, objects_in, pair_of, placed_of, unless_known};
 
+use crate::values::address_of_value;
 use branch_address::Address;
 use branch_wire::{VERSION, put_u32};
 use indexmap::IndexSet;
@@ -42,47 +44,52 @@ fn header_text(alloc: Global) -> Result<Vec<u8>, Memory>
     Ok(text)
 }
 
-// Copies an object behind those of the file, if no equal one is there.
-fn copy_object<'a>(
-    object: &'a [u8],
-    known: &mut IndexSet<&'a [u8]>,
+// Copies the object of a value behind those of the file, if its address is not known yet.
+fn copy_value(
+    value: &[u8],
+    address: [u8; 32],
+    known: &mut IndexSet<[u8; 32]>,
     text: &mut Vec<u8>,
 ) -> Result<(), Memory>
-    ensures known { OnOk result (lent known.new.keys
-        ≡ lent known.old.keys ++ fresh (lent known.old.keys) (object.now ∷ [])) }
+    ensures known { OnOk result (known.new.keys
+        ≡ known.old.keys ++ fresh known.old.keys (address ∷ [])) }
     ensures copied { OnOk result (text.new.items
-        ≡ text.old.items ++ concat (fresh (lent known.old.keys) (object.now ∷ []))) }
+        ≡ text.old.items ++ concat (unless_known known.old.keys address value.now)) }
 {
-    if known.insert(object)? {
-        text.extend_from_slice(object)?;
+    if known.insert(address)? {
+        text.extend_from_slice(value)?;
     }
     Ok(())
 }
 
-// Copies both objects of a commit, each if no equal one is there, and notes where it stands.
-fn copy_commit<'a, T: Mrdt, A: Address>(
-    recorded: &'a Recorded<T, A>,
+// Copies both objects of a commit, that of its value if its address is not known yet, and notes where it stands.
+fn copy_commit<T: Mrdt, A: Address>(
+    recorded: &Recorded<T, A>,
     number: u32,
-    known: &mut IndexSet<&'a [u8]>,
+    known: &mut IndexSet<[u8; 32]>,
     copies: &mut Copies,
 ) -> Result<(), Memory>
     requires settled { recorded.now.pending ≡ [] }
+    requires valid { IsFullyValid (fix T.meaning recorded.now.terms A.address)
+        recorded.now.written }
     requires there { number
         < length (store_of recorded.now.terms.origin recorded.now.written).commits }
-    requires whole { copies.old.text.items ≡ file_of (lent known.old.keys) }
     ensures known { let fixed = fix T.meaning recorded.now.terms A.address in
         let pairs = pairs_of fixed
         (store_of recorded.now.terms.origin recorded.now.written).commits in
-        OnOk result (lent known.new.keys ≡ lent known.old.keys
-        ++ fresh (lent known.old.keys)
-        (value_text pairs number ∷ commit_text pairs number ∷ [])) }
-    ensures whole { OnOk result (copies.new.text.items ≡ file_of (lent known.new.keys)) }
+        OnOk result (known.new.keys ≡ known.old.keys
+        ++ fresh known.old.keys (A.address (value_text pairs number) ∷ [])) }
+    ensures copied { let fixed = fix T.meaning recorded.now.terms A.address in
+        let pairs = pairs_of fixed
+        (store_of recorded.now.terms.origin recorded.now.written).commits in
+        OnOk result (copies.new.text.items ≡ copies.old.text.items
+        ++ concat (added A.address known.old.keys (pair_of pairs number))) }
     ensures placed { let fixed = fix T.meaning recorded.now.terms A.address in
         let pairs = pairs_of fixed
         (store_of recorded.now.terms.origin recorded.now.written).commits in
         OnOk result (copies.new.placed.items ≡ copies.old.placed.items ++ record {
           address = A.address (commit_text pairs number);
-          end = length (file_of (lent known.new.keys));
+          end = length copies.new.text.items;
         } ∷ []) }
 {
     let Some((value, commit)) = recorded.item(number) else {
@@ -91,20 +98,26 @@ fn copy_commit<'a, T: Mrdt, A: Address>(
     let Some(address) = recorded.address(number) else {
         unreachable!()
     };
-    copy_object(value, known, &mut copies.text)?;
-    copy_object(commit, known, &mut copies.text)?;
+    let Ok(its_value) = address_of_value(commit) else {
+        unreachable!()
+    };
+    copy_value(value, its_value, known, &mut copies.text)?;
+    copies.text.extend_from_slice(commit)?;
     let end = copies.text.len() as u64;
     copies.placed.push(Placed { address, end })?;
     Ok(())
 }
 
-// Copies the objects of the commits that are marked, each once.
+// Copies the objects of the commits that are marked, each once: no two commits have equal objects, and those of values
+// are told by their addresses.
 pub(crate) fn copy_marked<T: Mrdt, A: Address>(
     alloc: Global,
     recorded: &Recorded<T, A>,
     marks: &[bool],
 ) -> Result<Copies, Memory>
     requires settled { recorded.now.pending ≡ [] }
+    requires valid { IsFullyValid (fix T.meaning recorded.now.terms A.address)
+        recorded.now.written }
     requires count { length marks.now
         ≡ length (store_of recorded.now.terms.origin recorded.now.written).commits }
     ensures text { let fixed = fix T.meaning recorded.now.terms A.address in

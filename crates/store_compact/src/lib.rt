@@ -11,6 +11,7 @@ mod copying;
 mod files;
 mod spelling;
 mod switching;
+mod values;
 mod writing;
 
 pub use answers::{CompactRefused, Compacted, Which};

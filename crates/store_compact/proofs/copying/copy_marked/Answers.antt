@@ -9,8 +9,9 @@ use Rattle.branch_machine.proofs.Pairs.{length-pairs_of}
 use Rattle.branch_wire.specs.StoredObjects.{file_of}
 use Rattle.branch_compact.specs.Compact.{at_places}
 use Rattle.branch_compact.specs.Marks.{is_marked}
-use Rattle.store_compact.specs.Copied.{lent, objects_in, placed_of}
-use Rattle.store_compact.proofs.Copies.{known-next, placed-next, next-gone}
+use Rattle.store_compact.specs.Copied.{objects_in, placed_of, values_in}
+use Rattle.store_compact.proofs.Copies.{known-next, whole-next, placed-next, next-gone}
+use Rattle.store_compact.proofs.Told.{fresh-kept}
 use Rattle.store_compact.proofs.copying.copy_marked.Goals.{then-marks-number+in_ok-copy_commit, else-marks-number}
 use Rattle.store_compact.proofs.copying.copy_marked.Goals as goal
 
@@ -30,24 +31,29 @@ loop-number-preserved g c =
     let settled = settled-count r.terms.origin r.written r.pending c.requires.settled in
     let there : k < length commits = omega (arith, c.loop-number-test.true, c.commits-number-end.ensures, settled) in
     let lt : k < length pairs = omega (arith, there, length-pairs_of fixed commits) in
+    let address = g.A.Address.address in
+    let laws = (g.met.T.Mrdt g.world.𝓛 g.world.𝓜 g.world.𝓡 ((λ s x. x), (λ x. x), (λ x. x), λ x. x)).laws in
+    let adds = fresh-kept fixed laws g.met.A.Address.size r.written c.requires.valid keep k there in
     elim c.if-marks-number.branch [
       | then-marks-number+in_ok-copy_commit w ↦
           let marked : keep k ≡ true = w.if-marks-number.true in
-          let known = known-next keep pairs k lt marked (lent c.loop-number.known.keys) (lent w.copy_commit.new.known.keys) was.known w.in_ok-copy_commit.ensures.known in
+          let copied = w.in_ok-copy_commit.ensures in
           record {
             within = omega (arith, there);
-            known = ap (λ s. lent s.keys) w.known-is ∙ known;
-            whole = ap (λ s. s.text.items) w.copies-is ∙ w.in_ok-copy_commit.ensures.whole ∙ sym (ap (λ s. file_of (lent s.keys)) w.known-is);
+            known = ap (λ s. s.keys) w.known-is ∙ known-next keep pairs k lt marked address c.loop-number.known.keys was.known w.copy_commit.new.known.keys copied.known;
+            whole = ap (λ s. s.text.items) w.copies-is
+                ∙ whole-next keep pairs k lt marked address c.loop-number.known.keys was.known adds c.loop-number.copies.text.items w.copy_commit.new.copies.text.items was.whole copied.copied;
             placed = ap (λ s. s.placed.items) w.copies-is
-                ∙ placed-next keep pairs k lt marked (lent c.loop-number.known.keys) (lent w.copy_commit.new.known.keys) was.known w.in_ok-copy_commit.ensures.known g.A.Address.address c.loop-number.copies.placed.items w.copy_commit.new.copies.placed.items was.placed w.in_ok-copy_commit.ensures.placed;
+                ∙ placed-next keep pairs k lt marked address c.loop-number.known.keys was.known adds c.loop-number.copies.text.items w.copy_commit.new.copies.text.items was.whole copied.copied
+                c.loop-number.copies.placed.items w.copy_commit.new.copies.placed.items was.placed copied.placed;
           }
       | else-marks-number w ↦
           let gone = next-gone keep pairs k lt w.if-marks-number.false in
           record {
             within = omega (arith, there);
-            known = ap (λ s. lent s.keys) w.known-is ∙ was.known ∙ ap objects_in (sym gone);
-            whole = ap (λ s. s.text.items) w.copies-is ∙ was.whole ∙ sym (ap (λ s. file_of (lent s.keys)) w.known-is);
-            placed = ap (λ s. s.placed.items) w.copies-is ∙ was.placed ∙ ap (placed_of g.A.Address.address) (sym gone);
+            known = ap (λ s. s.keys) w.known-is ∙ was.known ∙ ap (values_in address) (sym gone);
+            whole = ap (λ s. s.text.items) w.copies-is ∙ was.whole ∙ ap (λ (ps : List Pair). file_of (objects_in ps)) (sym gone);
+            placed = ap (λ s. s.placed.items) w.copies-is ∙ was.placed ∙ ap (placed_of address) (sym gone);
           }
     ]
 
@@ -59,7 +65,7 @@ returns-clause-text g c =
     let pairs = pairs_of fixed commits in
     let keep = is_marked c.args.marks.now in
     let all : take c.loop-number.number pairs ≡ pairs = take_all c.loop-number.number pairs (omega (arith, c.loop-number-test.false, c.commits-number-end.ensures, settled-count r.terms.origin r.written r.pending c.requires.settled, length-pairs_of fixed commits)) in
-    c.loop-number.invariant.whole ∙ ap file_of c.loop-number.invariant.known ∙ ap (λ (l : List Pair). file_of (objects_in (at_places keep 0 l))) all
+    c.loop-number.invariant.whole ∙ ap (λ (l : List Pair). file_of (objects_in (at_places keep 0 l))) all
 
 pub returns-clause-placed : goal.returns-clause-placed
 returns-clause-placed g c =

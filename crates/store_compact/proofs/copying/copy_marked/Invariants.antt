@@ -1,4 +1,4 @@
--- The objects of the marked commits so far are copied.
+-- The objects of the marked commits so far are copied, and the addresses of their values are known.
 use Rattle.std.proofs.Common.{◌≡◌, ◌≤◌, length, take}
 use Rattle.branch_history.specs.History.{store_of}
 use Rattle.branch_machine.specs.Fixed.{fix}
@@ -6,7 +6,7 @@ use Rattle.branch_machine.specs.Objects.{pairs_of}
 use Rattle.branch_wire.specs.StoredObjects.{file_of}
 use Rattle.branch_compact.specs.Compact.{at_places}
 use Rattle.branch_compact.specs.Marks.{is_marked}
-use Rattle.store_compact.specs.Copied.{lent, objects_in, placed_of}
+use Rattle.store_compact.specs.Copied.{objects_in, placed_of, values_in}
 use Rattle.store_compact.proofs.copying.copy_marked.Given as goal
 
 abbrev pub invariant-loop-number : goal.invariant-loop-number
@@ -16,7 +16,7 @@ invariant-loop-number g l =
     let kept = at_places (is_marked l.fn.marks) 0 (take l.number pairs) in
     record {
       within : l.number ≤ length commits;
-      known : lent l.known.keys ≡ objects_in kept;
-      whole : l.copies.text.items ≡ file_of (lent l.known.keys);
+      known : l.known.keys ≡ values_in g.A.Address.address kept;
+      whole : l.copies.text.items ≡ file_of (objects_in kept);
       placed : l.copies.placed.items ≡ placed_of g.A.Address.address kept;
     }

@@ -12,6 +12,11 @@ use Rattle.store_compact.specs.Copied.{placed_of}
 use Rattle.store_compact.proofs.Gathered.{settled-valid, marked-live, gathered-objects, gathered-placed}
 use Rattle.store_compact.proofs.files.compact_files.Goals as goal
 
+pub copy_marked-requires-clause-valid : goal.copy_marked-requires-clause-valid
+copy_marked-requires-clause-valid g c κs within =
+    let r = c.args.recorded in
+    settled-valid (fix g.T.Mrdt.meaning r.terms g.A.Address.address) r.written r.pending c.requires.settled c.moves.ensures.valid
+
 pub spell_heads-requires-clause-valid : goal.spell_heads-requires-clause-valid
 spell_heads-requires-clause-valid g c κs within =
     let m = g.T.Mrdt.meaning in let a = g.A.Address.address in let r = c.args.recorded in
