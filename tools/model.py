@@ -33,6 +33,10 @@ def u64(n):
     return n.to_bytes(8, "big")
 
 
+def byte(n):
+    return bytes([n])
+
+
 def signed(n, size):
     return (n % (1 << (8 * size))).to_bytes(size, "big")
 
@@ -50,7 +54,8 @@ def address(b):
 
 
 class Event:
-    """An operation on a key, with its time, its reply and the commits that it has seen, as bits."""
+    """An operation on a key, with its time, its reply and the commits that it has seen, as bits. The word of one on a
+    sequence is the place and the payload."""
 
     def __init__(self, bit, time, kind, key, verb, word, seen, reply):
         self.bit, self.time, self.kind, self.key = bit, time, kind, key
@@ -87,14 +92,45 @@ def content(events):
     return by_time(e for e in with_verb(events, "enqueue") if e.time not in taken)
 
 
-def taken_by(events, kind, key, verb):
-    """The reply of an operation behind these events: of a Dequeue the time and the payload that it takes."""
-    waiting = content([e for e in events if (e.kind, e.key) == (kind, key)]) if verb == "dequeue" else []
-    return (waiting[0].time, waiting[0].word) if waiting else None
+def reply_of(events, kind, key, verb, word):
+    """The reply of an operation behind these events: of a Dequeue the time and the payload that it takes, of an Insert
+    the time of the item that it comes behind, and of a Delete that of the item that it hides; or nothing."""
+    on = [e for e in events if (e.kind, e.key) == (kind, key)]
+    if verb == "dequeue":
+        waiting = content(on)
+        return (waiting[0].time, waiting[0].word) if waiting else None
+    if kind == "seq":
+        times = [e.time for e in shown(on)]
+        at = min(word[0], len(times)) - 1 if verb == "insert" else word[0]
+        return times[at] if 0 <= at < len(times) else None
+    return None
 
 
 def by_time(events):
     return sorted(events, key=lambda e: e.time)
+
+
+def nodes(events):
+    """The Inserts of a sequence, in its order: behind each stand those that came behind it, newest time first."""
+    children = {}
+    for e in by_time(with_verb(events, "insert")):
+        children.setdefault(e.reply, []).append(e)
+    order, left = [], children.get(None, [])
+    while left:
+        order.append(left.pop())
+        left = left + children.get(order[-1].time, [])
+    return order
+
+
+def hidden(events):
+    """The times of the items of a sequence that were deleted."""
+    return {e.reply for e in with_verb(events, "delete")}
+
+
+def shown(events):
+    """The items of a sequence that were not deleted, in its order."""
+    gone = hidden(events)
+    return [e for e in nodes(events) if e.time not in gone]
 
 
 def kept(events):
@@ -114,6 +150,8 @@ def kept(events):
         return by_time(events)
     if kind == "queue":
         return content(events)
+    if kind == "seq":
+        return nodes(events)
     return []
 
 
@@ -131,33 +169,48 @@ def spelling(kind, events):
     items = kept(events)
     if kind == "lww":
         return b"\1" + time_bytes(items[0].time) + sized(items[0].word)
-    out = u64(len(items))
+    out, gone = u64(len(items)), hidden(events)
     for e in items:
         out += time_bytes(e.time)
-        if kind == "counter":
+        if kind == "seq":
+            payload = b"" if e.time in gone else e.word[1]
+            out += place_bytes(e.reply) + byte(e.time in gone) + sized(payload)
+        elif kind == "counter":
             out += signed(e.word, 8)
         elif kind != "flag":
             out += sized(e.word)
     return out
 
 
-def document(events):
-    """The bytes of the document that has these events."""
-    maps = []
-    for kind in KINDS:
-        keys = {}
-        for e in events:
-            if e.kind == kind:
-                keys.setdefault(e.key, []).append(e)
-        out = u64(len(keys))
-        for key in sorted(keys):
-            out += sized(key) + sized(spelling(kind, keys[key]))
-        maps.append(out)
-    return b"".join(sized(m) for m in maps[:-1]) + maps[-1]
+def place_bytes(time):
+    """The bytes of a time, or of none."""
+    return b"\0" if time is None else b"\1" + time_bytes(time)
 
 
-def operation(kind, key, verb, word):
-    """The bytes of an operation."""
+def mapped(kind, events):
+    """The bytes of the map of one kind."""
+    keys = {}
+    for e in events:
+        if e.kind == kind:
+            keys.setdefault(e.key, []).append(e)
+    out = u64(len(keys))
+    for key in sorted(keys):
+        out += sized(key) + sized(spelling(kind, keys[key]))
+    return out
+
+
+def document(events, sequences=False):
+    """The bytes of the document that has these events, without sequences or with them."""
+    maps = [mapped(kind, events) for kind in KINDS]
+    out = b"".join(sized(m) for m in maps[:-1]) + maps[-1]
+    return sized(out) + mapped("seq", events) if sequences else out
+
+
+def operation(kind, key, verb, word, sequences=False):
+    """The bytes of an operation, in a store without sequences or with them."""
+    if kind == "seq":
+        place, payload = word
+        return b"\2" + sized(key) + byte(1 if verb == "insert" else 2) + u32(place) + payload
     inner = {
         ("counter", "add"): lambda: signed(word, 8),
         ("counter", "reset"): lambda: b"",
@@ -172,20 +225,22 @@ def operation(kind, key, verb, word):
         ("queue", "enqueue"): lambda: b"\1" + word,
         ("queue", "dequeue"): lambda: b"\2",
     }[kind, verb]()
-    return side(kind) + sized(key) + inner
+    return side(kind, sequences) + sized(key) + inner
 
 
-def side(kind):
+def side(kind, sequences):
     """Which map of the document it is."""
     at = KINDS.index(kind)
-    return b"\2" * at + (b"\1" if at < 6 else b"")
+    return b"\1" * sequences + b"\2" * at + (b"\1" if at < 6 else b"")
 
 
-def reply_bytes(kind, verb, reply):
+def reply_bytes(kind, verb, reply, sequences=False):
+    if kind == "seq":
+        return b"\2" + place_bytes(reply)
     inner = b""
     if verb == "dequeue":
         inner = b"\1" + time_bytes(reply[0]) + reply[1] if reply else b"\0"
-    return side(kind) + inner
+    return side(kind, sequences) + inner
 
 
 class Commit:
@@ -208,18 +263,30 @@ def commit_object(parents, origin, clock, value, action):
 
 
 class Store:
-    """A store: its commits, its branches and the bytes of both files. Branch r has the origin that lies r above the first."""
+    """A store: its commits, its branches and the bytes of both files. Branch r has the origin that lies r above the first.
+    Its documents have sequences or not."""
 
-    def __init__(self, origin=0, **limits):
+    def __init__(self, origin=0, sequences=False, **limits):
         self.limits, self.origin, self.version, self.log = {**LIMITS, **limits}, origin, VERSION, []
+        self.sequences = sequences
         self.commits, self.branches, self.moves = [], [[b"main", 0]], 0
         self.dropped, self.records = set(), []
         self.stored = {}
         self.objects = b"MRDTOBJS" + u32(VERSION) + bytes(4)
-        self.heads = b"\1MRDTHEAD" + u32(VERSION) + self.limit_bytes() + b"\0" + u32(origin) + bytes(14) + b"\0"
-        value = self.put_object(value_object(document([])))
+        self.heads = b"\1MRDTHEAD" + u32(VERSION) + self.limit_bytes() + byte(sequences) + u32(origin) + bytes(14) + b"\0"
+        value = self.put_object(value_object(self.value([])))
         root = self.put_object(commit_object([], 0, 0, value, b"\0"))
-        self.commits.append(Commit([], 0, 0, 1, None, document([]), root))
+        self.commits.append(Commit([], 0, 0, 1, None, self.value([]), root))
+
+    def value(self, events):
+        """The bytes of the value that has these events."""
+        return document(events, self.sequences)
+
+    def operation(self, kind, key, verb, word):
+        return operation(kind, key, verb, word, self.sequences)
+
+    def reply_bytes(self, kind, verb, reply):
+        return reply_bytes(kind, verb, reply, self.sequences)
 
     def limit_bytes(self):
         of = self.limits
@@ -289,10 +356,10 @@ class Store:
             raise Refused(f"error exhausted {head.clock}")
         time = (head.clock + 1, self.origin + branch)
         before = self.visible(seen)
-        reply = taken_by(before, kind, key, verb)
+        reply = reply_of(before, kind, key, verb, word)
         event = Event(len(self.commits), time, kind, key, verb, word, head.reach, reply)
-        value = document(before + [event])
-        op, back = operation(kind, key, verb, word), reply_bytes(kind, verb, reply)
+        value = self.value(before + [event])
+        op, back = self.operation(kind, key, verb, word), self.reply_bytes(kind, verb, reply)
         self.check_value(len(value) + len(op) + len(back))
         self.check_land(branch, seen, True)
         action = b"\1" + sized(op) + sized(back)
@@ -313,7 +380,7 @@ class Store:
             self.log.append(lambda store: store.merge(branch, seen, other))
             return "forward", other
         reach = self.commits[seen].reach | self.commits[other].reach
-        value = document([c.event for at, c in enumerate(self.commits) if c.event and reach >> at & 1])
+        value = self.value([c.event for at, c in enumerate(self.commits) if c.event and reach >> at & 1])
         self.check_value(len(value))
         self.check_land(branch, seen, True)
         clock = max(self.commits[seen].clock, self.commits[other].clock)
@@ -339,7 +406,7 @@ class Store:
         reach = 0
         for parent in parents:
             reach |= self.commits[parent].reach
-        value = document([c.event for at, c in enumerate(self.commits) if c.event and reach >> at & 1])
+        value = self.value([c.event for at, c in enumerate(self.commits) if c.event and reach >> at & 1])
         self.check_value(len(value))
         self.check_land(branch, seen, True)
         clock = max(self.commits[parent].clock for parent in parents)
@@ -425,7 +492,7 @@ class Store:
     def receive_item(self, number, item):
         """Takes an item as a new commit, if it is what its parents and its operation make of it."""
         try:
-            of = read_commit(item)
+            of = read_commit(item, self.sequences)
         except Malformed:
             raise Refused(f"refused bundle {number}") from None
         parents = [self.at_address(parent) for parent in of.parents]
@@ -439,12 +506,12 @@ class Store:
         if of.operation:
             clock += 1
             kind, key, verb, word = of.operation
-            event = Event(len(self.commits), (clock, of.origin), kind, key, verb, word, reach, taken_by(events, kind, key, verb))
+            event = Event(len(self.commits), (clock, of.origin), kind, key, verb, word, reach, reply_of(events, kind, key, verb, word))
             events = events + [event]
-            op, back = operation(kind, key, verb, word), reply_bytes(kind, verb, event.reply)
+            op, back = self.operation(kind, key, verb, word), self.reply_bytes(kind, verb, event.reply)
             action = b"\1" + sized(op) + sized(back)
             size = len(op) + len(back)
-        value = document(events)
+        value = self.value(events)
         made = value_object(value)
         if item != (made, commit_object(of.parents, of.origin, clock, address(made), action)):
             raise Refused(f"refused bundle {number}")
@@ -494,7 +561,7 @@ class Store:
         live = self.live()
         kept = [n for n in range(len(self.commits)) if live >> n & 1]
         new = {n: at for at, n in enumerate(kept)}
-        store = Store(self.origin, **self.limits)
+        store = Store(self.origin, self.sequences, **self.limits)
 
         def bits(of):
             return sum(1 << at for at, n in enumerate(kept) if of >> n & 1)
@@ -600,7 +667,7 @@ class Sent:
         self.parents, self.origin, self.operation = parents, origin, op
 
 
-def read_commit(item):
+def read_commit(item, sequences=False):
     """What an item says: the object of a value, and that of the commit of an operation or of a merge."""
     value, commit = item
     if value[:1] != b"\1" or commit[:1] != b"\2":
@@ -612,7 +679,7 @@ def read_commit(item):
     parents = [body.take(32) for _ in range(count)]
     origin, _, _, kind = body.number(4), body.number(), body.take(32), body.take(1)
     if (kind, count) == (b"\1", 1):
-        op, _ = read_operation(body.sized()), body.sized()
+        op, _ = read_operation(body.sized(), sequences), body.sized()
     elif kind == b"\2" and 2 <= count <= 9:
         op = None
     else:
@@ -626,9 +693,23 @@ FIRST_BYTES = {("flag", 1): "enable", ("flag", 2): "disable", ("set", 1): "add",
 ALONE = {"lww": "set", "multi": "set", "log": "append"}
 
 
-def read_operation(b):
+def read_on_sequence(of):
+    """The operation on a sequence whose bytes are left: its kind, its key, its verb, and its place and payload."""
+    key, verb, place = of.sized(), {1: "insert", 2: "delete"}.get(of.number(1)), of.number(4)
+    if verb is None or verb == "delete" and of.rest:
+        raise Malformed
+    return "seq", key, verb, (place, of.rest)
+
+
+def read_operation(b, sequences=False):
     """The operation that has these bytes: its kind, its key, its verb and its word."""
     of, depth = Reader(b), 0
+    if sequences:
+        which = of.number(1)
+        if which == 2:
+            return read_on_sequence(of)
+        if which != 1:
+            raise Malformed
     while depth < 6:
         which = of.number(1)
         if which == 1:
@@ -713,8 +794,24 @@ def read_line(line):
 
 
 def listed(items, with_times):
-    shown = "".join(f" {e.time[0]}.{e.time[1]} {e.word.decode()}" if with_times else f" {e.word.decode()}" for e in items)
-    return f"[{len(items)}]{shown}"
+    words = [(e.word[1] if e.kind == "seq" else e.word).decode() for e in items]
+    told = "".join(f" {told_time(e.time)} {word}" if with_times else f" {word}" for e, word in zip(items, words))
+    return f"[{len(items)}]{told}"
+
+
+def told_time(time):
+    return f"{time[0]}.{time[1]}"
+
+
+def told_reply(verb, reply):
+    """What the reply to an operation that landed adds to what is told of it."""
+    if verb == "dequeue":
+        return f" took {told_time(reply[0])} {reply[1].decode()}" if reply else " took nothing"
+    if verb == "insert":
+        return f" after {told_time(reply)}" if reply else " at start"
+    if verb == "delete":
+        return f" gone {told_time(reply)}" if reply else " nothing"
+    return ""
 
 
 def answer(events, kind, key, verb, word):
@@ -729,13 +826,15 @@ def answer(events, kind, key, verb, word):
         if verb == "contains":
             return "yes" if word in members else "no"
         return str(len(members)) if verb == "size" else "".join([f"[{len(members)}]"] + [f" {m.decode()}" for m in members])
-    items = kept(on) if on else []
+    items = shown(on) if kind == "seq" else kept(on) if on else []
     if verb == "length":
         return str(len(items))
     if kind == "log":
         return listed(items[::-1], True)
     if kind == "queue":
         return listed(items[:1] if verb == "peek" else items, True)
+    if kind == "seq":
+        return listed(items, True)
     return listed(items, False)
 
 
@@ -790,19 +889,22 @@ class Engine:
         number, seen = self.seen(session)
         kind, verb = kind.decode(), verb.decode()
         if kind == "seq":
-            raise Refused("error no sequences")
-        word = int(word) if (kind, verb) == ("counter", "add") else word
+            self.check_sequences()
+            word = int(word), payload
+        elif (kind, verb) == ("counter", "add"):
+            word = int(word)
         commit, time, reply = self.store.land(number, seen, kind, key, verb, word)
         self.sessions[session] = (number, commit)
-        took = ""
-        if verb == "dequeue":
-            took = f" took {reply[0][0]}.{reply[0][1]} {reply[1].decode()}" if reply else " took nothing"
-        return f"landed #{commit} at {time[0]}.{time[1]}{took}"
+        return f"landed #{commit} at {told_time(time)}{told_reply(verb, reply)}"
+
+    def check_sequences(self):
+        if not self.store.sequences:
+            raise Refused("error no sequences")
 
     def ask(self, branch, kind, key, verb=None, word=b""):
         head = self.store.branches[self.store.find(branch)][1]
         if kind == b"seq":
-            raise Refused("error no sequences")
+            self.check_sequences()
         events = self.store.visible(head)
         if verb is None:
             keys = sorted({e.key for e in events if e.kind == kind.decode()})

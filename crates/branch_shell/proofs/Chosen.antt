@@ -1,4 +1,4 @@
--- The disk that was chosen, of two: what it tells, and what a run over it is of both.
+-- The disk that was chosen, of two: what it tells and has, and what a run over it is of both.
 use Rattle.std.proofs.Common.{◌≡◌, ◌⊎◌, ℕ, ◌≤◌, true, false, List, [], refl, sym, ap, subst, ◌∙◌, inl, inr}
 use Rattle.std.specs.Prelude.{Option, Some, None, if◌then◌else◌}
 use Rattle.std.specs.Option.{ForSome}
@@ -7,11 +7,16 @@ use Rattle.branch_disk.specs.Disk.{Files, StillTells}
 use Rattle.branch_compact.specs.Switch.{is_current}
 use Rattle.store_compact.specs.declared.answers.Which.{Which}
 use Rattle.store_compact.specs.declared.answers.Which.TheVariants.{First, Second}
+use Rattle.branch_command.specs.Commands.{Said}
+use Rattle.branch_shell.specs.declared.choose.Values.{Values}
 use Rattle.branch_shell.specs.declared.status.Status.{Status}
 use Rattle.branch_shell.specs.declared.task.Task.{Task}
 use Rattle.branch_shell.specs.declared.task.Task.TheVariants as task
 use Rattle.branch_shell.specs.declared.status.Status.TheVariants.{StoreRefused}
 use Rattle.branch_shell.specs.Once.{Says}
+use Rattle.branch_shell.specs.Reading.{Exchanges}
+use Rattle.branch_shell.specs.Values.{HaveValues}
+use Rattle.branch_shell.specs.Statuses.{Wrote, WroteBy}
 use Rattle.branch_shell.specs.Counts.{HasReason, HaveReason}
 use Rattle.branch_shell.specs.Disks.{Disks, held, IsCurrentBy, current_told, AreChosen, NoneChosen}
 use Rattle.branch_shell.specs.Ran.{RanOnCurrent, RanOverBoth}
@@ -34,21 +39,51 @@ told_so Second None (Some f) is tells = absurd (cc ((tells f refl).1))
 
 module _ {D : Type 0} (disk : Ghosts D)
     (all_tell : (one other : D) → StillTells (disk.contents one) (disk.contents other)) where
-  -- the current disk tells what was told of it
-  pub held_told : (which : Which) (old now : Disks D) → AreChosen disk old now which
-      → disk.contents (held which now)
+  -- what is told of the current disk, it told
+  held_was : (which : Which) (values : Values) (old now : Disks D) → AreChosen disk old now which values
+      → disk.contents (held which old)
       ≡ current_told (disk.contents old.first) (disk.contents old.second)
-  held_told First old now are =
-      are.first.same ∙ told_so First (disk.contents old.first) (disk.contents old.second)
+  held_was First values old now are =
+      told_so First (disk.contents old.first) (disk.contents old.second)
       are.current (all_tell old.second old.first)
-  held_told Second old now are =
-      are.second.same ∙ told_so Second (disk.contents old.first) (disk.contents old.second)
+  held_was Second values old now are =
+      told_so Second (disk.contents old.first) (disk.contents old.second)
       are.current (all_tell old.second old.first)
 
+  -- and it tells that still
+  held_told : (which : Which) (values : Values) (old now : Disks D) → AreChosen disk old now which values
+      → disk.contents (held which now)
+      ≡ current_told (disk.contents old.first) (disk.contents old.second)
+  held_told First values old now are = are.first.same ∙ held_was First values old now are
+  held_told Second values old now are = are.second.same ∙ held_was Second values old now are
+
+  module _ (which : Which) (values : Values) (old now : Disks D) (are : AreChosen disk old now which values) where
+    -- it has these values
+    have_told : ForSome (current_told (disk.contents old.first) (disk.contents old.second)) (HaveValues values)
+    have_told =
+        subst (λ (t : Option Files). ForSome t (HaveValues values)) (held_was which values old now are) are.have
+
+    -- what was given over it, or this
+    pub behind_told : (address : List ℕ → List ℕ) (command : Said) (status : Status) (l0 l1 g0 g1 : Option (List ℕ)) (same : Type 0)
+        → same ⊎ Exchanges l0 l1 g0 g1 (WroteBy values address command (disk.contents (held which now)) l1 status)
+        → same ⊎ Exchanges l0 l1 g0 g1 (Wrote address command (current_told (disk.contents old.first) (disk.contents old.second)) l1 status)
+    behind_told address command status l0 l1 g0 g1 same (inl stays) = inl stays
+    behind_told address command status l0 l1 g0 g1 same (inr e) = inr (
+      e.0,
+      e.1,
+      e.2,
+      e.3,
+      (
+        values,
+        have_told,
+        subst (λ (t : Option Files). WroteBy values address command t l1 status e.0 e.1) (held_told which values old now are) e.4,
+      ),
+    )
+
 -- where the second disk is current, the first says so still
-pub aside_second : {D : Type 0} (disk : Ghosts D) (old now : Disks D) → AreChosen disk old now Second
-    → ForSome (disk.contents now.first) (IsCurrentBy Second)
-aside_second disk old now are f told = are.current f (sym are.first.same ∙ told)
+pub aside_second : {D : Type 0} (disk : Ghosts D) (values : Values) (old now : Disks D)
+    → AreChosen disk old now Second values → ForSome (disk.contents now.first) (IsCurrentBy Second)
+aside_second disk values old now are f told = are.current f (sym are.first.same ∙ told)
 
 -- a task on the current disk is a command over both
 pub over_both : {D : Type 0} (disk : Ghosts D) (address : List ℕ → List ℕ) (t : Task)

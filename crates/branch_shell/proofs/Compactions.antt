@@ -3,7 +3,6 @@ use Rattle.std.proofs.Common.{◌≡◌, ◌≢◌, ◌⊎◌, ℕ, List, [], le
 use Rattle.std.specs.Prelude.{Option, Some}
 use Rattle.branch_disk.specs.declared.disk.Disk.{Ghosts}
 use Rattle.branch_disk.specs.Disk.{Files}
-use Rattle.branch_doc.specs.Document.{document}
 use Rattle.branch_compact.specs.Compact.{compact}
 use Rattle.branch_compact.specs.Switch.{is_current}
 use Rattle.branch_print.specs.Reports.{compacted_text}
@@ -17,14 +16,15 @@ use Rattle.branch_shell.specs.declared.status.Status.{Status}
 use Rattle.branch_shell.specs.declared.status.Status.TheVariants.{Done, StoreRefused, DiskFault, WriteFault, Memory}
 use Rattle.branch_shell.specs.Counts.{HaveReason}
 use Rattle.branch_shell.specs.Once.{Answers, WroteOnce}
-use Rattle.branch_shell.specs.Documents.{DocStore, SaysUnopened}
-use Rattle.branch_shell.specs.Stores.{IsOpenedAs}
+use Rattle.branch_shell.specs.Documents.{SaysUnopened}
+use Rattle.branch_shell.specs.Stores.{Stored, IsOpenedAs}
 use Rattle.branch_shell.specs.Disks.{IsSettled, IsCurrentBy, LeavesAsBefore, StaysSame}
 use Rattle.branch_shell.specs.Compacting.{counts_text, view_of, SaysCompacted, StaysAside, IsCompactedFrom, RanCompact}
 use Rattle.std.proofs.KnownBytes.{Appends-nil}
 use Rattle.branch_io.specs.Causes.{Rose}
 use Rattle.branch_shell.proofs.Once.{answers_map}
 use Rattle.branch_shell.proofs.Chosen.{reason_swapped}
+use Rattle.branch_shell.specs.Values.{ValueType}
 
 -- one of two disks has failed since, and all other counts are the same
 abbrev HaveFailed : ℕ → ℕ → ℕ → ℕ → ℕ → ℕ → Type 0
@@ -47,23 +47,23 @@ pub placed_back : {D : Type 0} (which : Which) (first second held other : D)
 placed_back First first second held other is_held is_other = (is_held, is_other)
 placed_back Second first second held other is_held is_other = (is_other, is_held)
 
-module _ {D : Type 0} (disk : Ghosts D) (address : List ℕ → List ℕ) (which : Which) (store : DocStore)
+module _ {D : Type 0} (disk : Ghosts D) {S O R Q A : Type 0} (of : ValueType S O R Q A) (address : List ℕ → List ℕ) (which : Which) (store : Stored O R)
     (opened other first second held_now other_now : D)
     (is_held : held_now ≡ first_of which first second)
     (is_other : other_now ≡ second_of which first second) where
   moved : (status : Status)
-      → IsCompactedFrom disk address which store opened other first second status
-      → IsCompactedFrom disk address which store opened other (first_of which held_now other_now)
+      → IsCompactedFrom disk of address which store opened other first second status
+      → IsCompactedFrom disk of address which store opened other (first_of which held_now other_now)
       (second_of which held_now other_now) status
   moved status is =
       let back = placed_back which first second held_now other_now is_held is_other in
-      subst (λ (s : D). IsCompactedFrom disk address which store opened other (first_of which held_now other_now) s status) (sym back.1)
-      (subst (λ (f : D). IsCompactedFrom disk address which store opened other f second status) (sym back.0) is)
+      subst (λ (s : D). IsCompactedFrom disk of address which store opened other (first_of which held_now other_now) s status) (sym back.1)
+      (subst (λ (f : D). IsCompactedFrom disk of address which store opened other f second status) (sym back.0) is)
 
   -- where it went through
   pub made_so : (counted : Compacted) (status : Status)
-      → IsMade disk document address which (view_of store opened) other counted first second
-      → IsCompactedFrom disk address which store opened other (first_of which held_now other_now)
+      → IsMade disk of.meaning address which (view_of store opened) other counted first second
+      → IsCompactedFrom disk of address which store opened other (first_of which held_now other_now)
       (second_of which held_now other_now) status
   made_so counted status is = moved status (record {
     stages = is.moments;
@@ -74,8 +74,8 @@ module _ {D : Type 0} (disk : Ghosts D) (address : List ℕ → List ℕ) (which
 
   -- and where not
   pub not_made_so : (why : CompactRefused) (status : Status) → status ≢ Done
-      → IsNotCompacted disk document address which (view_of store opened) other why first second
-      → IsCompactedFrom disk address which store opened other (first_of which held_now other_now)
+      → IsNotCompacted disk of.meaning address which (view_of store opened) other why first second
+      → IsCompactedFrom disk of address which store opened other (first_of which held_now other_now)
       (second_of which held_now other_now) status
   not_made_so why status other_status is = moved status (record {
     stages = is.moments;
@@ -157,7 +157,7 @@ refused_status refusal.Memory status fault memory =
     let is = memory refl in ((λ e. cc (is, e)), λ e. cc (is, e))
 
 -- the text of how many moves stay
-pub counts_so : (store : DocStore) (counted : Compacted)
+pub counts_so : {O R : Type 0} (store : Stored O R) (counted : Compacted)
     → counted.kept ≡ length (compact store.terms store.history) → counted.moves ≡ length store.history
     → (status : Status) (g0 g1 : Option (List ℕ))
     → Answers (λ whole. whole ≡ compacted_text counted.kept counted.moves) (λ whole. ⊥) status g0 g1

@@ -55,11 +55,11 @@ pub answers_map : (success refused success' refused' : List ℕ → Type 0) → 
 answers_map success refused success' refused' f g status g0 g1 w = (w.0, w.1, wrote_map success refused success' refused' f g status w.0 w.2)
 
 -- what is said of a refusal to open is what the files read as
-module _ {S O R Q A T P X B C : Type 0} (meaning : Meaning S O R Q A) (old : Meaning T P X B C)
+module _ {S O R Q A T P X B C : Type 0} (kind : ℕ) (meaning : Meaning S O R Q A) (old : Meaning T P X B C)
     (address : List ℕ → List ℕ) (told : Option Files) where
-  pub says_refused : (u : Unopened) → ForSome told (UnopenedAs meaning old address u)
-      → (IsSome (unopened_text u) → ForSome told (ReadsAsNone 0 meaning address))
-      → (text : List ℕ) → unopened_text u ≡ Some text → SaysRefused meaning old address told text
+  pub says_refused : (u : Unopened) → ForSome told (UnopenedAs kind meaning old address u)
+      → (IsSome (unopened_text u) → ForSome told (ReadsAsNone kind meaning address))
+      → (text : List ℕ) → unopened_text u ≡ Some text → SaysRefused kind meaning old address told text
   says_refused OldVersion is none text says = (
     NotAStore,
     record { reads = λ f t. (is f t).0; no_store = none refl },
@@ -82,29 +82,29 @@ module _ {S O R Q A T P X B C : Type 0} (meaning : Meaning S O R Q A) (old : Mea
   says_refused (Refused refusal.Memory) is none text says = absurd (cc says)
 
 -- what files read as no store read as in the old version too, so is why they are not opened
-pub unopened_so : {S O R Q A T P X B C : Type 0} (meaning : Meaning S O R Q A) (old : Meaning T P X B C)
-    (address : List ℕ → List ℕ) (u : Unopened) (files : Files) → ReadsAsOf 0 meaning address files NotAStore
-    → FoundAs old address u files → UnopenedAs meaning old address u files
-unopened_so meaning old address OldVersion files none found = (none, found)
-unopened_so meaning old address (Refused refusal.NotAStore) files none found = (none, found)
-unopened_so meaning old address (Refused refusal.DiskFault) files none found = found
-unopened_so meaning old address (Refused refusal.Memory) files none found = found
-unopened_so meaning old address (Refused (refusal.BadRecord number)) files none found = absurd found
-unopened_so meaning old address (Refused (refusal.BadObject place)) files none found = absurd found
-unopened_so meaning old address (Refused (refusal.BadCommit number)) files none found = absurd found
-unopened_so meaning old address (Refused (refusal.Truncated part place)) files none found = absurd found
+pub unopened_so : {S O R Q A T P X B C : Type 0} (kind : ℕ) (meaning : Meaning S O R Q A) (old : Meaning T P X B C)
+    (address : List ℕ → List ℕ) (u : Unopened) (files : Files) → ReadsAsOf kind meaning address files NotAStore
+    → FoundAs old address u files → UnopenedAs kind meaning old address u files
+unopened_so kind meaning old address OldVersion files none found = (none, found)
+unopened_so kind meaning old address (Refused refusal.NotAStore) files none found = (none, found)
+unopened_so kind meaning old address (Refused refusal.DiskFault) files none found = found
+unopened_so kind meaning old address (Refused refusal.Memory) files none found = found
+unopened_so kind meaning old address (Refused (refusal.BadRecord number)) files none found = absurd found
+unopened_so kind meaning old address (Refused (refusal.BadObject place)) files none found = absurd found
+unopened_so kind meaning old address (Refused (refusal.BadCommit number)) files none found = absurd found
+unopened_so kind meaning old address (Refused (refusal.Truncated part place)) files none found = absurd found
 
 -- and what is refused otherwise is refused so
-pub unopened_else : {S O R Q A T P X B C : Type 0} (meaning : Meaning S O R Q A) (old : Meaning T P X B C)
+pub unopened_else : {S O R Q A T P X B C : Type 0} (kind : ℕ) (meaning : Meaning S O R Q A) (old : Meaning T P X B C)
     (address : List ℕ → List ℕ) (r : OpenRefused) (files : Files) → r ≢ refusal.NotAStore
-    → OpenRefusedAs 0 meaning address r files → UnopenedAs meaning old address (Refused r) files
-unopened_else meaning old address refusal.NotAStore files other is = absurd (other refl)
-unopened_else meaning old address refusal.DiskFault files other is = is
-unopened_else meaning old address refusal.Memory files other is = is
-unopened_else meaning old address (refusal.BadRecord number) files other is = is
-unopened_else meaning old address (refusal.BadObject place) files other is = is
-unopened_else meaning old address (refusal.BadCommit number) files other is = is
-unopened_else meaning old address (refusal.Truncated part place) files other is = is
+    → OpenRefusedAs kind meaning address r files → UnopenedAs kind meaning old address (Refused r) files
+unopened_else kind meaning old address refusal.NotAStore files other is = absurd (other refl)
+unopened_else kind meaning old address refusal.DiskFault files other is = is
+unopened_else kind meaning old address refusal.Memory files other is = is
+unopened_else kind meaning old address (refusal.BadRecord number) files other is = is
+unopened_else kind meaning old address (refusal.BadObject place) files other is = is
+unopened_else kind meaning old address (refusal.BadCommit number) files other is = is
+unopened_else kind meaning old address (refusal.Truncated part place) files other is = is
 
 -- a refusal with a text comes neither of the disk nor of the memory
 pub has_text : (r : OpenRefused) → IsSome (open_refusal_text r)

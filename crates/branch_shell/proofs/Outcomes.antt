@@ -6,12 +6,9 @@ use Rattle.std.specs.List.{AllByRecursion}
 use mathlib.Core.List.{IsPrefix}
 use Rattle.branch_io.specs.Causes.{Rose}
 use Rattle.branch_disk.specs.Disk.{Files}
-use Rattle.branch_doc.specs.Document.{document}
-use Rattle.branch_doc.specs.Forms.{doc_op, doc_query}
 use Rattle.branch_files.specs.Laws.{ReadsWhatStands}
 use Rattle.branch_history.specs.declared.moves.Move.{Move}
 use Rattle.branch_machine.specs.Validity.{IsFullyValid}
-use Rattle.branch_engine.specs.Play.{History}
 use Rattle.branch_command.specs.Work.{Clients}
 use Rattle.branch_gen.specs.Clients.{client_steps}
 use Rattle.parallel_clients.specs.declared.outcome.ClientRefusal.{ClientRefusal}
@@ -25,9 +22,10 @@ use Rattle.branch_shell.specs.declared.status.Status.{Status}
 use Rattle.branch_shell.specs.declared.status.Status.TheVariants.{Done, Usage, StoreRefused, DiskFault, ReadFault, WriteFault, LineTooLong, InputTooLong, Memory}
 use Rattle.branch_shell.specs.Counts.{HasReason, SaysReason}
 use Rattle.branch_shell.specs.Once.{Answers, WroteOnce}
-use Rattle.branch_shell.specs.Stores.{ReadsAsStore}
-use Rattle.branch_shell.specs.Documents.{DocStore, fixed_of}
+use Rattle.branch_shell.specs.Stores.{Stored, ReadsAsStore}
+use Rattle.branch_shell.specs.Bundling.{fixed_for}
 use Rattle.branch_shell.specs.Together.{client_line, both_texts, client_lines, SaysTogether, RanTogether, with_history, CameTogether, ReadsUpTo, FindsBranch, FindsAll, IsFault, TellsFault, SomeTellFault, StopsFor}
+use Rattle.branch_shell.specs.Values.{ValueType}
 
 -- two texts that there are
 record BothThere (a b : Option (List ℕ)) (text : List ℕ) : Type 0 where
@@ -143,19 +141,19 @@ module _ {S O R Q A : Type 0} (on : Setting S O R Q A) (old new : List (Move O R
   fault_rose some = fault_of_one some.0 some.1 (worked.each some.0 some.1 some.2) some.3
 
 -- what may be left of a store reads as it, after a fault of the disk with or without a move behind its history
-module _ (address : List ℕ → List ℕ) (reads : ReadsWhatStands document) (store : DocStore) (history : History) (valid : IsFullyValid (fixed_of address store) history) where
-  pub reads_failed : (c : Files) → MayBeLeft (fixed_of address store) history c → ReadsUpTo address store history DiskFault c
+module _ {S O R Q A : Type 0} (of : ValueType S O R Q A) (address : List ℕ → List ℕ) (reads : ReadsWhatStands of.meaning) (store : Stored O R) (history : List (Move O R)) (valid : IsFullyValid (fixed_for of.meaning address store) history) where
+  pub reads_failed : (c : Files) → MayBeLeft (fixed_for of.meaning address store) history c → ReadsUpTo of address store history DiskFault c
   reads_failed c (inl stands) = inl (reads store.terms address history c valid stands)
   reads_failed c (inr more) = inr (refl, (more.0, reads store.terms address (history ++ more.0 ∷ []) c more.2 more.1))
 
-  pub reads_all : (images : Files → Type 0) → AllStand (fixed_of address store) history images → (c : Files) → images c → ReadsAsStore document address (with_history store history) c
+  pub reads_all : (images : Files → Type 0) → AllStand (fixed_for of.meaning address store) history images → (c : Files) → images c → ReadsAsStore of.meaning address (with_history store history) c
   reads_all images stand c left = reads store.terms address history c valid (stand c left)
 
 -- the history that a store came to by clients, or by none
-pub came_together : {E : Type 0} (address : List ℕ → List ℕ) (store : DocStore) (clients : Clients) (history : History) (opened since : ℕ) (r : Result (List Outcome) E) → IsPrefix store.history history → IsFullyValid (fixed_of address store) history
-    → IfOk r (HaveWorked (setting (fixed_of address store) doc_op doc_query opened) store.history history since clients.count clients.work.steps clients.work.number) → OnErr r (history ≡ store.history) → CameTogether address store clients history
-came_together address store clients history opened since (Ok outcomes) grown valid worked idle = inr (outcomes, record { opened = opened; since = since; grown = grown; valid = valid; worked = worked })
-came_together address store clients history opened since (Err e) grown valid worked idle = inl idle
+pub came_together : {E : Type 0} {S O R Q A : Type 0} (of : ValueType S O R Q A) (address : List ℕ → List ℕ) (store : Stored O R) (clients : Clients) (history : List (Move O R)) (opened since : ℕ) (r : Result (List Outcome) E) → IsPrefix store.history history → IsFullyValid (fixed_for of.meaning address store) history
+    → IfOk r (HaveWorked (setting (fixed_for of.meaning address store) of.forms opened) store.history history since clients.count clients.work.steps clients.work.number) → OnErr r (history ≡ store.history) → CameTogether of address store clients history
+came_together of address store clients history opened since (Ok outcomes) grown valid worked idle = inr (outcomes, record { opened = opened; since = since; grown = grown; valid = valid; worked = worked })
+came_together of address store clients history opened since (Err e) grown valid worked idle = inl idle
 
 -- the counts where the disk's count stays as it was: it may stand at its last value
 pub reason_stays : (success refused : List ℕ → Type 0) (n k0 k1 d0 d1 : ℕ) (g0 g1 : Option (List ℕ)) (status : Status) → Answers success refused status g0 g1 → d1 ≡ d0 → (status ≡ DiskFault → Rose d0 d1)
@@ -178,6 +176,6 @@ pub all_said : (success refused : List ℕ → Type 0) (status : Status) (g0 g1 
 all_said success refused status g0 g1 w is = (w.0, w.1, subst (λ (s : Status). WroteOnce success refused s w.0) is w.2)
 
 -- what clients wrote, without what they left
-pub says_ran : {D : Type 0} (may_leave : D → Files → Type 0) (address : List ℕ → List ℕ) (told : Option Files) (clients : Clients) (new : D) (text : List ℕ)
-    → RanTogether may_leave address told clients new text → SaysTogether address told clients text
-says_ran may_leave address told clients new text ran = (ran.0, ran.1, (ran.2.history, ran.2.told))
+pub says_ran : {D : Type 0} (may_leave : D → Files → Type 0) {S O R Q A : Type 0} (of : ValueType S O R Q A) (address : List ℕ → List ℕ) (told : Option Files) (clients : Clients) (new : D) (text : List ℕ)
+    → RanTogether may_leave of address told clients new text → SaysTogether of address told clients text
+says_ran may_leave of address told clients new text ran = (ran.0, ran.1, (ran.2.history, ran.2.told))

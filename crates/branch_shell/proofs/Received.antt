@@ -247,19 +247,19 @@ pub never_write_fault : (input : List ℕ) (X : Type 0) (status : Status) → St
 never_write_fault input X status stops is = absurd (subst (λ (s : Status). StopsBehind s input) is stops)
 
 -- what was done since the opening, from the start
-module _ {S O R Q A T P X B C D : Type 0} (disk : Ghosts D) (meaning : Meaning S O R Q A) (old_meaning : Meaning T P X B C) (address : List ℕ → List ℕ) (name : List ℕ) where
-  pub ran-opened : (old opened new : D) (store : Stored O R) (left : Option (List ℕ)) (status : Status) (input text : List ℕ) → IsOpenedAs meaning address (disk.contents old) store → LeavesAsBefore disk old opened
-      → TakenFrom disk meaning address name store opened new left status input text → RanReceive disk meaning old_meaning address name old new left status input text
+module _ {S O R Q A T P X B C D : Type 0} (disk : Ghosts D) (kind : ℕ) (meaning : Meaning S O R Q A) (old_meaning : Meaning T P X B C) (address : List ℕ → List ℕ) (name : List ℕ) where
+  pub ran-opened : (old opened new : D) (store : Stored O R) (left : Option (List ℕ)) (status : Status) (input text : List ℕ) → IsOpenedAs kind meaning address (disk.contents old) store → LeavesAsBefore disk old opened
+      → TakenFrom disk meaning address name store opened new left status input text → RanReceive disk kind meaning old_meaning address name old new left status input text
   ran-opened old opened new store left status input text is before (inl (none, wrote, same)) = inl (record {
     no_input = none;
-    wrote = wrote_map (λ whole. ⊥) (TellsTaken store name) (λ whole. ⊥) (SaysTaken meaning old_meaning address (disk.contents old) name) (λ whole no. no) (λ whole taken. inr (store, is, taken)) status text wrote;
+    wrote = wrote_map (λ whole. ⊥) (TellsTaken store name) (λ whole. ⊥) (SaysTaken kind meaning old_meaning address (disk.contents old) name) (λ whole no. no) (λ whole taken. inr (store, is, taken)) status text wrote;
     kept = subst (LeavesAsBefore disk old) (sym same) before;
   })
   ran-opened old opened new store left status input text is before (inr from) = inr (store, is, record { opened = opened; before = before; since = from })
 
   -- receiving tells no misuse
-  pub receive_usage : (old new : D) (left : Option (List ℕ)) (status : Status) (input text : List ℕ) → RanReceive disk meaning old_meaning address name old new left status input text → status ≡ Usage → ⊥
-  receive_usage old new left status input text (inl none) is = subst (λ (s : Status). WroteOnce (λ whole. ⊥) (SaysTaken meaning old_meaning address (disk.contents old) name) s text) is none.wrote
+  pub receive_usage : (old new : D) (left : Option (List ℕ)) (status : Status) (input text : List ℕ) → RanReceive disk kind meaning old_meaning address name old new left status input text → status ≡ Usage → ⊥
+  receive_usage old new left status input text (inl none) is = subst (λ (s : Status). WroteOnce (λ whole. ⊥) (SaysTaken kind meaning old_meaning address (disk.contents old) name) s text) is none.wrote
   receive_usage old new left status input text (inr (store, opened, did)) is =
       (subst (λ (s : Status). WroteReceived meaning address store name (disk.may_leave new) left s input text) is did.since.wrote).2
 

@@ -1,6 +1,6 @@
 -- What a run did of each command, of the words that say it.
-use Rattle.std.proofs.Common.{◌≡◌, ◌≢◌, ◌⊎◌, ℕ, ◌≤◌, List, [], refl, subst, inl, inr}
-use Rattle.std.specs.Prelude.{Option, Some}
+use Rattle.std.proofs.Common.{◌≡◌, ◌≢◌, ◌⊎◌, ℕ, ◌≤◌, List, [], refl, sym, ◌∙◌, subst, inl, inr}
+use Rattle.std.specs.Prelude.{Option, Some, Bool, true, false}
 use Rattle.std.specs.Io.KnownBytes.{Appends}
 use Rattle.std.proofs.KnownBytes.{Consumes-nil, Appends-nil}
 use Rattle.branch_disk.specs.declared.disk.Disk.{Ghosts}
@@ -8,38 +8,39 @@ use Rattle.branch_disk.specs.Disk.{Files}
 use Rattle.branch_disk.specs.Moments.{weakened, started}
 use Rattle.branch_names.specs.declared.terms.Terms.{Terms}
 use Rattle.store_core.specs.Inits.{IsEmpty}
-use Rattle.branch_doc.specs.Document.{document}
+use Rattle.mrdt_model.specs.Laws.{Meaning}
 use Rattle.store_core.specs.Opens.{ReadsAsNone}
-use Rattle.branch_command.specs.Terms.{TermNumbers, AreTerms}
+use Rattle.branch_command.specs.Terms.{TermNumbers, AreTerms, kind_number}
 use Rattle.branch_command.specs.Work.{Clients as ClientsGiven}
 use Rattle.branch_command.specs.Commands.{Said, Init, Script, Check, Generate, Clients, Upgrade, Compact, Address, Send, Receive, Help}
 use Rattle.branch_shell.specs.declared.status.Status.{Status}
 use Rattle.branch_shell.specs.declared.status.Status.TheVariants.{Done, Usage, StoreRefused, DiskFault, Memory}
 use Rattle.branch_shell.specs.Reading.{Exchanges}
 use Rattle.branch_shell.specs.Once.{WroteOnce, Answers, Says}
-use Rattle.branch_shell.specs.Stores.{SaysReport, ReadsAsNoneOrEmpty}
-use Rattle.branch_shell.specs.Documents.{DocStore, SaysUnopened}
+use Rattle.branch_shell.specs.Stores.{Stored, SaysReport, ReadsAsNoneOrEmpty}
+use Rattle.branch_shell.specs.Values.{ValueType, documents, documents_with_sequences}
+use Rattle.branch_shell.specs.Documents.{SaysUnopened}
 use Rattle.branch_shell.specs.Together.{RanTogether, SaysTogether, LeftTogether}
 use Rattle.branch_shell.specs.Bundling.{SaysAddress, SaysBundle, SaysNoBranch}
 use Rattle.mrdt_old_doc.specs.OldDocument.{old_document}
-use Rattle.branch_shell.specs.Statuses.{Wrote, ScriptWrote, Holds}
+use Rattle.branch_shell.specs.Statuses.{Wrote, WroteOf, ScriptWrote, Holds}
 use Rattle.store_compact.specs.declared.answers.Which.{Which}
 use Rattle.branch_shell.specs.Disks.{Disks, LeavesAsBefore, StaysSame, NoneChosen}
-use Rattle.branch_shell.specs.Ran.{LeavesInit, LeavesChecked, SaysMade, SaysNotMade, RanInit, RanChosen, RanOverBoth}
+use Rattle.branch_shell.specs.Ran.{LeavesInit, LeavesChecked, SaysMade, SaysNotMade, RanInit, RanInitFor, RanChosen, RanOverBoth}
 use Rattle.branch_shell.proofs.Once.{wrote_map}
 use Rattle.branch_shell.proofs.Said.{one_command}
 use Rattle.branch_shell.proofs.Inits.{empty_reads, empty_map, none_or_empty_map}
 use Rattle.branch_shell.proofs.Outcomes.{says_ran}
 
 -- a script tells no misuse
-script_usage : (address : List ℕ → List ℕ) (told : Option Files) (left : Option (List ℕ)) (input text : List ℕ) → ScriptWrote address told left Usage input text → ⊥
-script_usage address told left input text (inl once) = once.1
-script_usage address told left input text (inr over) = over.3
+script_usage : {S O R Q A : Type 0} (of : ValueType S O R Q A) (address : List ℕ → List ℕ) (told : Option Files) (left : Option (List ℕ)) (input text : List ℕ) → ScriptWrote of address told left Usage input text → ⊥
+script_usage of address told left input text (inl once) = once.1
+script_usage of address told left input text (inr over) = over.3
 
-pub no_usage : (address : List ℕ → List ℕ) (told : Option Files) (left : Option (List ℕ)) (status : Status) (input text : List ℕ)
-    → Wrote address Script told left status input text → status ≡ Usage → ⊥
-no_usage address told left status input text w is =
-    script_usage address told left input text (subst (λ (s : Status). ScriptWrote address told left s input text) is w)
+pub no_usage : {S O R Q A : Type 0} (of : ValueType S O R Q A) (address : List ℕ → List ℕ) (told : Option Files) (left : Option (List ℕ)) (status : Status) (input text : List ℕ)
+    → WroteOf of address Script told left status input text → status ≡ Usage → ⊥
+no_usage of address told left status input text w is =
+    script_usage of address told left input text (subst (λ (s : Status). ScriptWrote of address told left s input text) is w)
 
 -- nor does what was written that answers no line
 pub once_usage : (success refusal : List ℕ → Type 0) (status : Status) (text : List ℕ) → WroteOnce success refusal status text → status ≡ Usage → ⊥
@@ -73,66 +74,88 @@ module _ (address : List ℕ → List ℕ) {D : Type 0} (disk : Ghosts D) where
       ([], given.0, Consumes-nil l, given.1, (refl, refl))
 
   -- a store that is made under terms of which this is true, and so that
-  pub init_ran : (n : TermNumbers) (P : Terms → Type 0) → ((terms : Terms) → P terms → AreTerms n terms)
-      → (old new : Disks D) (status : Status) (l g0 g1 : Option (List ℕ))
+  init_map : {S O R Q A : Type 0} (meaning : Meaning S O R Q A) (P Q' : Terms → Type 0) → ((terms : Terms) → P terms → Q' terms) → (old new : Disks D) (status : Status) (text : List ℕ)
+      → RanInit disk meaning address P old new status text → RanInit disk meaning address Q' old new status text
+  init_map meaning P Q' are old new status text r = record {
+    wrote = r.wrote;
+    leaves = record {
+      any_moment = λ empty. weakened disk.moment disk.left_since old.first new.first (ReadsAsNoneOrEmpty meaning address P) (ReadsAsNoneOrEmpty meaning address Q')
+          (r.leaves.any_moment empty) (none_or_empty_map meaning address P Q' are);
+      made = λ done c image. empty_map meaning address P Q' are c (r.leaves.made done c image);
+      kept = r.leaves.kept;
+    };
+    refused = r.refused;
+    full = r.full;
+    second = r.second;
+  }
+
+  init_for_map : (P Q' : Terms → Type 0) → ((terms : Terms) → P terms → Q' terms) → (sequences : Bool) (old new : Disks D) (status : Status) (text : List ℕ)
+      → RanInitFor disk address P sequences old new status text → RanInitFor disk address Q' sequences old new status text
+  init_for_map P Q' are true old new status text r = init_map documents_with_sequences.meaning P Q' are old new status text r
+  init_for_map P Q' are false old new status text r = init_map documents.meaning P Q' are old new status text r
+
+  -- what was done of a store that is made of these values
+  pub init_said : {S O R Q A : Type 0} (meaning : Meaning S O R Q A) (P : Terms → Type 0) (old new : Disks D) (status : Status) (l g0 g1 : Option (List ℕ))
       → Answers (SaysMade (disk.contents old.first) (disk.contents old.second)) (SaysNotMade (disk.contents old.first) (disk.contents old.second)) status g0 g1
-      → LeavesInit disk address P old.first new.first status → (status ≡ StoreRefused → LeavesAsBefore disk old.first new.first)
+      → LeavesInit disk meaning address P old.first new.first status → (status ≡ StoreRefused → LeavesAsBefore disk old.first new.first)
       → ((files : Files) → disk.contents old.second ≡ Some files → ¬ IsEmpty files → new.first ≡ old.first)
       → StaysSame disk old.second new.second
-      → Exchanges l l g0 g1 (RanOverBoth disk address (Init n) old new l status)
-  init_ran n P are old new status l g0 g1 w leaves refused full second = (
-    [],
-    w.0,
-    Consumes-nil l,
-    w.1,
-    (
-      refl,
-      record {
-        wrote = w.2;
-        leaves = record {
-          any_moment = λ empty. weakened disk.moment disk.left_since old.first new.first (ReadsAsNoneOrEmpty document address P) (ReadsAsNoneOrEmpty document address (AreTerms n))
-              (leaves.any_moment empty) (none_or_empty_map document address P (AreTerms n) are);
-          made = λ done c image. empty_map document address P (AreTerms n) are c (leaves.made done c image);
-          kept = leaves.kept;
-        };
-        refused = refused;
-        full = full;
-        second = second;
-      },
-    ),
-  )
+      → Exchanges l l g0 g1 (λ input text. (input ≡ []) × RanInit disk meaning address P old new status text)
+  init_said meaning P old new status l g0 g1 w leaves refused full second =
+      ([], w.0, Consumes-nil l, w.1, (refl, record { wrote = w.2; leaves = leaves; refused = refused; full = full; second = second }))
 
+  -- those with sequences, where the kind is 1; and documents else
+  pub init_wide : (P : Terms → Type 0) (kind : ℕ) (sequences : Bool) → kind ≡ kind_number sequences → kind ≡ 1 → (old new : Disks D) (status : Status) (l g0 g1 : Option (List ℕ))
+      → Exchanges l l g0 g1 (λ input text. (input ≡ []) × RanInit disk documents_with_sequences.meaning address P old new status text)
+      → Exchanges l l g0 g1 (λ input text. (input ≡ []) × RanInitFor disk address P sequences old new status text)
+  init_wide P kind true is one old new status l g0 g1 e = e
+  init_wide P kind false is one old new status l g0 g1 e = absurd (let never : 0 ≡ 1 = sym is ∙ one in cc never)
+
+  pub init_plain : (P : Terms → Type 0) (kind : ℕ) (sequences : Bool) → kind ≡ kind_number sequences → kind ≢ 1 → (old new : Disks D) (status : Status) (l g0 g1 : Option (List ℕ))
+      → Exchanges l l g0 g1 (λ input text. (input ≡ []) × RanInit disk documents.meaning address P old new status text)
+      → Exchanges l l g0 g1 (λ input text. (input ≡ []) × RanInitFor disk address P sequences old new status text)
+  init_plain P kind false is other old new status l g0 g1 e = e
+  init_plain P kind true is other old new status l g0 g1 e = absurd (other is)
+
+  pub init_ran : (n : TermNumbers) (P : Terms → Type 0) → ((terms : Terms) → P terms → AreTerms n terms)
+      → (old new : Disks D) (status : Status) (l g0 g1 : Option (List ℕ))
+      → Exchanges l l g0 g1 (λ input text. (input ≡ []) × RanInitFor disk address P n.sequences old new status text)
+      → Exchanges l l g0 g1 (RanOverBoth disk address (Init n) old new l status)
+  init_ran n P are old new status l g0 g1 e =
+      (e.0, e.1, e.2, e.3, (e.4.0, init_for_map P (AreTerms n) are n.sequences old new status e.1 e.4.1))
+
+module _ {S O R Q A : Type 0} (of : ValueType S O R Q A) (address : List ℕ → List ℕ) {D : Type 0} (disk : Ghosts D) where
   -- a run over the current disk alone, which leaves the other as it was
   pub check_ran : (which : Which) (old new aside : D) (status : Status) (l g0 g1 : Option (List ℕ))
-      → Answers (SaysReport document address (disk.contents old)) (SaysUnopened address (disk.contents old)) status g0 g1
-      → LeavesChecked disk address old new status
-      → Exchanges l l g0 g1 (RanChosen disk address Check which old new aside aside l status)
+      → Answers (SaysReport of.kind of.meaning address (disk.contents old)) (SaysUnopened of address (disk.contents old)) status g0 g1
+      → LeavesChecked disk of address old new status
+      → Exchanges l l g0 g1 (RanChosen disk of address Check which old new aside aside l status)
   check_ran which old new aside status l g0 g1 w leaves =
       ([], w.0, Consumes-nil l, w.1, (record { wrote = (refl, w.2); leaves = leaves; refused = λ refused. leaves.any_moment }, refl))
 
   pub address_ran : (which : Which) (old new aside : D) (status : Status) (l g0 g1 : Option (List ℕ)) (branch : List ℕ)
-      → Answers (SaysAddress document address (disk.contents old) branch) (SaysNoBranch document old_document address (disk.contents old) branch) status g0 g1
-      → LeavesChecked disk address old new status
-      → Exchanges l l g0 g1 (RanChosen disk address (Address branch) which old new aside aside l status)
+      → Answers (SaysAddress of.kind of.meaning address (disk.contents old) branch) (SaysNoBranch of.kind of.meaning old_document address (disk.contents old) branch) status g0 g1
+      → LeavesChecked disk of address old new status
+      → Exchanges l l g0 g1 (RanChosen disk of address (Address branch) which old new aside aside l status)
   address_ran which old new aside status l g0 g1 branch w leaves =
       ([], w.0, Consumes-nil l, w.1, (record { wrote = (refl, w.2); leaves = leaves; refused = λ refused. leaves.any_moment }, refl))
 
   pub send_ran : (which : Which) (old new aside : D) (status : Status) (l g0 g1 : Option (List ℕ)) (branch : List ℕ) (here : List (List ℕ))
-      → Answers (SaysBundle document address (disk.contents old) branch here) (SaysNoBranch document old_document address (disk.contents old) branch) status g0 g1
-      → LeavesChecked disk address old new status
-      → Exchanges l l g0 g1 (RanChosen disk address (Send (record { branch = branch; here = here })) which old new aside aside l status)
+      → Answers (SaysBundle of.kind of.meaning address (disk.contents old) branch here) (SaysNoBranch of.kind of.meaning old_document address (disk.contents old) branch) status g0 g1
+      → LeavesChecked disk of address old new status
+      → Exchanges l l g0 g1 (RanChosen disk of address (Send (record { branch = branch; here = here })) which old new aside aside l status)
   send_ran which old new aside status l g0 g1 branch here w leaves =
       ([], w.0, Consumes-nil l, w.1, (record { wrote = (refl, w.2); leaves = leaves; refused = λ refused. leaves.any_moment }, refl))
 
   pub clients_ran : (which : Which) (old new aside : D) (status : Status) (l g0 g1 : Option (List ℕ)) (clients : ClientsGiven)
-      → Answers (RanTogether disk.may_leave address (disk.contents old) clients new) (SaysUnopened address (disk.contents old)) status g0 g1
-      → ((store : DocStore) → Holds disk.contents disk.may_leave address old store → LeftTogether disk.may_leave address store clients status new)
-      → ((files : Files) → disk.contents old ≡ Some files → ReadsAsNone 0 document address files → LeavesAsBefore disk old new)
+      → Answers (RanTogether disk.may_leave of address (disk.contents old) clients new) (SaysUnopened of address (disk.contents old)) status g0 g1
+      → ((store : Stored O R) → Holds disk.contents disk.may_leave of.meaning address old store → LeftTogether disk.may_leave of address store clients status new)
+      → ((files : Files) → disk.contents old ≡ Some files → ReadsAsNone of.kind of.meaning address files → LeavesAsBefore disk old new)
       → (status ≡ StoreRefused → LeavesAsBefore disk old new)
-      → Exchanges l l g0 g1 (RanChosen disk address (Clients clients) which old new aside aside l status)
+      → Exchanges l l g0 g1 (RanChosen disk of address (Clients clients) which old new aside aside l status)
   clients_ran which old new aside status l g0 g1 clients w crashes none refused =
       let told = disk.contents old in
-      let Ran_so : List ℕ → Type 0 = RanTogether disk.may_leave address told clients new in (
+      let Ran_so : List ℕ → Type 0 = RanTogether disk.may_leave of address told clients new in (
         [],
         w.0,
         Consumes-nil l,
@@ -141,11 +164,11 @@ module _ (address : List ℕ → List ℕ) {D : Type 0} (disk : Ghosts D) where
           record {
             wrote = (
               refl,
-              wrote_map Ran_so (SaysUnopened address told) (SaysTogether address told clients) (SaysUnopened address told)
-                  (says_ran disk.may_leave address told clients new) (λ whole is. is) status w.0 w.2,
+              wrote_map Ran_so (SaysUnopened of address told) (SaysTogether of address told clients) (SaysUnopened of address told)
+                  (says_ran disk.may_leave of address told clients new) (λ whole is. is) status w.0 w.2,
             );
             leaves = record {
-              ran = λ done. subst (λ (s : Status). WroteOnce Ran_so (SaysUnopened address told) s w.0) done w.2;
+              ran = λ done. subst (λ (s : Status). WroteOnce Ran_so (SaysUnopened of address told) s w.0) done w.2;
               crashes = crashes;
               none = none;
             };
@@ -164,14 +187,14 @@ module _ (address : List ℕ → List ℕ) {D : Type 0} (disk : Ghosts D)
   idle : (old : Disks D) (status : Status) → (status ≡ DiskFault) ⊎ (status ≡ Memory) → NoneChosen disk old old status [] []
   idle old status why = record { why = why; no_input = refl; no_text = refl; first = untouched old.first; second = untouched old.second }
 
-  idle_init : (n : TermNumbers) (old : Disks D) → RanInit disk address (AreTerms n) old old Memory []
-  idle_init n old =
+  idle_init : {S O R Q A : Type 0} (meaning : Meaning S O R Q A) (n : TermNumbers) (old : Disks D) → RanInit disk meaning address (AreTerms n) old old Memory []
+  idle_init meaning n old =
       let same = (untouched old.first).kept in
       record {
         wrote = refl;
         leaves = record {
-          any_moment = λ empty. weakened disk.moment disk.left_since old.first old.first (disk.may_leave old.first) (ReadsAsNoneOrEmpty document address (AreTerms n))
-              same (λ c was. empty_reads document address (AreTerms n) c (empty c was));
+          any_moment = λ empty. weakened disk.moment disk.left_since old.first old.first (disk.may_leave old.first) (ReadsAsNoneOrEmpty meaning address (AreTerms n))
+              same (λ c was. empty_reads meaning address (AreTerms n) c (empty c was));
           made = λ done. absurd (cc);
           kept = λ files told full. same;
         };
@@ -180,9 +203,13 @@ module _ (address : List ℕ → List ℕ) {D : Type 0} (disk : Ghosts D)
         second = untouched old.second;
       }
 
+  idle_init_for : (n : TermNumbers) (sequences : Bool) (old : Disks D) → RanInitFor disk address (AreTerms n) sequences old old Memory []
+  idle_init_for n true old = idle_init documents_with_sequences.meaning n old
+  idle_init_for n false old = idle_init documents.meaning n old
+
   -- for want of memory to read the words
   idle_over : (old : Disks D) (l : Option (List ℕ)) (command : Said) → RanOverBoth disk address command old old l Memory [] []
-  idle_over old l (Init n) = (refl, idle_init n old)
+  idle_over old l (Init n) = (refl, idle_init_for n n.sequences old)
   idle_over old l Script = inl (idle old Memory (inr refl))
   idle_over old l Check = inl (idle old Memory (inr refl))
   idle_over old l (Generate work) = inl (idle old Memory (inr refl))

@@ -4,38 +4,39 @@ use Rattle.std.specs.Prelude.{Option}
 use Rattle.std.specs.Io.KnownBytes.{Keeps}
 use Rattle.std.proofs.KnownBytes.{Appends-kept}
 use Rattle.branch_disk.specs.declared.disk.Disk.{Ghosts}
-use Rattle.branch_disk.specs.Disk.{Files, LeavesOnly}
-use Rattle.branch_doc.specs.Document.{document}
+use Rattle.branch_disk.specs.Disk.{Files}
 use Rattle.branch_files.specs.Reading.{Opens}
 use Rattle.branch_script.specs.Lines.{lines_of}
 use Rattle.branch_names.specs.declared.terms.Terms.{Terms}
 use Rattle.branch_command.specs.Commands.{Script}
-use Rattle.branch_engine.specs.Play.{History, begins, text_from, after_from}
+use Rattle.branch_engine.specs.Play.{begins, text_from, after_from}
 use Rattle.branch_shell.specs.declared.status.Status.{Status}
 use Rattle.branch_shell.specs.declared.status.Status.TheVariants.{Done, Usage, StoreRefused, DiskFault, ReadFault, WriteFault, LineTooLong, InputTooLong, Memory}
 use Rattle.branch_shell.specs.Reading.{IsFirstPart, Exchanges}
-use Rattle.branch_shell.specs.Stores.{IsOpenedAs}
+use Rattle.branch_shell.specs.Stores.{Stored, IsOpenedAs}
 use Rattle.branch_shell.specs.Once.{WroteOnce}
-use Rattle.branch_shell.specs.Documents.{DocStore, fixed_of, script_text, SaysUnopened}
+use Rattle.branch_shell.specs.Documents.{fixed_of, script_text, SaysUnopened}
 use Rattle.branch_shell.specs.Disks.{LeavesAsBefore}
 use Rattle.branch_shell.specs.Ran.{HoldsStore, LeavesScript, Ran}
-use Rattle.branch_shell.specs.Statuses.{WroteOver, Wrote, Holds, Runs, TellsWholeLines, TellsPart}
+use Rattle.branch_shell.specs.Statuses.{WroteOver, WroteOf, Holds, Runs, TellsWholeLines, TellsPart}
 use Rattle.branch_shell.proofs.Told.{whole_part, text_from-append}
 use Rattle.branch_shell.proofs.Ends.{script_text-is}
 use Rattle.branch_shell.proofs.Opening.{for_its_kind, store_read, failed}
+use Rattle.branch_shell.specs.Values.{ValueType}
+use Rattle.branch_history.specs.declared.moves.Move.{Move}
 
 pub exchanges_map : (l0 l1 g0 g1 : Option (List ℕ)) (P Q : List ℕ → List ℕ → Type 0) → ((input text : List ℕ) → P input text → Q input text) → Exchanges l0 l1 g0 g1 P → Exchanges l0 l1 g0 g1 Q
 exchanges_map l0 l1 g0 g1 P Q f e = (e.0, e.1, e.2, e.3, f e.0 e.1 e.4)
 
-module _ (address : List ℕ → List ℕ) where
-  before_is_part : (store : DocStore) (before : List (List ℕ)) (line : List ℕ) → IsFirstPart (script_text address store before) (script_text address store (before ++ line ∷ []))
+module _ {S O R Q A : Type 0} (of : ValueType S O R Q A) (address : List ℕ → List ℕ) where
+  before_is_part : (store : Stored O R) (before : List (List ℕ)) (line : List ℕ) → IsFirstPart (script_text of address store before) (script_text of address store (before ++ line ∷ []))
   before_is_part store before line = (
-    text_from (fixed_of address store) (after_from (fixed_of address store) (begins store.history) before) (line ∷ []),
-    sym (script_text-is address store (before ++ line ∷ [])) ∙ text_from-append (fixed_of address store) (begins store.history) before (line ∷ [])
-        ∙ ap (λ t. t ++ text_from (fixed_of address store) (after_from (fixed_of address store) (begins store.history) before) (line ∷ [])) (script_text-is address store before),
+    text_from of.forms (fixed_of of address store) (after_from of.forms (fixed_of of address store) (begins store.history) before) (line ∷ []),
+    sym (script_text-is of address store (before ++ line ∷ [])) ∙ text_from-append of.forms (fixed_of of address store) (begins store.history) before (line ∷ [])
+        ∙ ap (λ t. t ++ text_from of.forms (fixed_of of address store) (after_from of.forms (fixed_of of address store) (begins store.history) before) (line ∷ [])) (script_text-is of address store before),
   )
 
-  whole_is_part : (store : DocStore) (left : Option (List ℕ)) (input text rest : List ℕ) → TellsWholeLines address store input text rest → TellsPart address store left input text
+  whole_is_part : (store : Stored O R) (left : Option (List ℕ)) (input text rest : List ℕ) → TellsWholeLines of address store input text rest → TellsPart of address store left input text
   whole_is_part store left input text rest w = record {
     lines = lines_of w.whole;
     read = inl (record { whole = w.whole; rest = rest; parts = w.cut.parts; ended = w.cut.ended; lines_are = refl; short = w.cut.short });
@@ -43,11 +44,11 @@ module _ (address : List ℕ → List ℕ) where
   }
 
   -- whatever a script wrote over a store is a first part of the text of lines that were read
-  is_part : (store : DocStore) (left : Option (List ℕ)) (status : Status) (input text : List ℕ) → WroteOver address store left status input text → TellsPart address store left input text
+  is_part : (store : Stored O R) (left : Option (List ℕ)) (status : Status) (input text : List ℕ) → WroteOver of address store left status input text → TellsPart of address store left input text
   is_part store left Done input text w = record { lines = lines_of input; read = inr (w.0, refl, w.2); part = subst (IsFirstPart text) w.3 (whole_part text) }
   is_part store left Usage input text w = absurd w
   is_part store left StoreRefused input text w = absurd w
-  is_part store left DiskFault input text w = record { lines = w.before ++ w.line ∷ []; read = w.read; part = subst (λ (t : List ℕ). IsFirstPart t (script_text address store (w.before ++ w.line ∷ []))) (sym w.text_is) (before_is_part store w.before w.line) }
+  is_part store left DiskFault input text w = record { lines = w.before ++ w.line ∷ []; read = w.read; part = subst (λ (t : List ℕ). IsFirstPart t (script_text of address store (w.before ++ w.line ∷ []))) (sym w.text_is) (before_is_part store w.before w.line) }
   is_part store left ReadFault input text w = whole_is_part store left input text w.1 w.3
   is_part store left WriteFault input text w = w
   is_part store left LineTooLong input text w = whole_is_part store left input text w.0 w.2
@@ -57,8 +58,8 @@ module _ (address : List ℕ → List ℕ) where
   module _ {D : Type 0} (contents : D → Option Files) (may_leave : D → Files → Type 0) (moment : D → ℕ) (left_since : D → ℕ → Files → Type 0)
       (counts_now : (d : D) (t : ℕ) (c : Files) → t ≤ moment d → may_leave d c → left_since d t c) where
     -- a run that ended so, and then could not finish
-    pub unfinished : (store : DocStore) (old new : D) (l0 l1 g0 g1 g2 : Option (List ℕ)) (status : Status) → Keeps g1 g2 → Exchanges l0 l1 g0 g1 (Runs may_leave moment left_since address store old new l1 status)
-        → Exchanges l0 l1 g0 g2 (Runs may_leave moment left_since address store old new l1 WriteFault)
+    pub unfinished : (store : Stored O R) (old new : D) (l0 l1 g0 g1 g2 : Option (List ℕ)) (status : Status) → Keeps g1 g2 → Exchanges l0 l1 g0 g1 (Runs may_leave moment left_since of address store old new l1 status)
+        → Exchanges l0 l1 g0 g2 (Runs may_leave moment left_since of address store old new l1 WriteFault)
     unfinished store old new l0 l1 g0 g1 g2 status keeps e =
         let r = e.4 in (
           e.0,
@@ -72,14 +73,14 @@ module _ (address : List ℕ → List ℕ) where
           },
         )
 
-    pub finished : (store : DocStore) (old new : D) (l0 l1 g0 g1 g2 : Option (List ℕ)) (status : Status) → Keeps g1 g2 → Exchanges l0 l1 g0 g1 (Runs may_leave moment left_since address store old new l1 status)
-        → Exchanges l0 l1 g0 g2 (Runs may_leave moment left_since address store old new l1 status)
+    pub finished : (store : Stored O R) (old new : D) (l0 l1 g0 g1 g2 : Option (List ℕ)) (status : Status) → Keeps g1 g2 → Exchanges l0 l1 g0 g1 (Runs may_leave moment left_since of address store old new l1 status)
+        → Exchanges l0 l1 g0 g2 (Runs may_leave moment left_since of address store old new l1 status)
     finished store old new l0 l1 g0 g1 g2 status keeps e = (e.0, e.1, e.2, Appends-kept g0 g1 g2 e.1 e.3 keeps, e.4)
 
-    abbrev stored : Terms → History → DocStore
+    abbrev stored : Terms → List (Move O R) → Stored O R
     stored terms history = record { terms = terms; history = history }
 
-    pub same_store : (disk : D) (store found : DocStore) → Holds contents may_leave address disk store → IsOpenedAs document address (contents disk) found → found ≡ store
+    pub same_store : (disk : D) (store found : Stored O R) → Holds contents may_leave of.meaning address disk store → IsOpenedAs of.kind of.meaning address (contents disk) found → found ≡ store
     same_store disk store found holds opened =
         let same : Opens store.terms store.history ≡ Opens found.terms found.history = opened.only holds.files holds.told (Opens store.terms store.history) holds.reads in
         let terms : found.terms ≡ store.terms = cc same in
@@ -91,15 +92,15 @@ module _ (address : List ℕ → List ℕ) where
       (counts_now : (d : D) (t : ℕ) (c : Files) → t ≤ disk.moment d → disk.may_leave d c → disk.left_since d t c)
       (only_now : (d : D) (c : Files) → disk.left_since d (disk.moment d) c → disk.may_leave d c) where
     -- a script over the store that was opened
-    module _ (old mid new : D) (found : DocStore) (left : Option (List ℕ)) (status : Status) (input text : List ℕ)
-        (is : IsOpenedAs document address (disk.contents old) found) (first : LeavesAsBefore disk old mid)
-        (runs : Runs disk.may_leave disk.moment disk.left_since address found mid new left status input text) where
-      script_over : (store : DocStore) → HoldsStore disk address old store
-          → LeavesScript disk address store old new left status input text
+    module _ (old mid new : D) (found : Stored O R) (left : Option (List ℕ)) (status : Status) (input text : List ℕ)
+        (is : IsOpenedAs of.kind of.meaning address (disk.contents old) found) (first : LeavesAsBefore disk old mid)
+        (runs : Runs disk.may_leave disk.moment disk.left_since of address found mid new left status input text) where
+      script_over : (store : Stored O R) → HoldsStore disk of address old store
+          → LeavesScript disk of address store old new left status input text
       script_over store holds =
-          let r : Runs disk.may_leave disk.moment disk.left_since address store mid new left status input text =
-          subst (λ (s : DocStore). Runs disk.may_leave disk.moment disk.left_since address s mid new left status input text)
-          (store_read address disk counts_now only_now old store found holds is) runs in
+          let r : Runs disk.may_leave disk.moment disk.left_since of address store mid new left status input text =
+          subst (λ (s : Stored O R). Runs disk.may_leave disk.moment disk.left_since of address s mid new left status input text)
+          (store_read of address disk counts_now only_now old store found holds is) runs in
           inr (record {
             opened = mid;
             before = first;
@@ -110,27 +111,27 @@ module _ (address : List ℕ → List ℕ) where
 
       never_refused : status ≡ StoreRefused → ⊥
       never_refused refused =
-          subst (λ (s : Status). WroteOver address found left s input text) refused runs.wrote
+          subst (λ (s : Status). WroteOver of address found left s input text) refused runs.wrote
 
-      pub script_opened : Ran disk address Script old new left status input text
+      pub script_opened : Ran disk of address Script old new left status input text
       script_opened = record {
         wrote = inr (found, is, runs.size, runs.wrote);
         leaves = record {
           over = script_over;
           none = λ files told none. absurd {A = LeavesAsBefore disk old new}
-              (none found.terms found.history (for_its_kind address files found.terms found.history is.kind (is.reads files told)));
+              (none found.terms found.history (for_its_kind of address files found.terms found.history is.kind_is (is.reads files told)));
         };
         refused = λ refused. absurd {A = LeavesAsBefore disk old new} (never_refused refused);
       }
 
     -- or one that was not opened
     module _ (old new : D) (left : Option (List ℕ)) (status : Status) (text : List ℕ) (all : LeavesAsBefore disk old new)
-        (w : WroteOnce (λ whole. ⊥) (SaysUnopened address (disk.contents old)) status text) where
-      script_unopened : (store : DocStore) → HoldsStore disk address old store
-          → LeavesScript disk address store old new left status [] text
-      script_unopened store holds = inl (failed address disk counts_now only_now old new store status text holds all w)
+        (w : WroteOnce (λ whole. ⊥) (SaysUnopened of address (disk.contents old)) status text) where
+      script_unopened : (store : Stored O R) → HoldsStore disk of address old store
+          → LeavesScript disk of address store old new left status [] text
+      script_unopened store holds = inl (failed of address disk counts_now only_now old new store status text holds all w)
 
-      pub script_refused : Ran disk address Script old new left status [] text
+      pub script_refused : Ran disk of address Script old new left status [] text
       script_refused = record {
         wrote = inl (refl, w);
         leaves = record { over = script_unopened; none = λ files told none. all };
@@ -138,7 +139,7 @@ module _ (address : List ℕ → List ℕ) where
       }
 
   -- what was given over the store that was opened, or this
-  pub wrote_opened : {D : Type 0} (may_leave : D → Files → Type 0) (moment : D → ℕ) (left_since : D → ℕ → Files → Type 0) (told : Option Files) (found : DocStore) → IsOpenedAs document address told found → (mid new : D)
-      (l0 l1 g0 g1 : Option (List ℕ)) (status : Status) (same : Type 0) → same ⊎ Exchanges l0 l1 g0 g1 (Runs may_leave moment left_since address found mid new l1 status) → same ⊎ Exchanges l0 l1 g0 g1 (Wrote address Script told l1 status)
+  pub wrote_opened : {D : Type 0} (may_leave : D → Files → Type 0) (moment : D → ℕ) (left_since : D → ℕ → Files → Type 0) (told : Option Files) (found : Stored O R) → IsOpenedAs of.kind of.meaning address told found → (mid new : D)
+      (l0 l1 g0 g1 : Option (List ℕ)) (status : Status) (same : Type 0) → same ⊎ Exchanges l0 l1 g0 g1 (Runs may_leave moment left_since of address found mid new l1 status) → same ⊎ Exchanges l0 l1 g0 g1 (WroteOf of address Script told l1 status)
   wrote_opened may_leave moment left_since told found is mid new l0 l1 g0 g1 status same (inl stays) = inl stays
   wrote_opened may_leave moment left_since told found is mid new l0 l1 g0 g1 status same (inr e) = inr (e.0, e.1, e.2, e.3, inr (found, is, e.4.size, e.4.wrote))

@@ -1,24 +1,23 @@
 -- Generated work, from the opening of its store on.
 use Rattle.std.proofs.Common.{◌≡◌, ◌≢◌, ℕ, ◌≤◌, List, [], ◌++◌, refl, ap₂, subst, ◌∙◌, inl, inr}
 use Rattle.std.specs.Prelude.{Option, None}
-use Rattle.branch_disk.specs.Disk.{Files, LeavesOnly}
+use Rattle.branch_disk.specs.Disk.{Files}
 use Rattle.branch_disk.specs.declared.disk.Disk.{Ghosts}
 use Rattle.branch_disk.specs.Moments.{now_too}
-use Rattle.branch_doc.specs.Document.{document}
 use Rattle.branch_print.specs.declared.summaries.Summary.{Summary}
 use Rattle.branch_print.specs.Texts.{line_end}
 use Rattle.branch_print.specs.Reports.{report_text}
 use Rattle.branch_print.specs.Summaries.{summary_of, summary_text}
-use Rattle.branch_engine.specs.Play.{History, begins, after_from}
+use Rattle.branch_engine.specs.Play.{begins, after_from}
 use Rattle.branch_engine.specs.Engines.{EngineView, IsAt}
 use Rattle.branch_command.specs.Commands.{Generate}
 use Rattle.branch_command.specs.Work.{Work}
 use Rattle.branch_shell.specs.declared.status.Status.{Status}
 use Rattle.branch_shell.specs.declared.status.Status.TheVariants.{Done, Usage, StoreRefused, DiskFault, ReadFault, WriteFault, LineTooLong, InputTooLong, Memory}
 use Rattle.branch_shell.specs.Counts.{StopsCounting, HasReason}
-use Rattle.branch_shell.specs.Stores.{ReadsAsStore, IsOpenedAs}
+use Rattle.branch_shell.specs.Stores.{Stored, ReadsAsStore, IsOpenedAs}
 use Rattle.branch_shell.specs.Once.{WroteOnce, Answers}
-use Rattle.branch_shell.specs.Documents.{DocStore, fixed_of, replies_over, SaysUnopened}
+use Rattle.branch_shell.specs.Documents.{fixed_of, replies_over, SaysUnopened}
 use Rattle.branch_shell.specs.Telling.{TellsLines, LeavesSome}
 use Rattle.branch_shell.specs.Generated.{drawn_lines, work_text, SaysWork, HoldsAfterSome, SurvivesWork}
 use Rattle.branch_shell.specs.Disks.{LeavesAsBefore}
@@ -26,6 +25,8 @@ use Rattle.branch_shell.specs.Ran.{HoldsStore, LeavesWork, Ran}
 use Rattle.branch_shell.proofs.Ends.{after_lines-is}
 use Rattle.branch_shell.proofs.Once.{wrote_map}
 use Rattle.branch_shell.proofs.Opening.{for_its_kind, store_read, failed}
+use Rattle.branch_shell.specs.Values.{ValueType}
+use Rattle.branch_history.specs.declared.moves.Move.{Move}
 
 -- what stopped the lines is not that all was done
 pub stopped_undone : (before now : ℕ) (status : Status) → StopsCounting before now status → status ≢ Done
@@ -68,27 +69,27 @@ nothing_said success refusal before now Memory stops = refl
 pub never_refused : (P : List ℕ → Type 0) (status : Status) (g0 g1 : Option (List ℕ)) → Answers P (λ whole. ⊥) status g0 g1 → status ≡ StoreRefused → ⊥
 never_refused P status g0 g1 w is = subst (λ (s : Status). WroteOnce P (λ whole. ⊥) s w.0) is w.2
 
-module _ (address : List ℕ → List ℕ) where
-  pub work_said : (store : DocStore) (lines : List (List ℕ)) (summary : Summary) (history : History) → summary ≡ summary_of (replies_over address store lines)
-      → history ≡ (after_from (fixed_of address store) (begins store.history) lines).moves → (whole : List ℕ) → whole ≡ (summary_text summary ++ line_end) ++ report_text store.terms.origin history → whole ≡ work_text address store lines
+module _ {S O R Q A : Type 0} (of : ValueType S O R Q A) (address : List ℕ → List ℕ) where
+  pub work_said : (store : Stored O R) (lines : List (List ℕ)) (summary : Summary) (history : List (Move O R)) → summary ≡ summary_of (replies_over of address store lines)
+      → history ≡ (after_from of.forms (fixed_of of address store) (begins store.history) lines).moves → (whole : List ℕ) → whole ≡ (summary_text summary ++ line_end) ++ report_text store.terms.origin history → whole ≡ work_text of address store lines
   work_said store lines summary history counted after whole is =
-      is ∙ ap₂ (λ (s : Summary) (h : History). (summary_text s ++ line_end) ++ report_text store.terms.origin h) counted (after ∙ after_lines-is address store lines)
+      is ∙ ap₂ (λ (s : Summary) (h : List (Move O R)). (summary_text s ++ line_end) ++ report_text store.terms.origin h) counted (after ∙ after_lines-is of address store lines)
 
   module _ {D : Type 0} (contents : D → Option Files) (may_leave : D → Files → Type 0) (moment : D → ℕ) (left_since : D → ℕ → Files → Type 0)
       (counts_now : (d : D) (t : ℕ) (c : Files) → t ≤ moment d → may_leave d c → left_since d t c) where
     -- all lines were told
-    pub survives_told : (store : DocStore) (lines : List (List ℕ)) (old new : EngineView D) (status : Status) → IsAt may_leave (fixed_of address store) old (begins store.history)
-        → TellsLines may_leave moment left_since address lines old new None None → SurvivesWork may_leave moment left_since address store lines old.core.disk new.core.disk status
+    pub survives_told : (store : Stored O R) (lines : List (List ℕ)) (old new : EngineView O R D) (status : Status) → IsAt may_leave (fixed_of of address store) old (begins store.history)
+        → TellsLines may_leave moment left_since of address lines old new None None → SurvivesWork may_leave moment left_since of address store lines old.core.disk new.core.disk status
     survives_told store lines old new status at told =
         let t = told store.terms (begins store.history) at in
         record {
           any_moment = t.moments;
-          complete = λ done c left. subst (λ (h : History). ReadsAsStore document address (record { terms = store.terms; history = h }) c) (after_lines-is address store lines) (t.at.images c left);
+          complete = λ done c left. subst (λ (h : List (Move O R)). ReadsAsStore of.meaning address (record { terms = store.terms; history = h }) c) (after_lines-is of address store lines) (t.at.images c left);
         }
 
     -- or some of them
-    pub survives_stopped : (store : DocStore) (lines : List (List ℕ)) (old new : EngineView D) (status : Status) → IsAt may_leave (fixed_of address store) old (begins store.history)
-        → LeavesSome may_leave moment left_since address lines old new → status ≢ Done → SurvivesWork may_leave moment left_since address store lines old.core.disk new.core.disk status
+    pub survives_stopped : (store : Stored O R) (lines : List (List ℕ)) (old new : EngineView O R D) (status : Status) → IsAt may_leave (fixed_of of address store) old (begins store.history)
+        → LeavesSome may_leave moment left_since of address lines old new → status ≢ Done → SurvivesWork may_leave moment left_since of address store lines old.core.disk new.core.disk status
     survives_stopped store lines old new status at moments undone = record { any_moment = moments store.terms (begins store.history) at; complete = λ done. absurd (undone done) }
 
   -- from the opening of the store on
@@ -97,55 +98,55 @@ module _ (address : List ℕ → List ℕ) where
       (only_now : (d : D) (c : Files) → disk.left_since d (disk.moment d) c → disk.may_leave d c)
       (work : Work) (left : Option (List ℕ)) (old : D) where
     -- the store was opened
-    module _ (mid new : D) (found : DocStore) (status : Status) (text : List ℕ) (is : IsOpenedAs document address (disk.contents old) found)
+    module _ (mid new : D) (found : Stored O R) (status : Status) (text : List ℕ) (is : IsOpenedAs of.kind of.meaning address (disk.contents old) found)
         (first : LeavesAsBefore disk old mid)
-        (survives : SurvivesWork disk.may_leave disk.moment disk.left_since address found (drawn_lines work) mid new status)
-        (w : WroteOnce (λ whole. whole ≡ work_text address found (drawn_lines work)) (λ whole. ⊥) status text) where
-      work_over : (store : DocStore) → HoldsStore disk address old store
-          → LeavesWork disk address store (drawn_lines work) old new status [] text
+        (survives : SurvivesWork disk.may_leave disk.moment disk.left_since of address found (drawn_lines work) mid new status)
+        (w : WroteOnce (λ whole. whole ≡ work_text of address found (drawn_lines work)) (λ whole. ⊥) status text) where
+      work_over : (store : Stored O R) → HoldsStore disk of address old store
+          → LeavesWork disk of address store (drawn_lines work) old new status [] text
       work_over store holds =
-          let s : SurvivesWork disk.may_leave disk.moment disk.left_since address store (drawn_lines work) mid new status =
-          subst (λ (k : DocStore). SurvivesWork disk.may_leave disk.moment disk.left_since address k (drawn_lines work) mid new status)
-          (store_read address disk counts_now only_now old store found holds is) survives in
+          let s : SurvivesWork disk.may_leave disk.moment disk.left_since of address store (drawn_lines work) mid new status =
+          subst (λ (k : Stored O R). SurvivesWork disk.may_leave disk.moment disk.left_since of address k (drawn_lines work) mid new status)
+          (store_read of address disk counts_now only_now old store found holds is) survives in
           inr (record {
             opened = mid;
             before = first;
             any_moment = s.any_moment;
             at_end = now_too disk.moment disk.left_since disk.may_leave counts_now mid new
-                (HoldsAfterSome address store (drawn_lines work)) s.any_moment;
+                (HoldsAfterSome of address store (drawn_lines work)) s.any_moment;
             complete = s.complete;
           })
 
-      pub work_opened : Ran disk address (Generate work) old new left status [] text
+      pub work_opened : Ran disk of address (Generate work) old new left status [] text
       work_opened = record {
         wrote = (
           refl,
-          wrote_map (λ whole. whole ≡ work_text address found (drawn_lines work)) (λ whole. ⊥)
-              (SaysWork address (disk.contents old) work) (SaysUnopened address (disk.contents old))
+          wrote_map (λ whole. whole ≡ work_text of address found (drawn_lines work)) (λ whole. ⊥)
+              (SaysWork of address (disk.contents old) work) (SaysUnopened of address (disk.contents old))
               (λ whole so. (found, is, so)) (λ whole no. absurd no) status text w,
         );
         leaves = record {
           over = work_over;
           none = λ files says none. absurd {A = LeavesAsBefore disk old new}
-              (none found.terms found.history (for_its_kind address files found.terms found.history is.kind (is.reads files says)));
+              (none found.terms found.history (for_its_kind of address files found.terms found.history is.kind_is (is.reads files says)));
         };
         refused = λ refused. absurd {A = LeavesAsBefore disk old new}
-            (subst (λ (s : Status). WroteOnce (λ whole. whole ≡ work_text address found (drawn_lines work)) (λ whole. ⊥) s text) refused w);
+            (subst (λ (s : Status). WroteOnce (λ whole. whole ≡ work_text of address found (drawn_lines work)) (λ whole. ⊥) s text) refused w);
       }
 
     -- or it was not
     module _ (new : D) (status : Status) (text : List ℕ) (all : LeavesAsBefore disk old new)
-        (w : WroteOnce (λ whole. ⊥) (SaysUnopened address (disk.contents old)) status text) where
-      work_unopened : (store : DocStore) → HoldsStore disk address old store
-          → LeavesWork disk address store (drawn_lines work) old new status [] text
-      work_unopened store holds = inl (failed address disk counts_now only_now old new store status text holds all w)
+        (w : WroteOnce (λ whole. ⊥) (SaysUnopened of address (disk.contents old)) status text) where
+      work_unopened : (store : Stored O R) → HoldsStore disk of address old store
+          → LeavesWork disk of address store (drawn_lines work) old new status [] text
+      work_unopened store holds = inl (failed of address disk counts_now only_now old new store status text holds all w)
 
-      pub work_refused : Ran disk address (Generate work) old new left status [] text
+      pub work_refused : Ran disk of address (Generate work) old new left status [] text
       work_refused = record {
         wrote = (
           refl,
-          wrote_map (λ whole. ⊥) (SaysUnopened address (disk.contents old))
-              (SaysWork address (disk.contents old) work) (SaysUnopened address (disk.contents old))
+          wrote_map (λ whole. ⊥) (SaysUnopened of address (disk.contents old))
+              (SaysWork of address (disk.contents old) work) (SaysUnopened of address (disk.contents old))
               (λ whole no. absurd no) (λ whole says. says) status text w,
         );
         leaves = record { over = work_unopened; none = λ files says none. all };

@@ -70,43 +70,44 @@ TellsTaken store name text = (number : ℕ) × (branch_named (branches_of store)
     × (text ≡ stop_text 0 (NameTaken number))
 
 -- a text of the store that opening found
-abbrev pub SaysOf : {S O R Q A : Type 0} → Meaning S O R Q A → (List ℕ → List ℕ) → Option Files
-    → (Stored O R → List ℕ → Type 0) → List ℕ → Type 0
-SaysOf {S} {O} {R} meaning address told P text = (store : Stored O R)
-    × IsOpenedAs meaning address told store × P store text
+abbrev pub SaysOf : {S O R Q A : Type 0} → ℕ → Meaning S O R Q A → (List ℕ → List ℕ)
+    → Option Files → (Stored O R → List ℕ → Type 0) → List ℕ → Type 0
+SaysOf {S} {O} {R} kind meaning address told P text = (store : Stored O R)
+    × IsOpenedAs kind meaning address told store × P store text
 
 -- the address of the head of a branch, in the store that opening found
-abbrev pub SaysAddress : {S O R Q A : Type 0} → Meaning S O R Q A → (List ℕ → List ℕ)
+abbrev pub SaysAddress : {S O R Q A : Type 0} → ℕ → Meaning S O R Q A → (List ℕ → List ℕ)
     → Option Files → List ℕ → List ℕ → Type 0
-SaysAddress meaning address told branch text = SaysOf meaning address told
+SaysAddress kind meaning address told branch text = SaysOf kind meaning address told
     (λ store. TellsHead store branch (address_said meaning address store)) text
 
 -- the bundle of the head of a branch, for one that has the commits here with these addresses
-abbrev pub SaysBundle : {S O R Q A : Type 0} → Meaning S O R Q A → (List ℕ → List ℕ) → Option Files
-    → List ℕ → List (List ℕ) → List ℕ → Type 0
-SaysBundle meaning address told branch here text = SaysOf meaning address told
+abbrev pub SaysBundle : {S O R Q A : Type 0} → ℕ → Meaning S O R Q A → (List ℕ → List ℕ)
+    → Option Files → List ℕ → List (List ℕ) → List ℕ → Type 0
+SaysBundle kind meaning address told branch here text = SaysOf kind meaning address told
     (λ store. TellsHead store branch (bundle_said meaning address here store)) text
 
 -- why nothing is told of a branch: no store was opened, or no branch there has the name
-abbrev pub SaysNoBranch : {S O R Q A T P X B C : Type 0} → Meaning S O R Q A → Meaning T P X B C
-    → (List ℕ → List ℕ) → Option Files → List ℕ → List ℕ → Type 0
-SaysNoBranch meaning old address told branch text = SaysRefused meaning old address told text
-    ⊎ SaysOf meaning address told (λ store. TellsUnknown store branch) text
+abbrev pub SaysNoBranch : {S O R Q A T P X B C : Type 0} → ℕ → Meaning S O R Q A
+    → Meaning T P X B C → (List ℕ → List ℕ) → Option Files → List ℕ → List ℕ → Type 0
+SaysNoBranch kind meaning old address told branch text =
+    SaysRefused kind meaning old address told text
+    ⊎ SaysOf kind meaning address told (λ store. TellsUnknown store branch) text
 
 -- why nothing is received: no store was opened, or a branch there has the name
-abbrev pub SaysTaken : {S O R Q A T P X B C : Type 0} → Meaning S O R Q A → Meaning T P X B C
+abbrev pub SaysTaken : {S O R Q A T P X B C : Type 0} → ℕ → Meaning S O R Q A → Meaning T P X B C
     → (List ℕ → List ℕ) → Option Files → List ℕ → List ℕ → Type 0
-SaysTaken meaning old address told name text = SaysRefused meaning old address told text
-    ⊎ SaysOf meaning address told (λ store. TellsTaken store name) text
+SaysTaken kind meaning old address told name text = SaysRefused kind meaning old address told text
+    ⊎ SaysOf kind meaning address told (λ store. TellsTaken store name) text
 
 -- The source was not looked at, and no move was made: no store was opened, or a branch there has the
 -- name.
-pub record DoesNotReceive {S O R Q A T P X B C D : Type 0} (disk : Ghosts D)
+pub record DoesNotReceive {S O R Q A T P X B C D : Type 0} (disk : Ghosts D) (kind : ℕ)
     (meaning : Meaning S O R Q A) (old_meaning : Meaning T P X B C) (address : List ℕ → List ℕ)
     (name : List ℕ) (old new : D) (status : Status) (input text : List ℕ) : Type 0 where
   pub no_input : input ≡ []
   pub wrote : WroteOnce (λ whole. ⊥)
-      (SaysTaken meaning old_meaning address (disk.contents old) name) status text
+      (SaysTaken kind meaning old_meaning address (disk.contents old) name) status text
   pub kept : LeavesAsBefore disk old new
 
 -- the text of how the receiving of bytes ended
@@ -224,12 +225,12 @@ pub record DoesReceive {S O R Q A D : Type 0} (disk : Ghosts D) (meaning : Meani
 
 -- What `receive` did, which ended with this status: what it wrote of the input that it read, and
 -- what a crash leaves of its disk.
-abbrev pub RanReceive : {S O R Q A T P X B C D : Type 0} → Ghosts D → Meaning S O R Q A
+abbrev pub RanReceive : {S O R Q A T P X B C D : Type 0} → Ghosts D → ℕ → Meaning S O R Q A
     → Meaning T P X B C → (List ℕ → List ℕ) → List ℕ → D → D → Option (List ℕ) → Status → List ℕ
     → List ℕ → Type 0
-RanReceive {S} {O} {R} disk meaning old_meaning address name old new left status input text =
-    DoesNotReceive disk meaning old_meaning address name old new status input text
-    ⊎ ((store : Stored O R) × IsOpenedAs meaning address (disk.contents old) store
+RanReceive {S} {O} {R} disk kind meaning old_meaning address name old new left status input text =
+    DoesNotReceive disk kind meaning old_meaning address name old new status input text
+    ⊎ ((store : Stored O R) × IsOpenedAs kind meaning address (disk.contents old) store
     × DoesReceive disk meaning address name store old new left status input text)
 
 -- the text of why a bundle was not received; none, where the cause is the disk or the memory

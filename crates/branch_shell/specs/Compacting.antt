@@ -4,8 +4,6 @@ use Rattle.std.specs.Prelude.{◌≡◌, ◌≢◌, ◌⊎◌, ℕ, false, List,
 use Rattle.std.specs.declared.option.Option.{Option}
 use Rattle.branch_disk.specs.declared.disk.Disk.{Ghosts}
 use Rattle.branch_disk.specs.Disk.{Files}
-use Rattle.branch_doc.specs.Document.{document}
-use Rattle.branch_doc.specs.Forms.{DocOp, DocReply}
 use Rattle.branch_history.specs.declared.moves.Move.{Move}
 use Rattle.branch_compact.specs.Compact.{compact}
 use Rattle.branch_compact.specs.Switch.{current}
@@ -16,22 +14,24 @@ use Rattle.store_compact.specs.Compacting.{first_of, second_of, BothRead, ReadsE
 use Rattle.branch_shell.specs.declared.status.Status.{Status}
 use Rattle.branch_shell.specs.declared.status.Status.TheVariants.{Done, StoreRefused}
 use Rattle.branch_shell.specs.Once.{WroteOnce}
-use Rattle.branch_shell.specs.Stores.{IsOpenedAs}
-use Rattle.branch_shell.specs.Documents.{DocStore, SaysUnopened}
+use Rattle.branch_shell.specs.Stores.{Stored, IsOpenedAs}
+use Rattle.branch_shell.specs.Values.{ValueType}
+use Rattle.branch_shell.specs.Documents.{SaysUnopened}
 use Rattle.branch_shell.specs.Disks.{LeavesAsBefore, StaysSame}
 
 -- how many moves of a store its compact history has, of how many
-abbrev pub counts_text : DocStore → List ℕ
+abbrev pub counts_text : {O R : Type 0} → Stored O R → List ℕ
 counts_text store =
     compacted_text (length (compact store.terms store.history)) (length store.history)
 
 -- the text of that, of the store that opening found
-abbrev pub SaysCompacted : (List ℕ → List ℕ) → Option Files → List ℕ → Type 0
-SaysCompacted address told text = (store : DocStore) × IsOpenedAs document address told store
-    × (text ≡ counts_text store)
+abbrev pub SaysCompacted : {S O R Q A : Type 0} → ValueType S O R Q A → (List ℕ → List ℕ)
+    → Option Files → List ℕ → Type 0
+SaysCompacted {S} {O} {R} of address told text = (store : Stored O R)
+    × IsOpenedAs of.kind of.meaning address told store × (text ≡ counts_text store)
 
 -- a store that was opened over this disk
-abbrev pub view_of : {D : Type 0} → DocStore → D → StoreView (Move DocOp DocReply) D
+abbrev pub view_of : {O R D : Type 0} → Stored O R → D → StoreView (Move O R) D
 view_of store opened = record {
   history = store.history;
   terms = store.terms;
@@ -50,39 +50,41 @@ pub record StaysAside {D : Type 0} (disk : Ghosts D) (held held_now other other_
 -- The store was opened over this disk. From then on the two disks are in the stages of a compaction;
 -- at the end they read as the history or as the compact one, and after `Done` as that, whose files
 -- they have then.
-pub record IsCompactedFrom {D : Type 0} (disk : Ghosts D) (address : List ℕ → List ℕ)
-    (which : Which) (store : DocStore) (opened other first second : D) (status : Status)
-    : Type 0 where
-  pub stages : Compacts disk document address which (view_of store opened) other first second
+pub record IsCompactedFrom {S O R Q A D : Type 0} (disk : Ghosts D) (of : ValueType S O R Q A)
+    (address : List ℕ → List ℕ) (which : Which) (store : Stored O R)
+    (opened other first second : D) (status : Status) : Type 0 where
+  pub stages : Compacts disk of.meaning address which (view_of store opened) other first second
   pub either : (f s : Files) → disk.may_leave first f → disk.may_leave second s
-      → ReadsEither document address store.terms store.history (current f s)
-  pub complete : status ≡ Done → BothRead document address store.terms
+      → ReadsEither of.meaning address store.terms store.history (current f s)
+  pub complete : status ≡ Done → BothRead of.meaning address store.terms
       (compact store.terms store.history) (disk.may_leave first) (disk.may_leave second)
   pub exact : status ≡ Done
-      → HoldsCompact disk document address which (view_of store opened) other first second
+      → HoldsCompact disk of.meaning address which (view_of store opened) other first second
 
 -- It was opened at some moment, before which a crash leaves of the current disk only what one might
 -- have left at the start.
-pub record IsCompacted {D : Type 0} (disk : Ghosts D) (address : List ℕ → List ℕ) (which : Which)
-    (store : DocStore) (old other first second : D) (status : Status) : Type 0 where
+pub record IsCompacted {S O R Q A D : Type 0} (disk : Ghosts D) (of : ValueType S O R Q A)
+    (address : List ℕ → List ℕ) (which : Which) (store : Stored O R) (old other first second : D)
+    (status : Status) : Type 0 where
   pub opened : D
   pub before : LeavesAsBefore disk old opened
-  pub since : IsCompactedFrom disk address which store opened other first second status
+  pub since : IsCompactedFrom disk of address which store opened other first second status
 
 -- what became of the two disks, where the store that opening found was compacted
-abbrev pub CompactsFound : {D : Type 0} → Ghosts D → (List ℕ → List ℕ) → Which → D → D → D → D
-    → Status → Type 0
-CompactsFound disk address which old other first second status = (store : DocStore)
-    × IsOpenedAs document address (disk.contents old) store
-    × IsCompacted disk address which store old other first second status
+abbrev pub CompactsFound : {S O R Q A D : Type 0} → Ghosts D → ValueType S O R Q A
+    → (List ℕ → List ℕ) → Which → D → D → D → D → Status → Type 0
+CompactsFound {S} {O} {R} disk of address which old other first second status =
+    (store : Stored O R) × IsOpenedAs of.kind of.meaning address (disk.contents old) store
+    × IsCompacted disk of address which store old other first second status
 
 -- What compacting did, which ended with this status, given the current disk and the other: what was
 -- written; and what is left of both, of which nothing changed where the store was refused.
-pub record RanCompact {D : Type 0} (disk : Ghosts D) (address : List ℕ → List ℕ) (which : Which)
-    (held held_now other other_now : D) (status : Status) (text : List ℕ) : Type 0 where
-  pub wrote : WroteOnce (SaysCompacted address (disk.contents held))
-      (SaysUnopened address (disk.contents held)) status text
+pub record RanCompact {S O R Q A D : Type 0} (disk : Ghosts D) (of : ValueType S O R Q A)
+    (address : List ℕ → List ℕ) (which : Which) (held held_now other other_now : D)
+    (status : Status) (text : List ℕ) : Type 0 where
+  pub wrote : WroteOnce (SaysCompacted of address (disk.contents held))
+      (SaysUnopened of address (disk.contents held)) status text
   pub left : StaysAside disk held held_now other other_now status
-      ⊎ CompactsFound disk address which held other (first_of which held_now other_now)
+      ⊎ CompactsFound disk of address which held other (first_of which held_now other_now)
       (second_of which held_now other_now) status
   pub refused : status ≡ StoreRefused → StaysAside disk held held_now other other_now status

@@ -7,8 +7,10 @@ use Rattle.branch_disk.specs.Disk.{Files, LeavesOnly}
 use Rattle.branch_compact.specs.Switch.{is_current}
 use Rattle.store_compact.specs.declared.answers.Which.{Which}
 use Rattle.store_compact.specs.declared.answers.Which.TheVariants.{First, Second}
+use Rattle.branch_shell.specs.declared.choose.Values.{Values}
 use Rattle.branch_shell.specs.declared.status.Status.{Status}
 use Rattle.branch_shell.specs.declared.status.Status.TheVariants.{DiskFault, Memory}
+use Rattle.branch_shell.specs.Values.{HaveValues}
 
 -- two disks
 pub record Disks (D : Type 0) : Type 0 where
@@ -48,15 +50,16 @@ pub record StaysSame {D : Type 0} (disk : Ghosts D) (old new : D) : Type 0 where
 abbrev pub IsSettled : {D : Type 0} → Ghosts D → D → Type 0
 IsSettled disk now = (c : Files) → disk.may_leave now c → disk.contents now ≡ Some c
 
--- This one of two disks is current. Both were synced, so that each image of either is what it
--- tells, and nothing else was done to them.
+-- This one of two disks is current, and has these values. Both were synced, so that each image of
+-- either is what it tells, and nothing else was done to them.
 pub record AreChosen {D : Type 0} (disk : Ghosts D) (old now : Disks D) (which : Which)
-    : Type 0 where
+    (values : Values) : Type 0 where
   pub first : StaysSame disk old.first now.first
   pub second : StaysSame disk old.second now.second
   pub first_settled : IsSettled disk now.first
   pub second_settled : IsSettled disk now.second
   pub current : ForSome (disk.contents old.first) (IsCurrentBy which)
+  pub have : ForSome (disk.contents (held which old)) (HaveValues values)
 
 -- None was chosen, since a disk failed or memory was short: nothing was read or written, and a crash
 -- leaves of either disk only what one might have left before.

@@ -3,7 +3,6 @@
 use Rattle.std.specs.Prelude.{◌≡◌, ℕ, List, [], ◌++◌}
 use Rattle.std.specs.declared.option.Option.{Option}
 use Rattle.branch_disk.specs.Disk.{Files, LeavesOnly}
-use Rattle.branch_doc.specs.Document.{document}
 use Rattle.branch_script.specs.Lines.{lines_of}
 use Rattle.branch_gen.specs.Scripts as drawn
 use Rattle.branch_print.specs.Texts.{line_end}
@@ -13,8 +12,9 @@ use Rattle.branch_engine.specs.Play.{begins}
 use Rattle.branch_command.specs.Work.{Work}
 use Rattle.branch_shell.specs.declared.status.Status.{Status}
 use Rattle.branch_shell.specs.declared.status.Status.TheVariants.{Done}
-use Rattle.branch_shell.specs.Stores.{ReadsAsStore, IsOpenedAs}
-use Rattle.branch_shell.specs.Documents.{DocStore, fixed_of, store_after, replies_over}
+use Rattle.branch_shell.specs.Stores.{Stored, ReadsAsStore, IsOpenedAs}
+use Rattle.branch_shell.specs.Values.{ValueType}
+use Rattle.branch_shell.specs.Documents.{fixed_of, store_after, replies_over}
 use Rattle.branch_shell.specs.Telling.{ReadsAfterSome}
 
 -- the lines that are drawn
@@ -22,26 +22,30 @@ abbrev pub drawn_lines : Work → List (List ℕ)
 drawn_lines work = lines_of (drawn.script_text work.steps work.number)
 
 -- what came of lines over a store, and then the report of the store after them
-abbrev pub work_text : (List ℕ → List ℕ) → DocStore → List (List ℕ) → List ℕ
-work_text address store lines = (summary_text (summary_of (replies_over address store lines))
-    ++ line_end) ++ report_text store.terms.origin (store_after address store lines).history
+abbrev pub work_text : {S O R Q A : Type 0} → ValueType S O R Q A → (List ℕ → List ℕ) → Stored O R
+    → List (List ℕ) → List ℕ
+work_text of address store lines = (summary_text (summary_of (replies_over of address store lines))
+    ++ line_end) ++ report_text store.terms.origin (store_after of address store lines).history
 
 -- what came of the drawn lines over the store that opening found, and the report of the store after
 -- them
-abbrev pub SaysWork : (List ℕ → List ℕ) → Option Files → Work → List ℕ → Type 0
-SaysWork address told work text = (store : DocStore) × IsOpenedAs document address told store
-    × (text ≡ work_text address store (drawn_lines work))
+abbrev pub SaysWork : {S O R Q A : Type 0} → ValueType S O R Q A → (List ℕ → List ℕ)
+    → Option Files → Work → List ℕ → Type 0
+SaysWork {S} {O} {R} of address told work text = (store : Stored O R)
+    × IsOpenedAs of.kind of.meaning address told store
+    × (text ≡ work_text of address store (drawn_lines work))
 
 -- the files read as the store after some of the lines, in order
-abbrev pub HoldsAfterSome : (List ℕ → List ℕ) → DocStore → List (List ℕ) → Files → Type 0
-HoldsAfterSome address store lines c = ReadsAfterSome (fixed_of address store)
+abbrev pub HoldsAfterSome : {S O R Q A : Type 0} → ValueType S O R Q A → (List ℕ → List ℕ)
+    → Stored O R → List (List ℕ) → Files → Type 0
+HoldsAfterSome of address store lines c = ReadsAfterSome of.forms (fixed_of of address store)
     (begins store.history) lines [] c
 
 -- What a crash leaves of the disk of generated work: at each moment the store after some of its
 -- lines, in order; and after `Done` after all.
-pub record SurvivesWork {D : Type 0} (may_leave : D → Files → Type 0) (moment : D → ℕ)
-    (left_since : D → ℕ → Files → Type 0) (address : List ℕ → List ℕ) (store : DocStore)
-    (lines : List (List ℕ)) (old new : D) (status : Status) : Type 0 where
-  pub any_moment : LeavesOnly moment left_since old new (HoldsAfterSome address store lines)
+pub record SurvivesWork {S O R Q A D : Type 0} (may_leave : D → Files → Type 0) (moment : D → ℕ)
+    (left_since : D → ℕ → Files → Type 0) (of : ValueType S O R Q A) (address : List ℕ → List ℕ)
+    (store : Stored O R) (lines : List (List ℕ)) (old new : D) (status : Status) : Type 0 where
+  pub any_moment : LeavesOnly moment left_since old new (HoldsAfterSome of address store lines)
   pub complete : status ≡ Done → (c : Files) → may_leave new c
-      → ReadsAsStore document address (store_after address store lines) c
+      → ReadsAsStore of.meaning address (store_after of address store lines) c

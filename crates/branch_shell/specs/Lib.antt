@@ -1,5 +1,6 @@
 pub mod Reading
 pub mod Stores
+pub mod Values
 pub mod Once
 pub mod Counts
 pub mod Documents

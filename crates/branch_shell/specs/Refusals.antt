@@ -35,11 +35,13 @@ FoundAs old address (Refused refusal.DiskFault) files = Unit {0}
 FoundAs old address (Refused refusal.Memory) files = Unit {0}
 FoundAs old address (Refused why) files = ⊥
 
--- the files read as the refusal says; those that read as no store, also in the old version
-abbrev pub UnopenedAs : {S O R Q A T P X B C : Type 0} → Meaning S O R Q A → Meaning T P X B C
+-- the files read as the refusal says, asked for this kind; those that read as no store, also in the
+-- old version
+abbrev pub UnopenedAs : {S O R Q A T P X B C : Type 0} → ℕ → Meaning S O R Q A → Meaning T P X B C
     → (List ℕ → List ℕ) → Unopened → Files → Type 0
-UnopenedAs meaning old address OldVersion files = ReadsAsOf 0 meaning address files NotAStore
-    × IsOldVersion old address files
-UnopenedAs meaning old address (Refused refusal.NotAStore) files =
-    ReadsAsOf 0 meaning address files NotAStore × ReadsIn old_form old address files NotAStore
-UnopenedAs meaning old address (Refused why) files = OpenRefusedAs 0 meaning address why files
+UnopenedAs kind meaning old address OldVersion files =
+    ReadsAsOf kind meaning address files NotAStore × IsOldVersion old address files
+UnopenedAs kind meaning old address (Refused refusal.NotAStore) files =
+    ReadsAsOf kind meaning address files NotAStore × ReadsIn old_form old address files NotAStore
+UnopenedAs kind meaning old address (Refused why) files =
+    OpenRefusedAs kind meaning address why files

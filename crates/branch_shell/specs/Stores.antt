@@ -24,21 +24,21 @@ abbrev pub ReadsAsStore : {S O R Q A : Type 0} → Meaning S O R Q A → (List �
 ReadsAsStore meaning address store files = ReadsAs meaning address files
     (Opens store.terms store.history)
 
--- The store that opening found: its history is valid, its values are of the kind 0 and, of a disk
--- that tells, the files read as the store and as nothing else.
-pub record IsOpenedAs {S O R Q A : Type 0} (meaning : Meaning S O R Q A) (address : List ℕ → List ℕ)
-    (told : Option Files) (store : Stored O R) : Type 0 where
+-- The store that opening found, asked for this kind: its history is valid, its values are of the kind
+-- and, of a disk that tells, the files read as the store and as nothing else.
+pub record IsOpenedAs {S O R Q A : Type 0} (kind : ℕ) (meaning : Meaning S O R Q A)
+    (address : List ℕ → List ℕ) (told : Option Files) (store : Stored O R) : Type 0 where
   pub valid : IsFullyValid (fix meaning store.terms address) store.history
-  pub kind : store.terms.kind ≡ 0
+  pub kind_is : store.terms.kind ≡ kind
   pub reads : ForSome told (ReadsAsStore meaning address store)
   pub only : ForSome told (ReadsOnlyAs meaning address (Opens store.terms store.history))
 
 -- Why opening was refused: of a disk that tells, the files read as this answer for one that asks
--- for the kind 0, and as no store.
-pub record IsRefusedAs {S O R Q A : Type 0} (meaning : Meaning S O R Q A)
+-- for this kind, and as no store.
+pub record IsRefusedAs {S O R Q A : Type 0} (kind : ℕ) (meaning : Meaning S O R Q A)
     (address : List ℕ → List ℕ) (told : Option Files) (answer : Answer O R) : Type 0 where
-  pub reads : ForSome told (λ files. ReadsAsOf 0 meaning address files answer)
-  pub no_store : ForSome told (ReadsAsNone 0 meaning address)
+  pub reads : ForSome told (λ files. ReadsAsOf kind meaning address files answer)
+  pub no_store : ForSome told (ReadsAsNone kind meaning address)
 
 -- the files are a store's of the old version, as far as their beginning goes
 abbrev pub IsOldVersion : {S O R Q A : Type 0} → Meaning S O R Q A → (List ℕ → List ℕ) → Files
@@ -59,16 +59,18 @@ IsRefusalText old address told (BadObject place) text = text ≡ bad_object_text
 IsRefusalText old address told (BadCommit number) text = text ≡ bad_commit_text number
 IsRefusalText old address told (Truncated part place) text = text ≡ truncated_text part place
 
-abbrev pub SaysRefused : {S O R Q A T P X B C : Type 0} → Meaning S O R Q A → Meaning T P X B C
+-- the text of why files are refused, asked for this kind
+abbrev pub SaysRefused : {S O R Q A T P X B C : Type 0} → ℕ → Meaning S O R Q A → Meaning T P X B C
     → (List ℕ → List ℕ) → Option Files → List ℕ → Type 0
-SaysRefused {S} {O} {R} meaning old address told text = (answer : Answer O R)
-    × IsRefusedAs meaning address told answer × IsRefusalText old address told answer text
+SaysRefused {S} {O} {R} kind meaning old address told text = (answer : Answer O R)
+    × IsRefusedAs kind meaning address told answer × IsRefusalText old address told answer text
 
 -- the report of the store that opening found
-abbrev pub SaysReport : {S O R Q A : Type 0} → Meaning S O R Q A → (List ℕ → List ℕ) → Option Files
-    → List ℕ → Type 0
-SaysReport {S} {O} {R} meaning address told text = (store : Stored O R)
-    × IsOpenedAs meaning address told store × (text ≡ report_text store.terms.origin store.history)
+abbrev pub SaysReport : {S O R Q A : Type 0} → ℕ → Meaning S O R Q A → (List ℕ → List ℕ)
+    → Option Files → List ℕ → Type 0
+SaysReport {S} {O} {R} kind meaning address told text = (store : Stored O R)
+    × IsOpenedAs kind meaning address told store
+    × (text ≡ report_text store.terms.origin store.history)
 
 abbrev pub SaysReady : Option Files → List ℕ → Type 0
 SaysReady told text = ForSome told IsEmpty × (text ≡ ready_text)

@@ -3,15 +3,12 @@ use Rattle.std.specs.Prelude.{◌≡◌, ℕ, ◌+◌, ◌⊎◌, List, [], ◌�
 use Rattle.std.specs.declared.option.Option.{Option}
 use mathlib.Core.List.{IsPrefix}
 use Rattle.branch_disk.specs.Disk.{Files}
-use Rattle.branch_doc.specs.Document.{document}
-use Rattle.branch_doc.specs.Forms.{DocOp, DocReply, doc_op, doc_query}
 use Rattle.branch_history.specs.declared.moves.Move.{Move}
 use Rattle.branch_history.specs.Steps as machine
 use Rattle.branch_machine.specs.Validity.{IsFullyValid}
 use Rattle.branch_print.specs.Texts.{refusal_text, line_end}
 use Rattle.branch_print.specs.Reports.{report_text}
 use Rattle.branch_print.specs.Clients.{client_text, client_done_text}
-use Rattle.branch_engine.specs.Play.{History}
 use Rattle.branch_command.specs.Work.{Clients}
 use Rattle.parallel_clients.specs.declared.outcome.ClientRefusal.{ClientRefusal}
 use Rattle.parallel_clients.specs.declared.outcome.ClientRefusal.TheVariants as refused
@@ -21,8 +18,9 @@ use Rattle.parallel_clients.specs.Outcomes.{setting}
 use Rattle.client_runs.specs.Worked.{HaveWorked}
 use Rattle.branch_shell.specs.declared.status.Status.{Status}
 use Rattle.branch_shell.specs.declared.status.Status.TheVariants.{DiskFault, Memory}
-use Rattle.branch_shell.specs.Stores.{ReadsAsStore, IsOpenedAs}
-use Rattle.branch_shell.specs.Documents.{DocStore, fixed_of}
+use Rattle.branch_shell.specs.Stores.{Stored, ReadsAsStore, IsOpenedAs}
+use Rattle.branch_shell.specs.Values.{ValueType}
+use Rattle.branch_shell.specs.Bundling.{fixed_for}
 
 -- the machine's refusal of a client's step; none, where the disk failed or memory was short, nor of a step on sequences, which no client of drawn steps has
 abbrev pub machine_refusal : ClientRefusal → Option machine.Refusal
@@ -62,63 +60,63 @@ client_lines client [] = Some []
 client_lines client (one ∷ others) = both_texts (client_line client one) (client_lines (client + 1) others)
 
 -- a line for each client, and then the report of a store of this first origin with this history
-pub record TellsClients (origin : ℕ) (outcomes : List Outcome) (history : History) (text : List ℕ) : Type 0 where
+pub record TellsClients {O R : Type 0} (origin : ℕ) (outcomes : List Outcome) (history : List (Move O R)) (text : List ℕ) : Type 0 where
   pub lines : List ℕ
   pub told : client_lines 0 outcomes ≡ Some lines
   pub text_is : text ≡ lines ++ report_text origin history
 
 -- Clients worked on the store, which came to this history. Their places are the numbers of the moves behind the old one, each once. How many faults the disk had had
 -- when the store was opened, and how many since, matters only to refusals that have no line.
-pub record WorkedTogether (address : List ℕ → List ℕ) (store : DocStore) (clients : Clients) (history : History) (outcomes : List Outcome) : Type 0 where
+pub record WorkedTogether {S O R Q A : Type 0} (of : ValueType S O R Q A) (address : List ℕ → List ℕ) (store : Stored O R) (clients : Clients) (history : List (Move O R)) (outcomes : List Outcome) : Type 0 where
   pub opened : ℕ
   pub since : ℕ
   pub grown : IsPrefix store.history history
-  pub valid : IsFullyValid (fixed_of address store) history
-  pub worked : HaveWorked (setting (fixed_of address store) doc_op doc_query opened) store.history history since clients.count clients.work.steps clients.work.number outcomes
+  pub valid : IsFullyValid (fixed_for of.meaning address store) history
+  pub worked : HaveWorked (setting (fixed_for of.meaning address store) of.forms opened) store.history history since clients.count clients.work.steps clients.work.number outcomes
 
 -- clients worked on the store, which came to this history, and this is their text
-pub record ToldTogether (address : List ℕ → List ℕ) (store : DocStore) (clients : Clients) (history : History) (text : List ℕ) : Type 0 where
+pub record ToldTogether {S O R Q A : Type 0} (of : ValueType S O R Q A) (address : List ℕ → List ℕ) (store : Stored O R) (clients : Clients) (history : List (Move O R)) (text : List ℕ) : Type 0 where
   pub outcomes : List Outcome
-  pub worked : WorkedTogether address store clients history outcomes
+  pub worked : WorkedTogether of address store clients history outcomes
   pub tells : TellsClients store.terms.origin outcomes history text
 
 -- the text of clients that worked on a store
-abbrev pub SaysOver : (List ℕ → List ℕ) → DocStore → Clients → List ℕ → Type 0
-SaysOver address store clients text = (history : History) × ToldTogether address store clients history text
+abbrev pub SaysOver : {S O R Q A : Type 0} → ValueType S O R Q A → (List ℕ → List ℕ) → Stored O R → Clients → List ℕ → Type 0
+SaysOver {S} {O} {R} of address store clients text = (history : List (Move O R)) × ToldTogether of address store clients history text
 
 -- the text of clients that worked on the store that opening found
-abbrev pub SaysTogether : (List ℕ → List ℕ) → Option Files → Clients → List ℕ → Type 0
-SaysTogether address told clients text = (store : DocStore) × IsOpenedAs document address told store × SaysOver address store clients text
+abbrev pub SaysTogether : {S O R Q A : Type 0} → ValueType S O R Q A → (List ℕ → List ℕ) → Option Files → Clients → List ℕ → Type 0
+SaysTogether {S} {O} {R} of address told clients text = (store : Stored O R) × IsOpenedAs of.kind of.meaning address told store × SaysOver of address store clients text
 
 -- the store with another history
-abbrev pub with_history : DocStore → History → DocStore
+abbrev pub with_history : {O R : Type 0} → Stored O R → List (Move O R) → Stored O R
 with_history store history = record { terms = store.terms; history = history }
 
 -- clients worked on a store and this is their text, and each image of the disk reads as the store with the history that they came to
-pub record RanOver {D : Type 0} (may_leave : D → Files → Type 0) (address : List ℕ → List ℕ) (store : DocStore) (clients : Clients) (new : D) (text : List ℕ) : Type 0 where
-  pub history : History
-  pub told : ToldTogether address store clients history text
-  pub reads : (c : Files) → may_leave new c → ReadsAsStore document address (with_history store history) c
+pub record RanOver {S O R Q A D : Type 0} (may_leave : D → Files → Type 0) (of : ValueType S O R Q A) (address : List ℕ → List ℕ) (store : Stored O R) (clients : Clients) (new : D) (text : List ℕ) : Type 0 where
+  pub history : List (Move O R)
+  pub told : ToldTogether of address store clients history text
+  pub reads : (c : Files) → may_leave new c → ReadsAsStore of.meaning address (with_history store history) c
 
 -- clients worked so on the store that opening found
-abbrev pub RanTogether : {D : Type 0} → (D → Files → Type 0) → (List ℕ → List ℕ) → Option Files → Clients → D → List ℕ → Type 0
-RanTogether may_leave address told clients new text = (store : DocStore) × IsOpenedAs document address told store × RanOver may_leave address store clients new text
+abbrev pub RanTogether : {S O R Q A D : Type 0} → (D → Files → Type 0) → ValueType S O R Q A → (List ℕ → List ℕ) → Option Files → Clients → D → List ℕ → Type 0
+RanTogether {S} {O} {R} may_leave of address told clients new text = (store : Stored O R) × IsOpenedAs of.kind of.meaning address told store × RanOver may_leave of address store clients new text
 
 -- the store came to this history by clients, or has its own still, since none of them began
-abbrev pub CameTogether : (List ℕ → List ℕ) → DocStore → Clients → History → Type 0
-CameTogether address store clients history = (history ≡ store.history) ⊎ ((outcomes : List Outcome) × WorkedTogether address store clients history outcomes)
+abbrev pub CameTogether : {S O R Q A : Type 0} → ValueType S O R Q A → (List ℕ → List ℕ) → Stored O R → Clients → List (Move O R) → Type 0
+CameTogether of address store clients history = (history ≡ store.history) ⊎ ((outcomes : List Outcome) × WorkedTogether of address store clients history outcomes)
 
 -- the files read as the store with this history; or with one move more, where the disk failed
-abbrev pub ReadsUpTo : (List ℕ → List ℕ) → DocStore → History → Status → Files → Type 0
-ReadsUpTo address store history status c =
-    ReadsAsStore document address (with_history store history) c
-    ⊎ ((status ≡ DiskFault) × ((made : Move DocOp DocReply) × ReadsAsStore document address (with_history store (history ++ made ∷ [])) c))
+abbrev pub ReadsUpTo : {S O R Q A : Type 0} → ValueType S O R Q A → (List ℕ → List ℕ) → Stored O R → List (Move O R) → Status → Files → Type 0
+ReadsUpTo {S} {O} {R} of address store history status c =
+    ReadsAsStore of.meaning address (with_history store history) c
+    ⊎ ((status ≡ DiskFault) × ((made : Move O R) × ReadsAsStore of.meaning address (with_history store (history ++ made ∷ [])) c))
 
 -- However clients ended, each image of the disk reads as the store with the history that it came to by them.
-pub record LeftTogether {D : Type 0} (may_leave : D → Files → Type 0) (address : List ℕ → List ℕ) (store : DocStore) (clients : Clients) (status : Status) (new : D) : Type 0 where
-  pub history : History
-  pub came : CameTogether address store clients history
-  pub reads : (c : Files) → may_leave new c → ReadsUpTo address store history status c
+pub record LeftTogether {S O R Q A D : Type 0} (may_leave : D → Files → Type 0) (of : ValueType S O R Q A) (address : List ℕ → List ℕ) (store : Stored O R) (clients : Clients) (status : Status) (new : D) : Type 0 where
+  pub history : List (Move O R)
+  pub came : CameTogether of address store clients history
+  pub reads : (c : Files) → may_leave new c → ReadsUpTo of address store history status c
 
 -- a client's step was not refused for a branch that is not there
 abbrev pub FindsBranch : ClientRefusal → Type 0

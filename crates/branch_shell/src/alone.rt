@@ -9,15 +9,15 @@ ghost use Rattle.branch_shell.specs.Disks.{current_told};
 ghost use Rattle.branch_shell.specs.Ran.{RanOverBoth};
 ghost use Rattle.branch_shell.specs.Alone.{command_alone};
 
-use crate::answer::{run_init, say};
+use crate::answer::say;
 use crate::current::run_task;
+use crate::init::init_for;
 use crate::status::Status;
 use crate::task::Task;
 use branch_address::Address;
 use branch_command::{Command, CommandRefused, read_command};
 use branch_disk::Disk;
 use branch_io::{Sink, Source};
-use mrdt_doc::Doc;
 use std::alloc::Global;
 
 // The command that the words say, if it needs no threads.
@@ -38,6 +38,10 @@ fn read_alone(alloc: Global, words: &[String]) -> Result<Command, CommandRefused
 ///
 /// The first disk is current where its heads have at least 65 bytes of which the first is 1, and else the second. Both
 /// are synced before that is looked at. The other one stays as it is then, but for `upgrade` and `compact`.
+///
+/// A store has documents, or documents with sequences where `init --sequences` made it. Every other command works with
+/// the values that byte 45 of the current disk's heads tells: 1 of documents with sequences, any other of documents. A
+/// line on a sequence of a store that has none is answered so, and lands nothing.
 ///
 /// `init` makes a store of the first disk, where neither holds a byte, and writes nothing to the second; `script` opens
 /// the store and runs the lines of the source as steps; `check` opens the store and reports; `generate` opens the store,
@@ -108,7 +112,7 @@ pub fn run_alone<S: Source, K: Sink, D: Disk + Drop, A: Address>(
         (S.left source.new) Status.DiskFault) }
 {
     match read_alone(alloc, words) {
-        Ok(Command::Init(terms)) => run_init::<Doc, K, D, A>(alloc, terms, sink, disk, second),
+        Ok(Command::Init(terms)) => { init_for::<K, D, A>(alloc, terms, sink, disk, second) }
         Ok(Command::Script) => {
             run_task::<S, K, D, A>(alloc, Task::Script, source, sink, disk, second)
         }

@@ -15,6 +15,7 @@ ghost use Rattle.branch_shell.specs.Refusals.{open_refusal_text, unopened_text};
 ghost use Rattle.branch_shell.specs.Stores.{Stored, AreThese, ReadsAsStore, SaysRefused, SaysReport, SaysReady, SaysNotEmpty, ReadsAsEmpty, ReadsAsNoneOrEmpty};
 ghost use Rattle.branch_shell.specs.Once.{Answers, Says};
 
+use crate::kinded::Kinded;
 use crate::script::give_all;
 use crate::status::Status;
 use crate::unopened::{Unopened, open_store};
@@ -157,13 +158,13 @@ fn report<T: Mrdt, K: Sink, D: Disk + Drop, A: Address>(
 }
 
 /// Opens the store that the disk holds and reports what it holds. It writes nothing to the disk.
-pub(crate) fn run_check<T: Mrdt, U: Mrdt, K: Sink, D: Disk + Drop, A: Address>(
+pub(crate) fn run_check<T: Kinded, U: Mrdt, K: Sink, D: Disk + Drop, A: Address>(
     alloc: Global,
     sink: &mut K,
     disk: D,
 ) -> (Status, D)
-    ensures wrote { Answers (SaysReport T.meaning A.address (D.contents disk))
-        (SaysRefused T.meaning U.meaning A.address (D.contents disk)) result.0
+    ensures wrote { Answers (SaysReport T.KIND T.meaning A.address (D.contents disk))
+        (SaysRefused T.KIND T.meaning U.meaning A.address (D.contents disk)) result.0
         (K.given sink.old) (K.given sink.new) }
     // A crash leaves only what it might have left at the start.
     ensures any_moment { LeavesOnly D.moment D.left_since disk result.1 (D.may_leave disk) }
@@ -171,7 +172,7 @@ pub(crate) fn run_check<T: Mrdt, U: Mrdt, K: Sink, D: Disk + Drop, A: Address>(
         → D.contents disk ≡ Some f → ReadsAsStore T.meaning A.address store f → (c : Files)
         → D.may_leave result.1 c → ReadsAsStore T.meaning A.address store c }
     ensures refused_only { result.0 ≡ Status.StoreRefused → (f : Files) → D.contents disk ≡ Some f
-        → ReadsAsNone 0 T.meaning A.address f }
+        → ReadsAsNone T.KIND T.meaning A.address f }
     ensures reason { (n : ℕ) → HasReason
         (record { source = n; sink = K.faults sink.old; disk = D.faults disk })
         (record { source = n; sink = K.faults sink.new; disk = D.faults result.1 }) result.0 }

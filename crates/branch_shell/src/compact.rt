@@ -7,16 +7,17 @@ ghost use Rattle.branch_shell.specs.Once.{Answers};
 ghost use Rattle.branch_shell.specs.Disks.{IsSettled, IsCurrentBy};
 ghost use Rattle.branch_shell.specs.Compacting.{RanCompact, IsCompactedFrom, counts_text, view_of};
 ghost use Rattle.branch_shell.specs.Upgrading.{Gives};
+ghost use Rattle.branch_shell.specs.Values.{value_type};
 ghost use Rattle.std.specs.Option.{ForSome};
 
 use crate::answer::{refuse, say};
+use crate::kinded::Kinded;
 use crate::status::Status;
 use crate::unopened::open_store;
 use branch_address::Address;
 use branch_disk::Disk;
 use branch_io::Sink;
 use branch_print::reports::put_compacted;
-use mrdt_doc::Doc;
 use mrdt_old_doc::Doc1;
 use std::alloc::Global;
 use store_compact::{CompactRefused, Compacted, Which, compact};
@@ -59,11 +60,11 @@ fn status_of_refused(why: CompactRefused) -> Status
 }
 
 // Compacts a store that was opened.
-fn compact_over<K: Sink, D: Disk + Drop, A: Address>(
+fn compact_over<T: Kinded, K: Sink, D: Disk + Drop, A: Address>(
     alloc: Global,
     which: Which,
     sink: &mut K,
-    core: Core<Doc, D, A>,
+    core: Core<T, D, A>,
     other: D,
 ) -> (Status, D, D)
     requires opened { core ≡ view_of (record { terms = core.terms; history = core.history })
@@ -73,7 +74,7 @@ fn compact_over<K: Sink, D: Disk + Drop, A: Address>(
     ensures wrote { Answers (λ whole. whole
         ≡ counts_text (record { terms = core.terms; history = core.history })) (λ whole. ⊥)
         result.0 (K.given sink.old) (K.given sink.new) }
-    ensures compacted { IsCompactedFrom D.Disk A.address which
+    ensures compacted { IsCompactedFrom D.Disk (value_type T.meaning T.forms T.KIND) A.address which
         (record { terms = core.terms; history = core.history }) core.disk other
         (first_of which result.1 result.2) (second_of which result.1 result.2) result.0 }
     ensures reason { (n : ℕ) → HaveReason
@@ -109,7 +110,7 @@ fn compact_over<K: Sink, D: Disk + Drop, A: Address>(
 /// Opens the store that the current disk holds, makes the store of its compact history on the other disk, over what
 /// that holds, switches to it, and says how many moves stay, of how many. The current disk comes back in front of the
 /// other.
-pub(crate) fn run_compact<K: Sink, D: Disk + Drop, A: Address>(
+pub(crate) fn run_compact<T: Kinded, K: Sink, D: Disk + Drop, A: Address>(
     alloc: Global,
     which: Which,
     sink: &mut K,
@@ -119,7 +120,8 @@ pub(crate) fn run_compact<K: Sink, D: Disk + Drop, A: Address>(
     requires settled { IsSettled D.Disk other }
     requires aside { which ≡ Which.Second → ForSome (D.contents other) (IsCurrentBy which) }
     ensures ran { Gives (K.given sink.old) (K.given sink.new)
-        (RanCompact D.Disk A.address which held result.1 other result.2 result.0) }
+        (RanCompact D.Disk (value_type T.meaning T.forms T.KIND) A.address which held result.1 other
+        result.2 result.0) }
     ensures reason { (n : ℕ) → HaveReason
         (record {
           source = n;
@@ -137,7 +139,7 @@ pub(crate) fn run_compact<K: Sink, D: Disk + Drop, A: Address>(
     ensures no_fault { result.0 ≡ Status.WriteFault
         → (D.faults result.1 ≡ D.faults held) × (D.faults result.2 ≡ D.faults other) }
 {
-    match open_store::<Doc, Doc1, D, A>(alloc, held) {
+    match open_store::<T, Doc1, D, A>(alloc, held) {
         Ok(core) => compact_over(alloc, which, sink, core, other),
         Err((why, held)) => (refuse(alloc, sink, why), held, other),
     }

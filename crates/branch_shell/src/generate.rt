@@ -12,8 +12,10 @@ ghost use Rattle.branch_shell.specs.Once.{Answers};
 ghost use Rattle.branch_shell.specs.Telling.{TellsLines, CountsLines, LeavesSome};
 ghost use Rattle.branch_shell.specs.Generated.{drawn_lines, work_text, SurvivesWork};
 ghost use Rattle.branch_shell.specs.Ran.{Ran};
+ghost use Rattle.branch_shell.specs.Values.{value_type};
 
 use crate::answer::{put_report, refuse, say};
+use crate::kinded::Kinded;
 use crate::script::first_line;
 use crate::status::Status;
 use crate::unopened::open_store;
@@ -23,15 +25,14 @@ use branch_engine::{Engine, TellRefused};
 use branch_gen::script_text;
 use branch_io::Sink;
 use branch_print::summaries::{Summary, put_summary};
-use mrdt_doc::Doc;
 use mrdt_model::Memory;
 use mrdt_old_doc::Doc1;
 use std::alloc::Global;
 use store_core::Core;
 
 // Tells one line, and counts its reply, which it leaves in the buffer.
-fn count_line<D: Disk + Drop, A: Address>(
-    engine: &mut Engine<D, A>,
+fn count_line<T: Kinded, D: Disk + Drop, A: Address>(
+    engine: &mut Engine<T, D, A>,
     summary: &mut Summary,
     reply: &mut Vec<u8>,
     line: &[u8],
@@ -39,13 +40,16 @@ fn count_line<D: Disk + Drop, A: Address>(
     requires working { engine.old.core.failed ≡ false }
     requires few { summary.old.lines < 2 ^ 64 - 1 }
     requires within { AreWithin summary.old }
-    ensures told { OnOk result (TellsLines D.may_leave D.moment D.left_since A.address (line.now
-        ∷ []) engine.old engine.new None None) }
-    ensures counted { OnOk result (CountsLines D.may_leave A.address (line.now ∷ []) engine.old
-        summary.old summary.new) }
+    ensures told { OnOk result (TellsLines D.may_leave D.moment D.left_since
+        (value_type T.meaning T.forms T.KIND) A.address (line.now ∷ [])
+        engine.old engine.new None None) }
+    ensures counted { OnOk result
+        (CountsLines D.may_leave (value_type T.meaning T.forms T.KIND) A.address
+        (line.now ∷ []) engine.old summary.old summary.new) }
     ensures one { OnOk result (summary.new.lines ≤ summary.old.lines + 1) }
     ensures within { OnOk result (AreWithin summary.new) }
-    ensures moments { LeavesSome D.may_leave D.moment D.left_since A.address (line.now ∷ [])
+    ensures moments { LeavesSome D.may_leave D.moment D.left_since
+        (value_type T.meaning T.forms T.KIND) A.address (line.now ∷ [])
         engine.old engine.new }
     ensures working { OnOk result (engine.new.core.failed ≡ false) }
     ensures disk_same { OnOk result (D.faults engine.new.core.disk
@@ -66,18 +70,21 @@ fn count_line<D: Disk + Drop, A: Address>(
 }
 
 // Tells the lines of a text, and counts their replies.
-fn count_lines<D: Disk + Drop, A: Address>(
+fn count_lines<T: Kinded, D: Disk + Drop, A: Address>(
     alloc: Global,
-    engine: &mut Engine<D, A>,
+    engine: &mut Engine<T, D, A>,
     text: &[u8],
 ) -> Result<Summary, Status>
     requires working { engine.old.core.failed ≡ false }
     requires ended { IsWholeLines text.now }
-    ensures told { OnOk result (TellsLines D.may_leave D.moment D.left_since A.address
+    ensures told { OnOk result (TellsLines D.may_leave D.moment D.left_since
+        (value_type T.meaning T.forms T.KIND) A.address
         (lines_of text.now) engine.old engine.new None None) }
-    ensures counted { IfOk result (CountsLines D.may_leave A.address (lines_of text.now) engine.old
-        (summary_of [])) }
-    ensures moments { LeavesSome D.may_leave D.moment D.left_since A.address (lines_of text.now)
+    ensures counted { IfOk result
+        (CountsLines D.may_leave (value_type T.meaning T.forms T.KIND) A.address
+        (lines_of text.now) engine.old (summary_of [])) }
+    ensures moments { LeavesSome D.may_leave D.moment D.left_since
+        (value_type T.meaning T.forms T.KIND) A.address (lines_of text.now)
         engine.old engine.new }
     ensures disk_same { OnOk result (D.faults engine.new.core.disk
         ≡ D.faults engine.old.core.disk) }
@@ -95,18 +102,21 @@ fn count_lines<D: Disk + Drop, A: Address>(
 }
 
 // Tells the lines that are drawn from a number, and counts their replies.
-fn count_drawn<D: Disk + Drop, A: Address>(
+fn count_drawn<T: Kinded, D: Disk + Drop, A: Address>(
     alloc: Global,
-    engine: &mut Engine<D, A>,
+    engine: &mut Engine<T, D, A>,
     steps: u64,
     number: u64,
 ) -> Result<Summary, Status>
-    requires { engine.old.core.failed ≡ false }
-    ensures told { OnOk result (TellsLines D.may_leave D.moment D.left_since A.address
+    requires working { engine.old.core.failed ≡ false }
+    ensures told { OnOk result (TellsLines D.may_leave D.moment D.left_since
+        (value_type T.meaning T.forms T.KIND) A.address
         (drawn_lines (record { steps = steps; number = number })) engine.old engine.new None None) }
-    ensures counted { IfOk result (CountsLines D.may_leave A.address
+    ensures counted { IfOk result
+        (CountsLines D.may_leave (value_type T.meaning T.forms T.KIND) A.address
         (drawn_lines (record { steps = steps; number = number })) engine.old (summary_of [])) }
-    ensures moments { LeavesSome D.may_leave D.moment D.left_since A.address
+    ensures moments { LeavesSome D.may_leave D.moment D.left_since
+        (value_type T.meaning T.forms T.KIND) A.address
         (drawn_lines (record { steps = steps; number = number })) engine.old engine.new }
     ensures disk_same { OnOk result (D.faults engine.new.core.disk
         ≡ D.faults engine.old.core.disk) }
@@ -118,10 +128,10 @@ fn count_drawn<D: Disk + Drop, A: Address>(
 }
 
 // Writes what came of a run, and then the report of the store.
-fn put_work<D: Disk + Drop, A: Address>(
+fn put_work<T: Kinded, D: Disk + Drop, A: Address>(
     out: &mut Vec<u8>,
     summary: &Summary,
-    core: &Core<Doc, D, A>,
+    core: &Core<T, D, A>,
 ) -> Result<(), Memory>
     ensures { OnOk result (out.new.items ≡ out.old.items
         ++ ((summary_text summary.now ++ line_end)
@@ -132,11 +142,11 @@ fn put_work<D: Disk + Drop, A: Address>(
 }
 
 // Says what came of a run, and then the report of the store.
-fn say_work<K: Sink, D: Disk + Drop, A: Address>(
+fn say_work<T: Kinded, K: Sink, D: Disk + Drop, A: Address>(
     alloc: Global,
     sink: &mut K,
     summary: &Summary,
-    core: &Core<Doc, D, A>,
+    core: &Core<T, D, A>,
 ) -> Status
     ensures wrote { Answers (λ whole. whole ≡ (summary_text summary.now ++ line_end)
         ++ report_text core.now.terms.origin core.now.history) (λ whole. ⊥) result
@@ -152,19 +162,21 @@ fn say_work<K: Sink, D: Disk + Drop, A: Address>(
 }
 
 // Runs the lines that are drawn from a number over a store that was opened, and hands its disk back.
-fn work_over<K: Sink, D: Disk + Drop, A: Address>(
+fn work_over<T: Kinded, K: Sink, D: Disk + Drop, A: Address>(
     alloc: Global,
-    core: Core<Doc, D, A>,
+    core: Core<T, D, A>,
     steps: u64,
     number: u64,
     sink: &mut K,
 ) -> (Status, D)
-    requires { core.failed ≡ false }
+    requires working { core.failed ≡ false }
     ensures wrote { Answers (λ whole. whole
-        ≡ work_text A.address (record { terms = core.terms; history = core.history })
+        ≡ work_text (value_type T.meaning T.forms T.KIND) A.address
+        (record { terms = core.terms; history = core.history })
         (drawn_lines (record { steps = steps; number = number }))) (λ whole. ⊥) result.0
         (K.given sink.old) (K.given sink.new) }
-    ensures survives { SurvivesWork D.may_leave D.moment D.left_since A.address
+    ensures survives { SurvivesWork D.may_leave D.moment D.left_since
+        (value_type T.meaning T.forms T.KIND) A.address
         (record { terms = core.terms; history = core.history })
         (drawn_lines (record { steps = steps; number = number })) core.disk result.1 result.0 }
     ensures reason { (n : ℕ) → HasReason
@@ -185,7 +197,7 @@ fn work_over<K: Sink, D: Disk + Drop, A: Address>(
 
 /// Runs the lines that are drawn from a number over the store that the disk holds, and says what came of them and the
 /// report of the store after them. Nothing is given to the sink before the last line was told.
-pub(crate) fn run_generate<K: Sink, D: Disk + Drop, A: Address>(
+pub(crate) fn run_generate<T: Kinded, K: Sink, D: Disk + Drop, A: Address>(
     alloc: Global,
     steps: u64,
     number: u64,
@@ -194,15 +206,15 @@ pub(crate) fn run_generate<K: Sink, D: Disk + Drop, A: Address>(
 ) -> (Status, D)
     ensures ran { (left : Option (List ℕ))
         → Exchanges left left (K.given sink.old) (K.given sink.new)
-        (Ran D.Disk A.address (SaidGenerate (record { steps = steps; number = number })) disk
-        result.1 left result.0) }
+        (Ran D.Disk (value_type T.meaning T.forms T.KIND) A.address
+        (SaidGenerate (record { steps = steps; number = number })) disk result.1 left result.0) }
     ensures reason { (n : ℕ) → HasReason
         (record { source = n; sink = K.faults sink.old; disk = D.faults disk })
         (record { source = n; sink = K.faults sink.new; disk = D.faults result.1 }) result.0 }
     // Where the sink failed, the disk did not.
     ensures no_fault { result.0 ≡ Status.WriteFault → D.faults result.1 ≡ D.faults disk }
 {
-    match open_store::<Doc, Doc1, D, A>(alloc, disk) {
+    match open_store::<T, Doc1, D, A>(alloc, disk) {
         Ok(core) => work_over(alloc, core, steps, number, sink),
         Err((why, disk)) => (refuse(alloc, sink, why), disk),
     }

@@ -9,6 +9,8 @@ mod compact;
 mod current;
 mod generate;
 mod head;
+mod init;
+mod kinded;
 mod receive;
 mod script;
 mod send;

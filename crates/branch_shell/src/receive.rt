@@ -13,6 +13,7 @@ ghost use Rattle.branch_shell.specs.Bundling.{not_received_text, StopsReading, S
 
 use crate::answer::{refuse, say};
 use crate::head::head_named;
+use crate::kinded::Kinded;
 use crate::script::{INPUT_LIMIT, take_more};
 use crate::status::Status;
 use crate::unopened::open_store;
@@ -249,7 +250,7 @@ fn receive_opened<T: Mrdt, S: Source, K: Sink, D: Disk + Drop, A: Address>(
 
 /// Opens the store that the disk holds, reads the source to its end, receives the bundle that it holds, and makes a
 /// branch of a name at its tip. Where a branch has the name the source is not looked at.
-pub(crate) fn run_receive<T: Mrdt, U: Mrdt, S: Source, K: Sink, D: Disk + Drop, A: Address>(
+pub(crate) fn run_receive<T: Kinded, U: Mrdt, S: Source, K: Sink, D: Disk + Drop, A: Address>(
     alloc: Global,
     name: Name,
     source: &mut S,
@@ -257,7 +258,8 @@ pub(crate) fn run_receive<T: Mrdt, U: Mrdt, S: Source, K: Sink, D: Disk + Drop, 
     disk: D,
 ) -> (Status, D)
     ensures ran { Exchanges (S.left source.old) (S.left source.new) (K.given sink.old)
-        (K.given sink.new) (RanReceive D.Disk T.meaning U.meaning A.address name disk result.1
+        (K.given sink.new)
+        (RanReceive D.Disk T.KIND T.meaning U.meaning A.address name disk result.1
         (S.left source.new) result.0) }
     ensures reason { HasReason
         (record { source = S.faults source.old; sink = K.faults sink.old; disk = D.faults disk })

@@ -9,19 +9,21 @@ ghost use Rattle.branch_engine.specs.Engines.{IsAt};
 ghost use Rattle.branch_shell.specs.Reading.{HasNoLineEnd, GivesPart, Exchanges};
 ghost use Rattle.branch_shell.specs.Counts.{HasReason, StopsAtFault, StopsTelling};
 ghost use Rattle.branch_shell.specs.Telling.{TellsLines, StopsLines, TellsWhole, StopsWhole, Takes};
-ghost use Rattle.branch_shell.specs.Documents.{DocStore, fixed_of};
+ghost use Rattle.branch_shell.specs.Documents.{fixed_of};
+ghost use Rattle.branch_shell.specs.Stores.{Stored};
+ghost use Rattle.branch_shell.specs.Values.{value_type};
 ghost use Rattle.branch_command.specs.Commands.{Script as SaidScript};
-ghost use Rattle.branch_shell.specs.Statuses.{Wrote, Runs, status_of};
+ghost use Rattle.branch_shell.specs.Statuses.{WroteOf, Runs, status_of};
 ghost use Rattle.branch_shell.specs.Ran.{Ran};
 
 use crate::answer::refuse;
+use crate::kinded::Kinded;
 use crate::status::Status;
 use crate::unopened::open_store;
 use branch_address::Address;
 use branch_disk::Disk;
 use branch_engine::{Engine, TellRefused};
 use branch_io::{Sink, SinkFailed, Source, SourceFailed};
-use mrdt_doc::Doc;
 use mrdt_old_doc::Doc1;
 use std::alloc::Global;
 use store_core::Core;
@@ -47,17 +49,19 @@ pub(crate) fn give_all<K: Sink>(sink: &mut K, text: &[u8]) -> Result<(), SinkFai
 }
 
 // Tells one line, and gives its reply.
-fn tell_line<K: Sink, D: Disk + Drop, A: Address>(
+fn tell_line<T: Kinded, K: Sink, D: Disk + Drop, A: Address>(
     alloc: Global,
-    engine: &mut Engine<D, A>,
+    engine: &mut Engine<T, D, A>,
     sink: &mut K,
     line: &[u8],
 ) -> Result<(), Status>
-    requires { engine.old.core.failed ≡ false }
-    ensures ok { OnOk result (TellsLines D.may_leave D.moment D.left_since A.address (line.now ∷ [])
+    requires working { engine.old.core.failed ≡ false }
+    ensures ok { OnOk result (TellsLines D.may_leave D.moment D.left_since
+        (value_type T.meaning T.forms T.KIND) A.address (line.now ∷ [])
         engine.old engine.new (K.given sink.old) (K.given sink.new)) }
-    ensures err { IfErr result (StopsLines D.may_leave D.moment D.left_since A.address (line.now
-        ∷ []) engine.old engine.new (K.given sink.old) (K.given sink.new)) }
+    ensures err { IfErr result (StopsLines D.may_leave D.moment D.left_since
+        (value_type T.meaning T.forms T.KIND) A.address (line.now ∷ [])
+        engine.old engine.new (K.given sink.old) (K.given sink.new)) }
     ensures working { OnOk result (engine.new.core.failed ≡ false) }
     ensures sink_same { OnOk result (K.faults sink.new ≡ K.faults sink.old) }
     ensures disk_same { OnOk result (D.faults engine.new.core.disk
@@ -100,9 +104,9 @@ pub(crate) fn first_line(bytes: &[u8], known: usize) -> Option<(&[u8], &[u8])>
 }
 
 // Tells the whole lines, and says what is behind the last. The first `known` bytes hold no line end.
-fn tell_whole_lines<'a, K: Sink, D: Disk + Drop, A: Address>(
+fn tell_whole_lines<'a, T: Kinded, K: Sink, D: Disk + Drop, A: Address>(
     alloc: Global,
-    engine: &mut Engine<D, A>,
+    engine: &mut Engine<T, D, A>,
     sink: &mut K,
     bytes: &'a [u8],
     known: usize,
@@ -111,9 +115,11 @@ fn tell_whole_lines<'a, K: Sink, D: Disk + Drop, A: Address>(
     requires few { length bytes.now ≤ 4096 }
     requires within { known ≤ length bytes.now }
     requires unended { HasNoLineEnd (take known bytes.now) }
-    ensures ok { IfOk result (λ rest. TellsWhole D.may_leave D.moment D.left_since A.address
+    ensures ok { IfOk result (λ rest.
+        TellsWhole D.may_leave D.moment D.left_since (value_type T.meaning T.forms T.KIND) A.address
         bytes.now rest.now engine.old engine.new (K.given sink.old) (K.given sink.new)) }
-    ensures err { IfErr result (StopsWhole D.may_leave D.moment D.left_since A.address bytes.now
+    ensures err { IfErr result (StopsWhole D.may_leave D.moment D.left_since
+        (value_type T.meaning T.forms T.KIND) A.address bytes.now
         engine.old engine.new (K.given sink.old) (K.given sink.new)) }
     ensures working { OnOk result (engine.new.core.failed ≡ false) }
     ensures sink_same { OnOk result (K.faults sink.new ≡ K.faults sink.old) }
@@ -133,18 +139,20 @@ fn tell_whole_lines<'a, K: Sink, D: Disk + Drop, A: Address>(
 }
 
 // Tells the last line, which has no end, if there is one.
-fn tell_last<K: Sink, D: Disk + Drop, A: Address>(
+fn tell_last<T: Kinded, K: Sink, D: Disk + Drop, A: Address>(
     alloc: Global,
-    engine: &mut Engine<D, A>,
+    engine: &mut Engine<T, D, A>,
     sink: &mut K,
     line: &[u8],
 ) -> Result<(), Status>
     requires working { engine.old.core.failed ≡ false }
     requires unended { HasNoLineEnd line.now }
-    ensures ok { OnOk result (TellsLines D.may_leave D.moment D.left_since A.address
-        (lines_of line.now) engine.old engine.new (K.given sink.old) (K.given sink.new)) }
-    ensures err { IfErr result (StopsLines D.may_leave D.moment D.left_since A.address
-        (lines_of line.now) engine.old engine.new (K.given sink.old) (K.given sink.new)) }
+    ensures ok { OnOk result (TellsLines D.may_leave D.moment D.left_since
+        (value_type T.meaning T.forms T.KIND) A.address (lines_of line.now)
+        engine.old engine.new (K.given sink.old) (K.given sink.new)) }
+    ensures err { IfErr result (StopsLines D.may_leave D.moment D.left_since
+        (value_type T.meaning T.forms T.KIND) A.address (lines_of line.now)
+        engine.old engine.new (K.given sink.old) (K.given sink.new)) }
     ensures sink_same { OnOk result (K.faults sink.new ≡ K.faults sink.old) }
     ensures disk_same { OnOk result (D.faults engine.new.core.disk
         ≡ D.faults engine.old.core.disk) }
@@ -190,18 +198,19 @@ fn move_to_front(buffer: &mut [u8], start: usize, end: usize)
 }
 
 // Tells the lines of the source to its end, or to what stops it.
-fn tell_all<S: Source, K: Sink, D: Disk + Drop, A: Address>(
+fn tell_all<T: Kinded, S: Source, K: Sink, D: Disk + Drop, A: Address>(
     alloc: Global,
-    engine: &mut Engine<D, A>,
+    engine: &mut Engine<T, D, A>,
     source: &mut S,
     sink: &mut K,
 ) -> Result<(), Status>
-    requires { engine.old.core.failed ≡ false }
-    ensures ran { (store : DocStore) → IsAt D.may_leave (fixed_of A.address store) engine.old
-        (begins store.history) → Exchanges (S.left source.old) (S.left source.new)
-        (K.given sink.old) (K.given sink.new)
-        (Runs D.may_leave D.moment D.left_since A.address store engine.old.core.disk
-        engine.new.core.disk (S.left source.new) (status_of result)) }
+    requires working { engine.old.core.failed ≡ false }
+    ensures ran { (store : Stored T.Op T.Reply)
+        → IsAt D.may_leave (fixed_of (value_type T.meaning T.forms T.KIND) A.address store)
+        engine.old (begins store.history)
+        → Exchanges (S.left source.old) (S.left source.new) (K.given sink.old) (K.given sink.new)
+        (Runs D.may_leave D.moment D.left_since (value_type T.meaning T.forms T.KIND) A.address
+        store engine.old.core.disk engine.new.core.disk (S.left source.new) (status_of result)) }
     ensures reason { StopsAtFault
         (record {
           source = S.faults source.old;
@@ -250,15 +259,16 @@ fn ended(outcome: Result<(), Status>) -> Status
 }
 
 // Runs a script over a store that was opened, and hands its disk back.
-fn run_opened<S: Source, K: Sink, D: Disk + Drop, A: Address>(
+fn run_opened<T: Kinded, S: Source, K: Sink, D: Disk + Drop, A: Address>(
     alloc: Global,
-    core: Core<Doc, D, A>,
+    core: Core<T, D, A>,
     source: &mut S,
     sink: &mut K,
 ) -> (Status, D)
-    requires { core.failed ≡ false }
+    requires working { core.failed ≡ false }
     ensures ran { Exchanges (S.left source.old) (S.left source.new) (K.given sink.old)
-        (K.given sink.new) (Runs D.may_leave D.moment D.left_since A.address
+        (K.given sink.new)
+        (Runs D.may_leave D.moment D.left_since (value_type T.meaning T.forms T.KIND) A.address
         (record { terms = core.terms; history = core.history }) core.disk result.1
         (S.left source.new) result.0) }
     ensures reason { HasReason
@@ -276,13 +286,13 @@ fn run_opened<S: Source, K: Sink, D: Disk + Drop, A: Address>(
     ensures behind_source { result.0 ≡ Status.WriteFault
         → (S.faults source.new ≡ S.faults source.old)
         ⊎ Exchanges (S.left source.old) (S.left source.new) (K.given sink.old) (K.given sink.new)
-        (Runs D.may_leave D.moment D.left_since A.address
+        (Runs D.may_leave D.moment D.left_since (value_type T.meaning T.forms T.KIND) A.address
         (record { terms = core.terms; history = core.history }) core.disk result.1
         (S.left source.new) Status.ReadFault) }
     ensures behind_disk { result.0 ≡ Status.WriteFault
         → (D.faults result.1 ≡ D.faults core.disk)
         ⊎ Exchanges (S.left source.old) (S.left source.new) (K.given sink.old) (K.given sink.new)
-        (Runs D.may_leave D.moment D.left_since A.address
+        (Runs D.may_leave D.moment D.left_since (value_type T.meaning T.forms T.KIND) A.address
         (record { terms = core.terms; history = core.history }) core.disk result.1
         (S.left source.new) Status.DiskFault) }
 {
@@ -296,15 +306,15 @@ fn run_opened<S: Source, K: Sink, D: Disk + Drop, A: Address>(
 
 /// Runs the lines that the source holds over the store that the disk holds, and gives the sink their replies, each
 /// before the next line is worked on. It takes from the source only when no whole line is left.
-pub(crate) fn run_script<S: Source, K: Sink, D: Disk + Drop, A: Address>(
+pub(crate) fn run_script<T: Kinded, S: Source, K: Sink, D: Disk + Drop, A: Address>(
     alloc: Global,
     source: &mut S,
     sink: &mut K,
     disk: D,
 ) -> (Status, D)
     ensures ran { Exchanges (S.left source.old) (S.left source.new) (K.given sink.old)
-        (K.given sink.new) (Ran D.Disk A.address SaidScript disk result.1 (S.left source.new)
-        result.0) }
+        (K.given sink.new) (Ran D.Disk (value_type T.meaning T.forms T.KIND) A.address SaidScript
+        disk result.1 (S.left source.new) result.0) }
     ensures reason { HasReason
         (record { source = S.faults source.old; sink = K.faults sink.old; disk = D.faults disk })
         (record {
@@ -316,13 +326,15 @@ pub(crate) fn run_script<S: Source, K: Sink, D: Disk + Drop, A: Address>(
     ensures behind_source { result.0 ≡ Status.WriteFault
         → (S.faults source.new ≡ S.faults source.old)
         ⊎ Exchanges (S.left source.old) (S.left source.new) (K.given sink.old) (K.given sink.new)
-        (Wrote A.address SaidScript (D.contents disk) (S.left source.new) Status.ReadFault) }
+        (WroteOf (value_type T.meaning T.forms T.KIND) A.address SaidScript (D.contents disk)
+        (S.left source.new) Status.ReadFault) }
     ensures behind_disk { result.0 ≡ Status.WriteFault
         → (D.faults result.1 ≡ D.faults disk)
         ⊎ Exchanges (S.left source.old) (S.left source.new) (K.given sink.old) (K.given sink.new)
-        (Wrote A.address SaidScript (D.contents disk) (S.left source.new) Status.DiskFault) }
+        (WroteOf (value_type T.meaning T.forms T.KIND) A.address SaidScript (D.contents disk)
+        (S.left source.new) Status.DiskFault) }
 {
-    match open_store::<Doc, Doc1, D, A>(alloc, disk) {
+    match open_store::<T, Doc1, D, A>(alloc, disk) {
         Ok(core) => run_opened(alloc, core, source, sink),
         Err((why, disk)) => (refuse(alloc, sink, why), disk),
     }

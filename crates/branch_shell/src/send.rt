@@ -9,6 +9,7 @@ ghost use Rattle.branch_shell.specs.Bundling.{bundle_said, TellsHead, TellsUnkno
 
 use crate::answer::{refuse, say};
 use crate::head::{head_named, say_unknown};
+use crate::kinded::Kinded;
 use crate::status::Status;
 use crate::unopened::open_store;
 use branch_address::Address;
@@ -86,15 +87,16 @@ fn send_head<T: Mrdt, K: Sink, D: Disk + Drop, A: Address>(
 
 /// Opens the store that the disk holds and gives the bundle of a branch's head, less what a store has that has the
 /// commits with these addresses. It writes nothing to the disk.
-pub(crate) fn run_send<T: Mrdt, U: Mrdt, K: Sink, D: Disk + Drop, A: Address>(
+pub(crate) fn run_send<T: Kinded, U: Mrdt, K: Sink, D: Disk + Drop, A: Address>(
     alloc: Global,
     branch: &Name,
     here: &[[u8; 32]],
     sink: &mut K,
     disk: D,
 ) -> (Status, D)
-    ensures wrote { Answers (SaysBundle T.meaning A.address (D.contents disk) branch.now here.now)
-        (SaysNoBranch T.meaning U.meaning A.address (D.contents disk) branch.now) result.0
+    ensures wrote { Answers
+        (SaysBundle T.KIND T.meaning A.address (D.contents disk) branch.now here.now)
+        (SaysNoBranch T.KIND T.meaning U.meaning A.address (D.contents disk) branch.now) result.0
         (K.given sink.old) (K.given sink.new) }
     // A crash leaves only what it might have left at the start.
     ensures any_moment { LeavesOnly D.moment D.left_since disk result.1 (D.may_leave disk) }

@@ -3,20 +3,23 @@ ghost use Rattle.std.specs.Prelude.{◌≡◌, ◌≢◌, ◌++◌, [], ℕ, Lis
 ghost use Rattle.std.specs.declared.option.Option.{Option};
 ghost use Rattle.std.specs.List.{AllByRecursion};
 ghost use Rattle.branch_disk.specs.Disk.{Files, LeavesOnly};
-ghost use Rattle.branch_doc.specs.Document.{document};
 ghost use Rattle.store_core.specs.Opens.{ReadsAsNone};
 ghost use Rattle.branch_command.specs.Commands.{Clients as SaidClients};
 ghost use Rattle.branch_shell.specs.Reading.{Exchanges};
-ghost use Rattle.branch_shell.specs.Ran.{RanOverBoth};
+ghost use Rattle.store_compact.specs.declared.answers.Which.{Which as SpecWhich};
+ghost use Rattle.branch_shell.specs.Ran.{RanBy, RanOverBoth};
 ghost use Rattle.branch_shell.specs.Counts.{HasReason, HaveReason, SaysReason};
 ghost use Rattle.branch_shell.specs.Once.{Answers};
-ghost use Rattle.branch_shell.specs.Documents.{DocStore, SaysUnopened};
+ghost use Rattle.branch_shell.specs.Documents.{SaysUnopened};
+ghost use Rattle.branch_shell.specs.Stores.{Stored};
+ghost use Rattle.branch_shell.specs.Values.{value_type};
 ghost use Rattle.branch_shell.specs.Statuses.{Holds};
 ghost use Rattle.branch_shell.specs.Together.{FindsBranch, FindsAll, IsFault, TellsFault, SomeTellFault, StopsFor, TellsClients, RanOver, RanTogether, LeftTogether, client_line, client_lines, machine_refusal};
 ghost use Rattle.branch_print.specs.Texts.{refusal_text, line_end};
 
 use crate::answer::{put_report, refuse, say};
-use crate::choose::choose;
+use crate::choose::{Values, choose};
+use crate::kinded::Kinded;
 use crate::status::Status;
 use crate::unopened::open_store;
 use branch_address::Address;
@@ -31,6 +34,7 @@ use branch_print::refusals::{
 use client_runs::{Finished, Work, run_on};
 use mrdt_doc::Doc;
 use mrdt_old_doc::Doc1;
+use mrdt_wide::Wide;
 use parallel_clients::{ClientRefusal, Outcome};
 use std::alloc::Global;
 use std::sync::Wait;
@@ -98,10 +102,10 @@ fn put_outcomes(out: &mut Vec<u8>, outcomes: &[Outcome]) -> Result<(), Status>
 }
 
 // Writes what became of the clients, and then the report of the store.
-fn put_together<D: Disk + Drop, A: Address>(
+fn put_together<T: Kinded, D: Disk + Drop, A: Address>(
     out: &mut Vec<u8>,
     outcomes: &[Outcome],
-    core: &Core<Doc, D, A>,
+    core: &Core<T, D, A>,
 ) -> Result<(), Status>
     requires finds { AllByRecursion FindsAll outcomes.now }
     requires empty { out.old.items ≡ [] }
@@ -114,13 +118,13 @@ fn put_together<D: Disk + Drop, A: Address>(
 }
 
 // Says what became of the clients, and then the report of the store.
-fn say_together<K: Sink, D: Disk + Drop, A: Address>(
+fn say_together<T: Kinded, K: Sink, D: Disk + Drop, A: Address>(
     alloc: Global,
     sink: &mut K,
     outcomes: &[Outcome],
-    core: &Core<Doc, D, A>,
+    core: &Core<T, D, A>,
 ) -> Status
-    requires { AllByRecursion FindsAll outcomes.now }
+    requires finds { AllByRecursion FindsAll outcomes.now }
     ensures wrote { Answers (TellsClients core.now.terms.origin outcomes.now core.now.history)
         (λ whole. ⊥) result (K.given sink.old) (K.given sink.new) }
     ensures fault { result ≡ Status.DiskFault → SomeTellFault outcomes.now }
@@ -134,20 +138,20 @@ fn say_together<K: Sink, D: Disk + Drop, A: Address>(
 }
 
 // Runs clients side by side over a store that was opened, and hands its disk back.
-fn together_over<K: Sink, D: Disk + Drop + Send, A: Address + Send, R: Threads + Wait + Sync>(
-    rt: &R,
-    alloc: Global,
-    core: Core<Doc, D, A>,
-    work: Work,
-    sink: &mut K,
-) -> (Status, D)
-    requires { core.opened ≡ core.disk }
-    ensures wrote { Answers (RanOver D.may_leave A.address
+fn together_over<
+    T: Kinded + Send + Sync,
+    K: Sink,
+    D: Disk + Drop + Send,
+    A: Address + Send,
+    R: Threads + Wait + Sync,
+>(rt: &R, alloc: Global, core: Core<T, D, A>, work: Work, sink: &mut K) -> (Status, D)
+    requires fresh { core.opened ≡ core.disk }
+    ensures wrote { Answers (RanOver D.may_leave (value_type T.meaning T.forms T.KIND) A.address
         (record { terms = core.terms; history = core.history })
         (record { count = work.count; work = record { steps = work.steps; number = work.number } })
         result.1)
         (λ whole. ⊥) result.0 (K.given sink.old) (K.given sink.new) }
-    ensures survives { LeftTogether D.may_leave A.address
+    ensures survives { LeftTogether D.may_leave (value_type T.meaning T.forms T.KIND) A.address
         (record { terms = core.terms; history = core.history })
         (record {
           count = work.count;
@@ -159,7 +163,7 @@ fn together_over<K: Sink, D: Disk + Drop + Send, A: Address + Send, R: Threads +
     // Where the sink failed, the disk did not.
     ensures no_fault { result.0 ≡ Status.WriteFault → D.faults result.1 ≡ D.faults core.disk }
 {
-    reads_what_stands::<Doc>();
+    reads_what_stands::<T>();
     let Finished { core, outcomes } = run_on(rt, alloc, core, work);
     // Its clauses say what is known of a core.
     let _ = core.moves();
@@ -175,23 +179,27 @@ fn together_over<K: Sink, D: Disk + Drop + Send, A: Address + Send, R: Threads +
     }
 }
 
-/// Runs clients side by side over the store that the disk holds, each in a thread of its own as far as threads are to
-/// be had, and says what became of each and the report of the store after them. Nothing is given to the sink before all
-/// clients are done.
-pub(crate) fn run_together<
+// Runs clients side by side over the store that the disk holds, with values of a type, each in a thread of its own as
+// far as threads are to be had, and says what became of each and the report of the store after them. Nothing is given
+// to the sink before all clients are done.
+fn run_together<
+    T: Kinded + Send + Sync,
     K: Sink,
     D: Disk + Drop + Send,
     A: Address + Send,
     R: Threads + Wait + Sync,
 >(rt: &R, alloc: Global, work: Work, sink: &mut K, disk: D) -> (Status, D)
-    ensures wrote { Answers (RanTogether D.may_leave A.address (D.contents disk)
+    ensures wrote { Answers (RanTogether D.may_leave (value_type T.meaning T.forms T.KIND) A.address
+        (D.contents disk)
         (record { count = work.count; work = record { steps = work.steps; number = work.number } })
         result.1)
-        (SaysUnopened A.address (D.contents disk)) result.0 (K.given sink.old) (K.given sink.new) }
+        (SaysUnopened (value_type T.meaning T.forms T.KIND) A.address (D.contents disk)) result.0
+        (K.given sink.old) (K.given sink.new) }
     // However clients end, each image of the disk reads as the store with the history that it came to by them; where the
     // disk failed, also as it with one move more.
-    ensures crashes { (store : DocStore) → Holds D.contents D.may_leave A.address disk store
-        → LeftTogether D.may_leave A.address store
+    ensures crashes { (store : Stored T.Op T.Reply)
+        → Holds D.contents D.may_leave T.meaning A.address disk store
+        → LeftTogether D.may_leave (value_type T.meaning T.forms T.KIND) A.address store
         (record {
           count = work.count;
           work = record { steps = work.steps; number = work.number };
@@ -200,8 +208,9 @@ pub(crate) fn run_together<
     ensures refused { result.0 ≡ Status.StoreRefused
         → LeavesOnly D.moment D.left_since disk result.1 (D.may_leave disk) }
     ensures refused_only { result.0 ≡ Status.StoreRefused → (f : Files) → D.contents disk ≡ Some f
-        → ReadsAsNone 0 document A.address f }
-    ensures keeps { (f : Files) → D.contents disk ≡ Some f → ReadsAsNone 0 document A.address f
+        → ReadsAsNone T.KIND T.meaning A.address f }
+    ensures keeps { (f : Files) → D.contents disk ≡ Some f
+        → ReadsAsNone T.KIND T.meaning A.address f
         → LeavesOnly D.moment D.left_since disk result.1 (D.may_leave disk) }
     ensures reason { (n : ℕ)
         → HasReason (record { source = n; sink = K.faults sink.old; disk = D.faults disk })
@@ -209,9 +218,38 @@ pub(crate) fn run_together<
     // Where the sink failed, the disk did not.
     ensures no_fault { result.0 ≡ Status.WriteFault → D.faults result.1 ≡ D.faults disk }
 {
-    match open_store::<Doc, Doc1, D, A>(alloc, disk) {
+    match open_store::<T, Doc1, D, A>(alloc, disk) {
         Ok(core) => together_over(rt, alloc, core, work, sink),
         Err((why, disk)) => (refuse(alloc, sink, why), disk),
+    }
+}
+
+// Runs clients over the store that the disk holds, which has these values.
+fn run_values<K: Sink, D: Disk + Drop + Send, A: Address + Send, R: Threads + Wait + Sync>(
+    rt: &R,
+    alloc: Global,
+    values: Values,
+    work: Work,
+    sink: &mut K,
+    disk: D,
+) -> (Status, D)
+    ensures ran { (left : Option (List ℕ)) (which : SpecWhich) (other : _)
+        → Exchanges left left (K.given sink.old) (K.given sink.new)
+        (RanBy values D.Disk A.address
+        (SaidClients (record {
+          count = work.count;
+          work = record { steps = work.steps; number = work.number };
+        })) which disk result.1 other other left result.0) }
+    ensures usage { result.0 ≢ Status.Usage }
+    ensures reason { (n : ℕ)
+        → HasReason (record { source = n; sink = K.faults sink.old; disk = D.faults disk })
+        (record { source = n; sink = K.faults sink.new; disk = D.faults result.1 }) result.0 }
+    // Where the sink failed, the disk did not.
+    ensures no_fault { result.0 ≡ Status.WriteFault → D.faults result.1 ≡ D.faults disk }
+{
+    match values {
+        Values::Documents => run_together::<Doc, K, D, A, R>(rt, alloc, work, sink, disk),
+        Values::WithSequences => run_together::<Wide, K, D, A, R>(rt, alloc, work, sink, disk),
     }
 }
 
@@ -251,15 +289,32 @@ pub(crate) fn run_clients<
 {
     let mut first = first;
     let mut second = second;
-    match choose(&mut first, &mut second) {
-        Ok(Which::First) => {
-            let (status, first) = run_together::<K, D, A, R>(rt, alloc, work, sink, first);
+    let chosen = match choose(&mut first, &mut second) {
+        Ok(chosen) => chosen,
+        Err(DiskFailed) => return (Status::DiskFault, first, second),
+    };
+    match chosen.which {
+        Which::First => {
+            let (status, first) = run_values::<K, D, A, R>(
+                rt,
+                alloc,
+                chosen.values,
+                work,
+                sink,
+                first,
+            );
             (status, first, second)
         }
-        Ok(Which::Second) => {
-            let (status, second) = run_together::<K, D, A, R>(rt, alloc, work, sink, second);
+        Which::Second => {
+            let (status, second) = run_values::<K, D, A, R>(
+                rt,
+                alloc,
+                chosen.values,
+                work,
+                sink,
+                second,
+            );
             (status, first, second)
         }
-        Err(DiskFailed) => (Status::DiskFault, first, second),
     }
 }

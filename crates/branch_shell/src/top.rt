@@ -61,6 +61,10 @@ fn read_clients(alloc: Global, words: &[String]) -> Result<Option<ClientWork>, M
 /// The first disk is current where its heads have at least 65 bytes of which the first is 1, and else the second. Both
 /// are synced before that is looked at. The other one stays as it is then, but for `upgrade` and `compact`.
 ///
+/// A store has documents, or documents with sequences where `init --sequences` made it. Every other command works with
+/// the values that byte 45 of the current disk's heads tells: 1 of documents with sequences, any other of documents. A
+/// line on a sequence of a store that has none is answered so, and lands nothing.
+///
 /// `init` makes a store of the first disk, where neither holds a byte, and writes nothing to the second; `script` opens
 /// the store and runs the lines of the source as steps; `check` opens the store and reports; `generate` opens the store,
 /// runs the script that is drawn from a number and writes what came of it and the report; `clients` opens the store, runs

@@ -10,6 +10,7 @@ ghost use Rattle.store_core.specs.Images.{AllStand};
 ghost use Rattle.store_core.specs.Opens.{ReadsOnlyAs, ReadsAsNone};
 ghost use Rattle.branch_shell.specs.Refusals.{UnopenedAs, FoundAs, unopened_text};
 
+use crate::kinded::Kinded;
 use branch_address::Address;
 use branch_disk::Disk;
 use mrdt_model::Mrdt;
@@ -43,9 +44,9 @@ fn why_no_store<U: Mrdt, D: Disk, A: Address>(alloc: Global, disk: &mut D) -> Un
     }
 }
 
-/// Opens the store of the kind 0 that a disk holds, as `Core::open` does. Where the files are no store, it looks whether they are of
-/// the old version, over the documents of that. It writes nothing. An `Err` hands the disk back.
-pub(crate) fn open_store<T: Mrdt, U: Mrdt, D: Disk + Drop, A: Address>(
+/// Opens the store of the type's kind that a disk holds, as `Core::open` does. Where the files are no store, it looks
+/// whether they are of the old version, over the documents of that. It writes nothing. An `Err` hands the disk back.
+pub(crate) fn open_store<T: Kinded, U: Mrdt, D: Disk + Drop, A: Address>(
     alloc: Global,
     disk: D,
 ) -> Result<Core<T, D, A>, (Unopened, D)>
@@ -60,15 +61,15 @@ pub(crate) fn open_store<T: Mrdt, U: Mrdt, D: Disk + Drop, A: Address>(
         (λ f. ReadsAs T.meaning A.address f (Opens core.terms core.history))) }
     ensures only { IfOk result (λ core. ForSome (D.contents disk)
         (ReadsOnlyAs T.meaning A.address (Opens core.terms core.history))) }
-    ensures kind { IfOk result (λ core. core.terms.kind ≡ 0) }
+    ensures kind { IfOk result (λ core. core.terms.kind ≡ T.KIND) }
     ensures valid { IfOk result (λ core.
         IsFullyValid (fix T.meaning core.terms A.address) core.history) }
     ensures stands { IfOk result (λ core.
         AllStand (fix T.meaning core.terms A.address) core.history (D.may_leave core.disk)) }
     ensures refused { IfErr result (λ e. ForSome (D.contents disk)
-        (UnopenedAs T.meaning U.meaning A.address e.0)) }
+        (UnopenedAs T.KIND T.meaning U.meaning A.address e.0)) }
     ensures refused_only { IfErr result (λ e. IsSome (unopened_text e.0)
-        → ForSome (D.contents disk) (ReadsAsNone 0 T.meaning A.address)) }
+        → ForSome (D.contents disk) (ReadsAsNone T.KIND T.meaning A.address)) }
     ensures same { IfOk result (λ core. D.contents core.disk ≡ D.contents disk) }
     ensures same_err { IfErr result (λ e. D.contents e.1 ≡ D.contents disk) }
     ensures any_moment { IfOk result (λ core.
@@ -80,7 +81,7 @@ pub(crate) fn open_store<T: Mrdt, U: Mrdt, D: Disk + Drop, A: Address>(
         HasCauseOf {T = Unit {0}} (Unopened.Refused OpenRefused.DiskFault) (D.faults disk)
         (D.faults e.1) (Err e.0)) }
 {
-    match Core::<T, D, A>::open(alloc, disk, 0) {
+    match Core::<T, D, A>::open(alloc, disk, T::KIND) {
         Ok(core) => Ok(core),
         Err((refusal, disk)) => match refusal {
             OpenRefused::NotAStore => {

@@ -1,16 +1,14 @@
 -- Each command that needs no threads, by the words that say it.
 use Rattle.std.proofs.Common.{◌≡◌, map, refl, inl}
 use Rattle.std.specs.String.{string_bytes}
-use Rattle.branch_names.specs.declared.terms.Terms.{Terms}
-use Rattle.branch_doc.specs.Document.{document}
-use Rattle.branch_command.specs.Commands.{Said, Init, Help}
+use Rattle.branch_command.specs.Commands.{Init, Help}
+use Rattle.branch_command.specs.Terms.{kind_number}
 use Rattle.branch_shell.specs.declared.task.Task.{Task}
 use Rattle.branch_shell.specs.declared.task.Task.TheVariants as task
 use Rattle.branch_shell.specs.declared.status.Status.TheVariants.{ReadFault, DiskFault}
 use Rattle.branch_shell.specs.Stores.{AreThese}
 use Rattle.branch_shell.specs.Alone.{command_alone}
 use Rattle.branch_shell.specs.Disks.{Disks, current_told}
-use Rattle.branch_shell.specs.Ran.{LeavesInit}
 use Rattle.branch_shell.specs.Tasks.{said_of}
 use Rattle.branch_shell.proofs.Said.{said_init, said_script, said_check, said_generate, said_upgrade, said_compact, said_address, said_send, said_receive, said_help, terms_said}
 use Rattle.branch_shell.proofs.Runs.{said_behind, said_ran, init_ran, help_ran, both_memory}
@@ -25,16 +23,18 @@ returns-in-Ok-Init-clause-ran g c command is =
     let said = said_init words c.in-Ok-Init.field-0 terms c.in-Ok-Init.field-0-is c.in-Ok-Init.ensures.read in
     let numbers = said.0 in
     let are = terms_said words c.in-Ok-Init.field-0 terms c.in-Ok-Init.field-0-is c.in-Ok-Init.ensures.read numbers said.1 in
-    let run = c.run_init.ensures in
+    let run = c.init_for in
     let old : Disks _ = record { first = c.args.disk; second = c.args.second } in
-    let new : Disks _ = record { first = c.run_init.result.1; second = c.run_init.result.2 } in
-    let status = c.run_init.result.0 in
+    let new : Disks _ = record { first = run.result.1; second = run.result.2 } in
     let left = g.S.Source.left c.args.source.now in
     let given = g.K.Sink.given c.args.sink.now in
-    let gave = g.K.Sink.given c.run_init.new.sink in
-    let leaves : LeavesInit d address (AreThese terms) old.first new.first status = record { any_moment = run.any_moment; made = run.made; kept = run.kept } in
-    said_ran address d words (Init numbers) command said.1 is old new left left given gave status
-    (init_ran address d numbers (AreThese terms) are old new status left given gave run.wrote leaves run.refused run.full run.second)
+    let gave = g.K.Sink.given run.new.sink in
+    let kind : terms.kind ≡ kind_number numbers.sequences = said.2.kind in
+    said_ran address d words (Init numbers) command said.1 is old new left left given gave run.result.0
+    (init_ran address d numbers (AreThese terms) are old new run.result.0 left given gave (run.ensures.ran left numbers.sequences kind))
+
+pub returns-in-Ok-Init-clause-usage : goal.returns-in-Ok-Init-clause-usage
+returns-in-Ok-Init-clause-usage g c usage = absurd (c.init_for.ensures.usage usage)
 
 pub returns-in-Ok-Script-clause-usage : goal.returns-in-Ok-Script-clause-usage
 returns-in-Ok-Script-clause-usage g c usage = absurd (c.run_task.ensures.usage usage)
@@ -192,13 +192,13 @@ returns-in-Ok-Compact-clause-behind_disk g c command is fault =
     ((g.D.Disk.faults c.run_task-in-Ok-Compact.result.1 ≡ g.D.Disk.faults c.args.disk) × (g.D.Disk.faults c.run_task-in-Ok-Compact.result.2 ≡ g.D.Disk.faults c.args.second)) (c.run_task-in-Ok-Compact.ensures.behind_disk fault)
 
 pub returns-in-Ok-Init-clause-reason : goal.returns-in-Ok-Init-clause-reason
-returns-in-Ok-Init-clause-reason g c = c.run_init.ensures.reason (g.S.Source.faults c.args.source.now)
+returns-in-Ok-Init-clause-reason g c = c.init_for.ensures.reason (g.S.Source.faults c.args.source.now)
 
 pub returns-in-Ok-Init-clause-behind_source : goal.returns-in-Ok-Init-clause-behind_source
 returns-in-Ok-Init-clause-behind_source g c command is fault = inl refl
 
 pub returns-in-Ok-Init-clause-behind_disk : goal.returns-in-Ok-Init-clause-behind_disk
-returns-in-Ok-Init-clause-behind_disk g c command is fault = inl (c.run_init.ensures.no_fault fault)
+returns-in-Ok-Init-clause-behind_disk g c command is fault = inl (c.init_for.ensures.no_fault fault)
 
 pub returns-in-Ok-Tell-clause-ran : goal.returns-in-Ok-Tell-clause-ran
 returns-in-Ok-Tell-clause-ran g c command is =

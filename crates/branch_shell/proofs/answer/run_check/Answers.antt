@@ -14,8 +14,8 @@ returns-in-Ok-clause-wrote g c =
     let opened = c.in-Ok.ensures in
     let m = g.T.Mrdt.meaning in
     let address = g.A.Address.address in
-    answers_map (λ whole. whole ≡ report_text core.terms.origin core.history) (λ whole. ⊥) (SaysReport m address told) (SaysRefused m g.U.Mrdt.meaning address told)
-    (λ whole is. (record { terms = core.terms; history = core.history }, record { valid = opened.valid; kind = opened.kind; reads = opened.reads; only = opened.only }, is)) (λ whole no. absurd no)
+    answers_map (λ whole. whole ≡ report_text core.terms.origin core.history) (λ whole. ⊥) (SaysReport g.T.Kinded.KIND m address told) (SaysRefused g.T.Kinded.KIND m g.U.Mrdt.meaning address told)
+    (λ whole is. (record { terms = core.terms; history = core.history }, record { valid = opened.valid; kind_is = opened.kind; reads = opened.reads; only = opened.only }, is)) (λ whole no. absurd no)
     c.report.result (g.K.Sink.given c.args.sink.now) (g.K.Sink.given c.report.new.sink) c.report.ensures.wrote
 
 pub returns-in-Ok-clause-keeps : goal.returns-in-Ok-clause-keeps
@@ -32,8 +32,8 @@ returns-in-Err-clause-wrote g c =
     let told = g.D.Disk.contents c.args.disk in
     let m = g.T.Mrdt.meaning in
     let address = g.A.Address.address in
-    answers_map (λ whole. ⊥) (λ whole. unopened_text c.in-Err.why ≡ Some whole) (SaysReport m address told) (SaysRefused m g.U.Mrdt.meaning address told)
-    (λ whole no. absurd no) (says_refused m g.U.Mrdt.meaning address told c.in-Err.why c.in-Err.ensures.refused c.in-Err.ensures.refused_only)
+    answers_map (λ whole. ⊥) (λ whole. unopened_text c.in-Err.why ≡ Some whole) (SaysReport g.T.Kinded.KIND m address told) (SaysRefused g.T.Kinded.KIND m g.U.Mrdt.meaning address told)
+    (λ whole no. absurd no) (says_refused g.T.Kinded.KIND m g.U.Mrdt.meaning address told c.in-Err.why c.in-Err.ensures.refused c.in-Err.ensures.refused_only)
     c.refuse.result (g.K.Sink.given c.args.sink.now) (g.K.Sink.given c.refuse.new.sink) c.refuse.ensures.wrote
 
 pub returns-in-Err-clause-refused_only : goal.returns-in-Err-clause-refused_only

@@ -1,29 +1,30 @@
 use Rattle.std.proofs.Common.{◌≡◌, ℕ, refl, inl, inr, ap, subst}
 use Rattle.std.specs.Prelude.{Option, Some}
-use Rattle.branch_doc.specs.Document.{document}
 use Rattle.mrdt_old_doc.specs.OldDocument.{old_document}
 use Rattle.branch_shell.specs.Refusals.{unopened_text}
 use Rattle.branch_shell.specs.Counts.{HaveReason}
-use Rattle.branch_shell.specs.Documents.{DocStore, SaysUnopened}
-use Rattle.branch_shell.specs.Stores.{IsOpenedAs}
+use Rattle.branch_shell.specs.Documents.{SaysUnopened}
+use Rattle.branch_shell.specs.Stores.{Stored, IsOpenedAs}
 use Rattle.branch_shell.specs.Disks.{StaysSame}
 use Rattle.branch_shell.specs.Compacting.{counts_text, SaysCompacted, StaysAside, RanCompact}
 use Rattle.branch_shell.proofs.Once.{answers_map, says_refused, reason_opening, not_behind}
 use Rattle.branch_shell.proofs.Works.{never_refused}
 use Rattle.branch_shell.proofs.Compactions.{never_done}
+use Rattle.branch_shell.specs.Values.{value_type}
 use Rattle.branch_shell.proofs.compact.run_compact.Goals as goal
 
 pub returns-in-Ok-clause-ran : goal.returns-in-Ok-clause-ran
 returns-in-Ok-clause-ran g c =
     let d = g.D.Disk in
     let address = g.A.Address.address in
+    let of = value_type g.T.Mrdt.meaning g.T.Forms.forms g.T.Kinded.KIND in
     let core = c.in-Ok.core in
     let opened = c.in-Ok.ensures in
     let told = d.contents c.args.held in
-    let found : DocStore = record { terms = core.terms; history = core.history } in
-    let is : IsOpenedAs document address told found = record { valid = opened.valid; kind = opened.kind; reads = opened.reads; only = opened.only } in
+    let found : Stored _ _ = record { terms = core.terms; history = core.history } in
+    let is : IsOpenedAs of.kind of.meaning address told found = record { valid = opened.valid; kind_is = opened.kind; reads = opened.reads; only = opened.only } in
     let over = c.compact_over in
-    let w = answers_map (λ whole. whole ≡ counts_text found) (λ whole. ⊥) (SaysCompacted address told) (SaysUnopened address told)
+    let w = answers_map (λ whole. whole ≡ counts_text found) (λ whole. ⊥) (SaysCompacted of address told) (SaysUnopened of address told)
     (λ whole says. (found, is, says)) (λ whole no. absurd no) over.result.0 (g.K.Sink.given c.args.sink.now) (g.K.Sink.given over.new.sink) over.ensures.wrote in (
       w.0,
       w.1,
@@ -53,10 +54,11 @@ pub returns-in-Err-clause-ran : goal.returns-in-Err-clause-ran
 returns-in-Err-clause-ran g c =
     let d = g.D.Disk in
     let address = g.A.Address.address in
+    let of = value_type g.T.Mrdt.meaning g.T.Forms.forms g.T.Kinded.KIND in
     let told = d.contents c.args.held in
     let refused = c.in-Err.ensures in
-    let w = answers_map (λ whole. ⊥) (λ whole. unopened_text c.in-Err.why ≡ Some whole) (SaysCompacted address told) (SaysUnopened address told)
-    (λ whole no. absurd no) (says_refused document old_document address told c.in-Err.why refused.refused refused.refused_only) c.refuse.result
+    let w = answers_map (λ whole. ⊥) (λ whole. unopened_text c.in-Err.why ≡ Some whole) (SaysCompacted of address told) (SaysUnopened of address told)
+    (λ whole no. absurd no) (says_refused of.kind of.meaning old_document address told c.in-Err.why refused.refused refused.refused_only) c.refuse.result
     (g.K.Sink.given c.args.sink.now) (g.K.Sink.given c.refuse.new.sink) c.refuse.ensures.wrote in
     let same : StaysSame d c.args.held c.in-Err.held = record { same = refused.same_err; kept = refused.any_moment_err } in
     let aside : StaysAside d c.args.held c.in-Err.held c.args.other c.args.other c.refuse.result = record {

@@ -1,20 +1,20 @@
 -- Each task on the disk that was chosen.
 use Rattle.std.proofs.Common.{◌≡◌, ℕ, List, [], refl, inl, subst}
 use Rattle.std.proofs.KnownBytes.{Consumes-nil}
-use Rattle.branch_doc.specs.Document.{document}
 use Rattle.branch_command.specs.Work.{Work}
 use Rattle.branch_command.specs.Commands.{Script}
 use Rattle.branch_shell.specs.declared.status.Status.TheVariants.{DiskFault}
 use Rattle.branch_shell.specs.Generated.{SaysWork}
 use Rattle.branch_shell.specs.Stores.{SaysReport}
 use Rattle.branch_shell.specs.Reading.{Exchanges}
-use Rattle.branch_shell.specs.Statuses.{Wrote}
+use Rattle.branch_shell.specs.Statuses.{WroteOf}
 use Rattle.branch_shell.specs.Documents.{SaysUnopened}
 use Rattle.branch_shell.specs.Upgrading.{SaysUpgraded, SaysNotUpgraded}
 use Rattle.branch_shell.specs.Compacting.{SaysCompacted}
 use Rattle.mrdt_old_doc.specs.OldDocument.{old_document}
 use Rattle.branch_shell.specs.Once.{Answers}
 use Rattle.branch_shell.specs.Bundling.{SaysAddress, SaysBundle, SaysNoBranch}
+use Rattle.branch_shell.specs.Values.{value_type}
 use Rattle.branch_shell.proofs.Runs.{no_usage, once_usage, check_ran, address_ran, send_ran, both_behind}
 use Rattle.branch_shell.proofs.Received.{receive_usage}
 use Rattle.branch_shell.proofs.Outcomes.{never_usage}
@@ -27,8 +27,9 @@ returns-in-Script-clause-ran g c =
 
 pub returns-in-Script-clause-usage : goal.returns-in-Script-clause-usage
 returns-in-Script-clause-usage g c usage =
+    let of = value_type g.T.Mrdt.meaning g.T.Forms.forms g.T.Kinded.KIND in
     let e = c.run_script-status.ensures.ran in
-    no_usage g.A.Address.address (g.D.Disk.contents c.args.held) (g.S.Source.left c.run_script-status.new.source) c.run_script-status.result.0 e.0 e.1 e.4.wrote usage
+    no_usage of g.A.Address.address (g.D.Disk.contents c.args.held) (g.S.Source.left c.run_script-status.new.source) c.run_script-status.result.0 e.0 e.1 e.4.wrote usage
 
 pub returns-in-Script-clause-reason : goal.returns-in-Script-clause-reason
 returns-in-Script-clause-reason g c = inl (c.run_script-status.ensures.reason, refl)
@@ -38,24 +39,27 @@ returns-in-Script-clause-behind_source g c fault = rw c.in-Script.is (c.run_scri
 
 pub returns-in-Script-clause-behind_disk : goal.returns-in-Script-clause-behind_disk
 returns-in-Script-clause-behind_disk g c fault =
+    let of = value_type g.T.Mrdt.meaning g.T.Forms.forms g.T.Kinded.KIND in
     let run = c.run_script-status in
     rw c.in-Script.is
     (both_behind (g.D.Disk.faults run.result.1 ≡ g.D.Disk.faults c.args.held) (g.D.Disk.faults c.args.other ≡ g.D.Disk.faults c.args.other)
     (Exchanges (g.S.Source.left c.args.source.now) (g.S.Source.left run.new.source) (g.K.Sink.given c.args.sink.now) (g.K.Sink.given run.new.sink)
-    (Wrote g.A.Address.address Script (g.D.Disk.contents c.args.held) (g.S.Source.left run.new.source) DiskFault)) refl (run.ensures.behind_disk fault))
+    (WroteOf of g.A.Address.address Script (g.D.Disk.contents c.args.held) (g.S.Source.left run.new.source) DiskFault)) refl (run.ensures.behind_disk fault))
 
 pub returns-in-Check-clause-ran : goal.returns-in-Check-clause-ran
 returns-in-Check-clause-ran g c =
+    let of = value_type g.T.Mrdt.meaning g.T.Forms.forms g.T.Kinded.KIND in
     let run = c.run_check-status in
     rw c.in-Check.is
-    (check_ran g.A.Address.address g.D.Disk c.args.which c.args.held run.result.1 c.args.other run.result.0 (g.S.Source.left c.args.source.now) (g.K.Sink.given c.args.sink.now) (g.K.Sink.given run.new.sink) run.ensures.wrote
+    (check_ran of g.A.Address.address g.D.Disk c.args.which c.args.held run.result.1 c.args.other run.result.0 (g.S.Source.left c.args.source.now) (g.K.Sink.given c.args.sink.now) (g.K.Sink.given run.new.sink) run.ensures.wrote
     (record { any_moment = run.ensures.any_moment; keeps = λ done store holds. run.ensures.keeps done holds.files store holds.told holds.reads }))
 
 pub returns-in-Check-clause-usage : goal.returns-in-Check-clause-usage
 returns-in-Check-clause-usage g c usage =
+    let of = value_type g.T.Mrdt.meaning g.T.Forms.forms g.T.Kinded.KIND in
     let told = g.D.Disk.contents c.args.held in
     let run = c.run_check-status in
-    never_usage (SaysReport document g.A.Address.address told) (SaysUnopened g.A.Address.address told) run.result.0 (g.K.Sink.given c.args.sink.now) (g.K.Sink.given run.new.sink) run.ensures.wrote usage
+    never_usage (SaysReport of.kind of.meaning g.A.Address.address told) (SaysUnopened of g.A.Address.address told) run.result.0 (g.K.Sink.given c.args.sink.now) (g.K.Sink.given run.new.sink) run.ensures.wrote usage
 
 pub returns-in-Check-clause-reason : goal.returns-in-Check-clause-reason
 returns-in-Check-clause-reason g c = inl (c.run_check-status.ensures.reason (g.S.Source.faults c.args.source.now), refl)
@@ -73,10 +77,11 @@ returns-in-Generate-clause-ran g c =
 
 pub returns-in-Generate-clause-usage : goal.returns-in-Generate-clause-usage
 returns-in-Generate-clause-usage g c usage =
+    let of = value_type g.T.Mrdt.meaning g.T.Forms.forms g.T.Kinded.KIND in
     let told = g.D.Disk.contents c.args.held in
     let work : Work = record { steps = c.in-Generate.steps; number = c.in-Generate.number } in
     let e = c.run_generate-status.ensures.ran (g.S.Source.left c.args.source.now) in
-    once_usage (SaysWork g.A.Address.address told work) (SaysUnopened g.A.Address.address told) c.run_generate-status.result.0 e.1 e.4.wrote.1 usage
+    once_usage (SaysWork of g.A.Address.address told work) (SaysUnopened of g.A.Address.address told) c.run_generate-status.result.0 e.1 e.4.wrote.1 usage
 
 pub returns-in-Generate-clause-reason : goal.returns-in-Generate-clause-reason
 returns-in-Generate-clause-reason g c = inl (c.run_generate-status.ensures.reason (g.S.Source.faults c.args.source.now), refl)
@@ -114,9 +119,10 @@ returns-in-Compact-clause-ran g c =
 
 pub returns-in-Compact-clause-usage : goal.returns-in-Compact-clause-usage
 returns-in-Compact-clause-usage g c usage =
+    let of = value_type g.T.Mrdt.meaning g.T.Forms.forms g.T.Kinded.KIND in
     let told = g.D.Disk.contents c.args.held in
     let did = c.run_compact.ensures.ran in
-    once_usage (SaysCompacted g.A.Address.address told) (SaysUnopened g.A.Address.address told) c.run_compact.result.0 did.0 did.2.wrote usage
+    once_usage (SaysCompacted of g.A.Address.address told) (SaysUnopened of g.A.Address.address told) c.run_compact.result.0 did.0 did.2.wrote usage
 
 pub returns-in-Compact-clause-reason : goal.returns-in-Compact-clause-reason
 returns-in-Compact-clause-reason g c = c.run_compact.ensures.reason (g.S.Source.faults c.args.source.now)
@@ -129,16 +135,18 @@ returns-in-Compact-clause-behind_disk g c fault = inl (c.run_compact.ensures.no_
 
 pub returns-in-Address-clause-ran : goal.returns-in-Address-clause-ran
 returns-in-Address-clause-ran g c =
+    let of = value_type g.T.Mrdt.meaning g.T.Forms.forms g.T.Kinded.KIND in
     let run = c.run_address-status in
     rw c.in-Address.is
-    (address_ran g.A.Address.address g.D.Disk c.args.which c.args.held run.result.1 c.args.other run.result.0 (g.S.Source.left c.args.source.now) (g.K.Sink.given c.args.sink.now) (g.K.Sink.given run.new.sink) c.in-Address.branch run.ensures.wrote
+    (address_ran of g.A.Address.address g.D.Disk c.args.which c.args.held run.result.1 c.args.other run.result.0 (g.S.Source.left c.args.source.now) (g.K.Sink.given c.args.sink.now) (g.K.Sink.given run.new.sink) c.in-Address.branch run.ensures.wrote
     (record { any_moment = run.ensures.any_moment; keeps = λ done store holds. run.ensures.keeps done holds.files store holds.told holds.reads }))
 
 pub returns-in-Address-clause-usage : goal.returns-in-Address-clause-usage
 returns-in-Address-clause-usage g c usage =
+    let of = value_type g.T.Mrdt.meaning g.T.Forms.forms g.T.Kinded.KIND in
     let told = g.D.Disk.contents c.args.held in
     let run = c.run_address-status in
-    never_usage (SaysAddress document g.A.Address.address told c.in-Address.branch) (SaysNoBranch document old_document g.A.Address.address told c.in-Address.branch) run.result.0 (g.K.Sink.given c.args.sink.now) (g.K.Sink.given run.new.sink) run.ensures.wrote usage
+    never_usage (SaysAddress of.kind of.meaning g.A.Address.address told c.in-Address.branch) (SaysNoBranch of.kind of.meaning old_document g.A.Address.address told c.in-Address.branch) run.result.0 (g.K.Sink.given c.args.sink.now) (g.K.Sink.given run.new.sink) run.ensures.wrote usage
 
 pub returns-in-Address-clause-reason : goal.returns-in-Address-clause-reason
 returns-in-Address-clause-reason g c = inl (c.run_address-status.ensures.reason (g.S.Source.faults c.args.source.now), refl)
@@ -151,22 +159,24 @@ returns-in-Address-clause-behind_disk g c fault = inl (c.run_address-status.ensu
 
 pub returns-in-Send-clause-ran : goal.returns-in-Send-clause-ran
 returns-in-Send-clause-ran g c =
+    let of = value_type g.T.Mrdt.meaning g.T.Forms.forms g.T.Kinded.KIND in
     let run = c.run_send-status in
     let told = g.D.Disk.contents c.args.held in
     let g0 = g.K.Sink.given c.args.sink.now in
     let g1 = g.K.Sink.given run.new.sink in
     let wrote =
-    subst (λ (l : List (List ℕ)). Answers (SaysBundle document g.A.Address.address told c.in-Send.sending.branch l) (SaysNoBranch document old_document g.A.Address.address told c.in-Send.sending.branch) run.result.0 g0 g1)
+    subst (λ (l : List (List ℕ)). Answers (SaysBundle of.kind of.meaning g.A.Address.address told c.in-Send.sending.branch l) (SaysNoBranch of.kind of.meaning old_document g.A.Address.address told c.in-Send.sending.branch) run.result.0 g0 g1)
     c.as_slice.ensures run.ensures.wrote in
     rw c.in-Send.is
-    (send_ran g.A.Address.address g.D.Disk c.args.which c.args.held run.result.1 c.args.other run.result.0 (g.S.Source.left c.args.source.now) g0 g1 c.in-Send.sending.branch c.in-Send.sending.here wrote
+    (send_ran of g.A.Address.address g.D.Disk c.args.which c.args.held run.result.1 c.args.other run.result.0 (g.S.Source.left c.args.source.now) g0 g1 c.in-Send.sending.branch c.in-Send.sending.here wrote
     (record { any_moment = run.ensures.any_moment; keeps = λ done store holds. run.ensures.keeps done holds.files store holds.told holds.reads }))
 
 pub returns-in-Send-clause-usage : goal.returns-in-Send-clause-usage
 returns-in-Send-clause-usage g c usage =
+    let of = value_type g.T.Mrdt.meaning g.T.Forms.forms g.T.Kinded.KIND in
     let told = g.D.Disk.contents c.args.held in
     let run = c.run_send-status in
-    never_usage (SaysBundle document g.A.Address.address told c.in-Send.sending.branch c.as_slice.result.now) (SaysNoBranch document old_document g.A.Address.address told c.in-Send.sending.branch) run.result.0 (g.K.Sink.given c.args.sink.now) (g.K.Sink.given run.new.sink) run.ensures.wrote usage
+    never_usage (SaysBundle of.kind of.meaning g.A.Address.address told c.in-Send.sending.branch c.as_slice.result.now) (SaysNoBranch of.kind of.meaning old_document g.A.Address.address told c.in-Send.sending.branch) run.result.0 (g.K.Sink.given c.args.sink.now) (g.K.Sink.given run.new.sink) run.ensures.wrote usage
 
 pub returns-in-Send-clause-reason : goal.returns-in-Send-clause-reason
 returns-in-Send-clause-reason g c = inl (c.run_send-status.ensures.reason (g.S.Source.faults c.args.source.now), refl)
@@ -184,9 +194,10 @@ returns-in-Receive-clause-ran g c =
 
 pub returns-in-Receive-clause-usage : goal.returns-in-Receive-clause-usage
 returns-in-Receive-clause-usage g c usage =
+    let of = value_type g.T.Mrdt.meaning g.T.Forms.forms g.T.Kinded.KIND in
     let run = c.run_receive-status in
     let e = run.ensures.ran in
-    receive_usage g.D.Disk document old_document g.A.Address.address c.in-Receive.name c.args.held run.result.1 (g.S.Source.left run.new.source) run.result.0 e.0 e.1 e.4 usage
+    receive_usage g.D.Disk of.kind of.meaning old_document g.A.Address.address c.in-Receive.name c.args.held run.result.1 (g.S.Source.left run.new.source) run.result.0 e.0 e.1 e.4 usage
 
 pub returns-in-Receive-clause-reason : goal.returns-in-Receive-clause-reason
 returns-in-Receive-clause-reason g c = inl (c.run_receive-status.ensures.reason, refl)

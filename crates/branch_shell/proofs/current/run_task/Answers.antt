@@ -1,49 +1,47 @@
 -- Which disk was chosen, and the task on it.
 use Rattle.std.proofs.Common.{◌≡◌, ◌⊎◌, [], refl, inl, inr, subst, ◌∙◌}
-use Rattle.std.specs.Prelude.{Option}
 use Rattle.std.proofs.KnownBytes.{Consumes-nil, Appends-nil}
-use Rattle.branch_disk.specs.Disk.{Files}
 use Rattle.store_compact.specs.declared.answers.Which.{Which}
 use Rattle.store_compact.specs.declared.answers.Which.TheVariants.{First, Second}
 use Rattle.branch_shell.specs.declared.status.Status.TheVariants.{ReadFault, DiskFault}
-use Rattle.branch_shell.specs.Reading.{Exchanges}
-use Rattle.branch_shell.specs.Statuses.{Wrote}
 use Rattle.branch_shell.specs.Disks.{Disks, AreChosen}
 use Rattle.branch_shell.specs.Tasks.{said_of}
-use Rattle.branch_shell.proofs.Chosen.{held_told, over_both, reason_from, reason_swapped, aside_second}
+use Rattle.branch_shell.proofs.Chosen.{behind_told, over_both, reason_from, reason_swapped, aside_second}
 use Rattle.branch_shell.proofs.Compactions.{one_failed}
 use Rattle.branch_shell.proofs.current.run_task.Goals as goal
 
-pub returns-in-Ok-First-clause-ran : goal.returns-in-Ok-First-clause-ran
-returns-in-Ok-First-clause-ran g c =
+pub returns-in-First-clause-ran : goal.returns-in-First-clause-ran
+returns-in-First-clause-ran g c =
     let old : Disks _ = record { first = c.args.first; second = c.args.second } in
     let between : Disks _ = record { first = c.choose.new.first; second = c.choose.new.second } in
-    let run = c.run_chosen in
+    let run = c.run_values in
     let new : Disks _ = record { first = run.result.1; second = run.result.2 } in
-    let chosen = subst (λ (w : Which). AreChosen g.D.Disk old between w) c.in-Ok-First.field-0-is c.in-Ok-First.ensures.chosen in
+    let values = c.in-Ok.chosen.values in
+    let chosen = subst (λ (w : Which). AreChosen g.D.Disk old between w values) c.in-First.is c.in-Ok.ensures.chosen in
     let e = run.ensures.ran in (
       e.0,
       e.1,
       e.2,
       e.3,
       over_both g.D.Disk g.A.Address.address c.args.task old new (g.S.Source.left run.new.source) run.result.0 e.0 e.1
-          (inr (record { which = First; between = between; chosen = chosen; ran = e.4 })),
+          (inr (record { which = First; values = values; between = between; chosen = chosen; ran = e.4 })),
     )
 
-pub returns-in-Ok-Second-clause-ran : goal.returns-in-Ok-Second-clause-ran
-returns-in-Ok-Second-clause-ran g c =
+pub returns-in-Second-clause-ran : goal.returns-in-Second-clause-ran
+returns-in-Second-clause-ran g c =
     let old : Disks _ = record { first = c.args.first; second = c.args.second } in
     let between : Disks _ = record { first = c.choose.new.first; second = c.choose.new.second } in
-    let run = c.run_chosen-status in
+    let run = c.run_values-status in
     let new : Disks _ = record { first = run.result.2; second = run.result.1 } in
-    let chosen = subst (λ (w : Which). AreChosen g.D.Disk old between w) c.in-Ok-Second.field-0-is c.in-Ok-Second.ensures.chosen in
+    let values = c.in-Ok.chosen.values in
+    let chosen = subst (λ (w : Which). AreChosen g.D.Disk old between w values) c.in-Second.is c.in-Ok.ensures.chosen in
     let e = run.ensures.ran in (
       e.0,
       e.1,
       e.2,
       e.3,
       over_both g.D.Disk g.A.Address.address c.args.task old new (g.S.Source.left run.new.source) run.result.0 e.0 e.1
-          (inr (record { which = Second; between = between; chosen = chosen; ran = e.4 })),
+          (inr (record { which = Second; values = values; between = between; chosen = chosen; ran = e.4 })),
     )
 
 pub returns-in-Err-clause-ran : goal.returns-in-Err-clause-ran
@@ -60,19 +58,19 @@ returns-in-Err-clause-ran g c =
           (inl (record { why = inl refl; no_input = refl; no_text = refl; first = c.choose.ensures.first; second = c.choose.ensures.second })),
     )
 
-pub returns-in-Ok-First-clause-reason : goal.returns-in-Ok-First-clause-reason
-returns-in-Ok-First-clause-reason g c =
+pub returns-in-First-clause-reason : goal.returns-in-First-clause-reason
+returns-in-First-clause-reason g c =
     let f = g.D.Disk.faults in
-    let run = c.run_chosen in
-    let none = c.in-Ok-First.ensures.no_cause in
+    let run = c.run_values in
+    let none = c.in-Ok.ensures.no_cause in
     reason_from (g.S.Source.faults c.args.source.now) (g.K.Sink.faults c.args.sink.now) (f c.choose.new.first) (f c.choose.new.second) (f c.args.first) (f c.args.second)
     (g.S.Source.faults run.new.source) (g.K.Sink.faults run.new.sink) (f run.result.1) (f run.result.2) run.result.0 none.0 none.1 run.ensures.reason
 
-pub returns-in-Ok-Second-clause-reason : goal.returns-in-Ok-Second-clause-reason
-returns-in-Ok-Second-clause-reason g c =
+pub returns-in-Second-clause-reason : goal.returns-in-Second-clause-reason
+returns-in-Second-clause-reason g c =
     let f = g.D.Disk.faults in
-    let run = c.run_chosen-status in
-    let none = c.in-Ok-Second.ensures.no_cause in
+    let run = c.run_values-status in
+    let none = c.in-Ok.ensures.no_cause in
     reason_from (g.S.Source.faults c.args.source.now) (g.K.Sink.faults c.args.sink.now) (f c.choose.new.first) (f c.choose.new.second) (f c.args.first) (f c.args.second)
     (g.S.Source.faults run.new.source) (g.K.Sink.faults run.new.sink) (f run.result.2) (f run.result.1) run.result.0 none.0 none.1
     (reason_swapped (g.S.Source.faults c.args.source.now) (g.K.Sink.faults c.args.sink.now) (f c.choose.new.second) (f c.choose.new.first)
@@ -86,66 +84,65 @@ returns-in-Err-clause-reason g c =
 pub returns-in-Err-clause-usage : goal.returns-in-Err-clause-usage
 returns-in-Err-clause-usage g c usage = cc usage
 
-pub returns-in-Ok-First-clause-usage : goal.returns-in-Ok-First-clause-usage
-returns-in-Ok-First-clause-usage g c = c.run_chosen.ensures.usage
+pub returns-in-First-clause-usage : goal.returns-in-First-clause-usage
+returns-in-First-clause-usage g c = c.run_values.ensures.usage
 
-pub returns-in-Ok-First-clause-behind_source : goal.returns-in-Ok-First-clause-behind_source
-returns-in-Ok-First-clause-behind_source g c fault =
+pub returns-in-First-clause-behind_source : goal.returns-in-First-clause-behind_source
+returns-in-First-clause-behind_source g c fault =
     let old : Disks _ = record { first = c.args.first; second = c.args.second } in
     let between : Disks _ = record { first = c.choose.new.first; second = c.choose.new.second } in
-    let run = c.run_chosen in
-    let chosen = subst (λ (w : Which). AreChosen g.D.Disk old between w) c.in-Ok-First.field-0-is c.in-Ok-First.ensures.chosen in
-    let told = held_told g.D.Disk g.met.D.Disk.all_tell First old between chosen in
-    subst (λ (t : Option Files). (g.S.Source.faults run.new.source ≡ g.S.Source.faults c.args.source.now)
-    ⊎ Exchanges (g.S.Source.left c.args.source.now) (g.S.Source.left run.new.source) (g.K.Sink.given c.args.sink.now) (g.K.Sink.given run.new.sink)
-    (Wrote g.A.Address.address (said_of c.args.task) t (g.S.Source.left run.new.source) ReadFault)) told (run.ensures.behind_source fault)
+    let run = c.run_values in
+    let values = c.in-Ok.chosen.values in
+    let chosen = subst (λ (w : Which). AreChosen g.D.Disk old between w values) c.in-First.is c.in-Ok.ensures.chosen in
+    behind_told g.D.Disk g.met.D.Disk.all_tell First values old between chosen g.A.Address.address (said_of c.args.task) ReadFault
+    (g.S.Source.left c.args.source.now) (g.S.Source.left run.new.source) (g.K.Sink.given c.args.sink.now) (g.K.Sink.given run.new.sink)
+    (g.S.Source.faults run.new.source ≡ g.S.Source.faults c.args.source.now) (run.ensures.behind_source fault)
 
-pub returns-in-Ok-First-clause-behind_disk : goal.returns-in-Ok-First-clause-behind_disk
-returns-in-Ok-First-clause-behind_disk g c fault =
+pub returns-in-First-clause-behind_disk : goal.returns-in-First-clause-behind_disk
+returns-in-First-clause-behind_disk g c fault =
     let f = g.D.Disk.faults in
     let old : Disks _ = record { first = c.args.first; second = c.args.second } in
     let between : Disks _ = record { first = c.choose.new.first; second = c.choose.new.second } in
-    let run = c.run_chosen in
-    let chosen = subst (λ (w : Which). AreChosen g.D.Disk old between w) c.in-Ok-First.field-0-is c.in-Ok-First.ensures.chosen in
-    let told = held_told g.D.Disk g.met.D.Disk.all_tell First old between chosen in
-    let none = c.in-Ok-First.ensures.no_cause in
-    elim (run.ensures.behind_disk fault) [
-      | inl same ↦ inl (same.0 ∙ none.0, same.1 ∙ none.1)
-      | inr e ↦ inr (subst (λ (t : Option Files). Exchanges (g.S.Source.left c.args.source.now) (g.S.Source.left run.new.source) (g.K.Sink.given c.args.sink.now) (g.K.Sink.given run.new.sink)
-          (Wrote g.A.Address.address (said_of c.args.task) t (g.S.Source.left run.new.source) DiskFault)) told e)
-    ]
+    let run = c.run_values in
+    let values = c.in-Ok.chosen.values in
+    let chosen = subst (λ (w : Which). AreChosen g.D.Disk old between w values) c.in-First.is c.in-Ok.ensures.chosen in
+    let none = c.in-Ok.ensures.no_cause in
+    behind_told g.D.Disk g.met.D.Disk.all_tell First values old between chosen g.A.Address.address (said_of c.args.task) DiskFault
+    (g.S.Source.left c.args.source.now) (g.S.Source.left run.new.source) (g.K.Sink.given c.args.sink.now) (g.K.Sink.given run.new.sink)
+    ((f run.result.1 ≡ f c.args.first) × (f run.result.2 ≡ f c.args.second))
+    (elim (run.ensures.behind_disk fault) [ inl same ↦ inl (same.0 ∙ none.0, same.1 ∙ none.1) | inr e ↦ inr e ])
 
-pub returns-in-Ok-Second-clause-usage : goal.returns-in-Ok-Second-clause-usage
-returns-in-Ok-Second-clause-usage g c = c.run_chosen-status.ensures.usage
+pub returns-in-Second-clause-usage : goal.returns-in-Second-clause-usage
+returns-in-Second-clause-usage g c = c.run_values-status.ensures.usage
 
-pub returns-in-Ok-Second-clause-behind_source : goal.returns-in-Ok-Second-clause-behind_source
-returns-in-Ok-Second-clause-behind_source g c fault =
+pub returns-in-Second-clause-behind_source : goal.returns-in-Second-clause-behind_source
+returns-in-Second-clause-behind_source g c fault =
     let old : Disks _ = record { first = c.args.first; second = c.args.second } in
     let between : Disks _ = record { first = c.choose.new.first; second = c.choose.new.second } in
-    let run = c.run_chosen-status in
-    let chosen = subst (λ (w : Which). AreChosen g.D.Disk old between w) c.in-Ok-Second.field-0-is c.in-Ok-Second.ensures.chosen in
-    let told = held_told g.D.Disk g.met.D.Disk.all_tell Second old between chosen in
-    subst (λ (t : Option Files). (g.S.Source.faults run.new.source ≡ g.S.Source.faults c.args.source.now)
-    ⊎ Exchanges (g.S.Source.left c.args.source.now) (g.S.Source.left run.new.source) (g.K.Sink.given c.args.sink.now) (g.K.Sink.given run.new.sink)
-    (Wrote g.A.Address.address (said_of c.args.task) t (g.S.Source.left run.new.source) ReadFault)) told (run.ensures.behind_source fault)
+    let run = c.run_values-status in
+    let values = c.in-Ok.chosen.values in
+    let chosen = subst (λ (w : Which). AreChosen g.D.Disk old between w values) c.in-Second.is c.in-Ok.ensures.chosen in
+    behind_told g.D.Disk g.met.D.Disk.all_tell Second values old between chosen g.A.Address.address (said_of c.args.task) ReadFault
+    (g.S.Source.left c.args.source.now) (g.S.Source.left run.new.source) (g.K.Sink.given c.args.sink.now) (g.K.Sink.given run.new.sink)
+    (g.S.Source.faults run.new.source ≡ g.S.Source.faults c.args.source.now) (run.ensures.behind_source fault)
 
-pub returns-in-Ok-Second-clause-behind_disk : goal.returns-in-Ok-Second-clause-behind_disk
-returns-in-Ok-Second-clause-behind_disk g c fault =
+pub returns-in-Second-clause-behind_disk : goal.returns-in-Second-clause-behind_disk
+returns-in-Second-clause-behind_disk g c fault =
     let f = g.D.Disk.faults in
     let old : Disks _ = record { first = c.args.first; second = c.args.second } in
     let between : Disks _ = record { first = c.choose.new.first; second = c.choose.new.second } in
-    let run = c.run_chosen-status in
-    let chosen = subst (λ (w : Which). AreChosen g.D.Disk old between w) c.in-Ok-Second.field-0-is c.in-Ok-Second.ensures.chosen in
-    let told = held_told g.D.Disk g.met.D.Disk.all_tell Second old between chosen in
-    let none = c.in-Ok-Second.ensures.no_cause in
-    elim (run.ensures.behind_disk fault) [
-      | inl same ↦ inl (same.1 ∙ none.0, same.0 ∙ none.1)
-      | inr e ↦ inr (subst (λ (t : Option Files). Exchanges (g.S.Source.left c.args.source.now) (g.S.Source.left run.new.source) (g.K.Sink.given c.args.sink.now) (g.K.Sink.given run.new.sink)
-          (Wrote g.A.Address.address (said_of c.args.task) t (g.S.Source.left run.new.source) DiskFault)) told e)
-    ]
+    let run = c.run_values-status in
+    let values = c.in-Ok.chosen.values in
+    let chosen = subst (λ (w : Which). AreChosen g.D.Disk old between w values) c.in-Second.is c.in-Ok.ensures.chosen in
+    let none = c.in-Ok.ensures.no_cause in
+    behind_told g.D.Disk g.met.D.Disk.all_tell Second values old between chosen g.A.Address.address (said_of c.args.task) DiskFault
+    (g.S.Source.left c.args.source.now) (g.S.Source.left run.new.source) (g.K.Sink.given c.args.sink.now) (g.K.Sink.given run.new.sink)
+    ((f run.result.2 ≡ f c.args.first) × (f run.result.1 ≡ f c.args.second))
+    (elim (run.ensures.behind_disk fault) [ inl same ↦ inl (same.1 ∙ none.0, same.0 ∙ none.1) | inr e ↦ inr e ])
 
-pub run_chosen-status-requires-clause-aside : goal.run_chosen-status-requires-clause-aside
-run_chosen-status-requires-clause-aside g c is f told =
+pub run_values-status-requires-clause-aside : goal.run_values-status-requires-clause-aside
+run_values-status-requires-clause-aside g c is f told =
     let old : Disks _ = record { first = c.args.first; second = c.args.second } in
     let between : Disks _ = record { first = c.choose.new.first; second = c.choose.new.second } in
-    aside_second g.D.Disk old between (subst (λ (w : Which). AreChosen g.D.Disk old between w) c.in-Ok-Second.field-0-is c.in-Ok-Second.ensures.chosen) f told
+    let values = c.in-Ok.chosen.values in
+    aside_second g.D.Disk values old between (subst (λ (w : Which). AreChosen g.D.Disk old between w values) c.in-Second.is c.in-Ok.ensures.chosen) f told

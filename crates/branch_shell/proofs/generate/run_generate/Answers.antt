@@ -1,15 +1,15 @@
 use Rattle.std.proofs.Common.{◌≡◌, ℕ, [], subst}
 use Rattle.std.specs.Prelude.{Some}
 use Rattle.std.proofs.KnownBytes.{Consumes-nil}
-use Rattle.branch_doc.specs.Document.{document}
 use Rattle.mrdt_old_doc.specs.OldDocument.{old_document}
 use Rattle.branch_command.specs.Work.{Work}
 use Rattle.branch_shell.specs.Counts.{HasReason}
 use Rattle.branch_shell.specs.Refusals.{unopened_text}
-use Rattle.branch_shell.specs.Stores.{IsOpenedAs}
-use Rattle.branch_shell.specs.Documents.{DocStore, SaysUnopened}
+use Rattle.branch_shell.specs.Stores.{Stored, IsOpenedAs}
+use Rattle.branch_shell.specs.Documents.{SaysUnopened}
 use Rattle.branch_shell.proofs.Once.{answers_map, says_refused, not_behind}
 use Rattle.branch_shell.proofs.Works.{work_opened, work_refused}
+use Rattle.branch_shell.specs.Values.{value_type}
 use Rattle.branch_shell.proofs.generate.run_generate.Goals as goal
 
 pub returns-in-Ok-clause-ran : goal.returns-in-Ok-clause-ran
@@ -17,13 +17,14 @@ returns-in-Ok-clause-ran g c left =
     let d = g.D.Disk in
     let laws = g.met.D.Disk in
     let address = g.A.Address.address in
+    let of = value_type g.T.Mrdt.meaning g.T.Forms.forms g.T.Kinded.KIND in
     let core = c.in-Ok.core in
     let opened = c.in-Ok.ensures in
-    let found : DocStore = record { terms = core.terms; history = core.history } in
-    let is : IsOpenedAs document address (d.contents c.args.disk) found = record { valid = opened.valid; kind = opened.kind; reads = opened.reads; only = opened.only } in
+    let found : Stored _ _ = record { terms = core.terms; history = core.history } in
+    let is : IsOpenedAs of.kind of.meaning address (d.contents c.args.disk) found = record { valid = opened.valid; kind_is = opened.kind; reads = opened.reads; only = opened.only } in
     let work : Work = record { steps = c.args.steps; number = c.args.number } in
     let w = c.work_over.ensures.wrote in
-    ([], w.0, Consumes-nil left, w.1, work_opened address d laws.counts_now laws.only_now work left c.args.disk core.disk c.work_over.result.1 found c.work_over.result.0 w.0 is opened.any_moment c.work_over.ensures.survives w.2)
+    ([], w.0, Consumes-nil left, w.1, work_opened of address d laws.counts_now laws.only_now work left c.args.disk core.disk c.work_over.result.1 found c.work_over.result.0 w.0 is opened.any_moment c.work_over.ensures.survives w.2)
 
 pub returns-in-Ok-clause-reason : goal.returns-in-Ok-clause-reason
 returns-in-Ok-clause-reason g c n =
@@ -37,10 +38,11 @@ returns-in-Err-clause-ran g c left =
     let laws = g.met.D.Disk in
     let told = d.contents c.args.disk in
     let address = g.A.Address.address in
+    let of = value_type g.T.Mrdt.meaning g.T.Forms.forms g.T.Kinded.KIND in
     let work : Work = record { steps = c.args.steps; number = c.args.number } in
-    let w = answers_map (λ whole. ⊥) (λ whole. unopened_text c.in-Err.why ≡ Some whole) (λ whole. ⊥) (SaysUnopened address told) (λ whole no. no)
-    (says_refused document old_document address told c.in-Err.why c.in-Err.ensures.refused c.in-Err.ensures.refused_only) c.refuse.result (g.K.Sink.given c.args.sink.now) (g.K.Sink.given c.refuse.new.sink) c.refuse.ensures.wrote in
-    ([], w.0, Consumes-nil left, w.1, work_refused address d laws.counts_now laws.only_now work left c.args.disk c.in-Err.disk c.refuse.result w.0 c.in-Err.ensures.any_moment_err w.2)
+    let w = answers_map (λ whole. ⊥) (λ whole. unopened_text c.in-Err.why ≡ Some whole) (λ whole. ⊥) (SaysUnopened of address told) (λ whole no. no)
+    (says_refused of.kind of.meaning old_document address told c.in-Err.why c.in-Err.ensures.refused c.in-Err.ensures.refused_only) c.refuse.result (g.K.Sink.given c.args.sink.now) (g.K.Sink.given c.refuse.new.sink) c.refuse.ensures.wrote in
+    ([], w.0, Consumes-nil left, w.1, work_refused of address d laws.counts_now laws.only_now work left c.args.disk c.in-Err.disk c.refuse.result w.0 c.in-Err.ensures.any_moment_err w.2)
 
 pub returns-in-Err-clause-no_fault : goal.returns-in-Err-clause-no_fault
 returns-in-Err-clause-no_fault g c = not_behind (g.D.Disk.faults c.args.disk) (g.D.Disk.faults c.in-Err.disk) c.in-Err.why c.refuse.result c.in-Err.ensures.cause c.refuse.ensures.fault

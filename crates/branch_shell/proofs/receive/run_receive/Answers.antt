@@ -21,8 +21,8 @@ returns-in-Ok-clause-ran g c =
       e.1,
       e.2,
       e.3,
-      ran-opened g.D.Disk g.T.Mrdt.meaning g.U.Mrdt.meaning g.A.Address.address c.args.name c.args.disk core.disk run.result.1 store (g.S.Source.left run.new.source) run.result.0 e.0 e.1
-          (record { valid = opened.valid; kind = opened.kind; reads = opened.reads; only = opened.only }) opened.any_moment e.4,
+      ran-opened g.D.Disk g.T.Kinded.KIND g.T.Mrdt.meaning g.U.Mrdt.meaning g.A.Address.address c.args.name c.args.disk core.disk run.result.1 store (g.S.Source.left run.new.source) run.result.0 e.0 e.1
+          (record { valid = opened.valid; kind_is = opened.kind; reads = opened.reads; only = opened.only }) opened.any_moment e.4,
     )
 
 pub returns-in-Ok-clause-reason : goal.returns-in-Ok-clause-reason
@@ -41,8 +41,8 @@ returns-in-Err-clause-ran g c =
     let told = g.D.Disk.contents c.args.disk in
     let m = g.T.Mrdt.meaning in
     let address = g.A.Address.address in
-    let w = answers_map (λ whole. ⊥) (λ whole. unopened_text c.in-Err.why ≡ Some whole) (λ whole. ⊥) (SaysTaken m g.U.Mrdt.meaning address told c.args.name) (λ whole no. no)
-    (λ whole says. inl (says_refused m g.U.Mrdt.meaning address told c.in-Err.why c.in-Err.ensures.refused c.in-Err.ensures.refused_only whole says))
+    let w = answers_map (λ whole. ⊥) (λ whole. unopened_text c.in-Err.why ≡ Some whole) (λ whole. ⊥) (SaysTaken g.T.Kinded.KIND m g.U.Mrdt.meaning address told c.args.name) (λ whole no. no)
+    (λ whole says. inl (says_refused g.T.Kinded.KIND m g.U.Mrdt.meaning address told c.in-Err.why c.in-Err.ensures.refused c.in-Err.ensures.refused_only whole says))
     c.refuse.result (g.K.Sink.given c.args.sink.now) (g.K.Sink.given c.refuse.new.sink) c.refuse.ensures.wrote in
     ([], w.0, Consumes-nil (g.S.Source.left c.args.source.now), w.1, inl (record { no_input = refl; wrote = w.2; kept = c.in-Err.ensures.any_moment_err }))
 

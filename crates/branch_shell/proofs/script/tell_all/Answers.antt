@@ -8,10 +8,12 @@ use Rattle.branch_shell.proofs.Buffers.{moved_rest, front_waiting}
 use Rattle.branch_shell.proofs.Told.{tells-none}
 use Rattle.branch_shell.proofs.Ends.{at_read_fault, at_long_line, at_long_input, next_reading, at_some_lines, at_last_result}
 use Rattle.branch_shell.proofs.Finish.{last_stops, stops_telling}
+use Rattle.branch_shell.specs.Values.{value_type}
 use Rattle.branch_shell.proofs.script.tell_all.Goals as goal
 
 pub loop-read-init : goal.loop-read-init
 loop-read-init g c =
+    let of = value_type g.T.Mrdt.meaning g.T.Forms.forms g.T.Kinded.KIND in
     let d = g.D.Disk in
     let laws = g.met.D.Disk in
     let l0 = g.S.Source.left c.args.source.now in
@@ -23,11 +25,11 @@ loop-read-init g c =
         unended = refl;
         took = Consumes-nil l0;
         counted = refl;
-        told = tells-none d.may_leave d.moment d.left_since laws.counts_now laws.only_now g.A.Address.address c.args.engine.now (g.K.Sink.given c.args.sink.now);
+        told = tells-none d.may_leave d.moment d.left_since laws.counts_now laws.only_now of g.A.Address.address c.args.engine.now (g.K.Sink.given c.args.sink.now);
       };
       fewer = omega arith;
       most = omega arith;
-      working = c.requires;
+      working = c.requires.working;
       source_same = refl;
       sink_same = refl;
       disk_same = refl;
@@ -38,6 +40,7 @@ returns-in-Err-clause-ran g c store at =
     let d = g.D.Disk in
     let laws = g.met.D.Disk in
     let address = g.A.Address.address in
+    let of = value_type g.T.Mrdt.meaning g.T.Forms.forms g.T.Kinded.KIND in
     let l0 = g.S.Source.left c.args.source.now in
     let g0 = g.K.Sink.given c.args.sink.now in
     let l1 = g.S.Source.left c.loop-read.source in
@@ -51,13 +54,14 @@ returns-in-Err-clause-ran g c store at =
     let r = c.loop-read.invariant.reading in
     let l2 = g.S.Source.left c.take_more.new.source in
     let few : length pending < 4096 = omega (arith, length-take waiting old, c.loop-read.invariant.fewer) in
-    at_read_fault address d.may_leave d.moment d.left_since laws.counts_now laws.only_now l0 g0 first e pending read l1 g1 r store at l2 (omega (arith, c.loop-read-test.true)) few c.in-Err.ensures.err
+    at_read_fault of address d.may_leave d.moment d.left_since laws.counts_now laws.only_now l0 g0 first e pending read l1 g1 r store at l2 (omega (arith, c.loop-read-test.true)) few c.in-Err.ensures.err
 
 pub returns-then-count-eq0-clause-ran : goal.returns-then-count-eq0-clause-ran
 returns-then-count-eq0-clause-ran g c store at =
     let d = g.D.Disk in
     let laws = g.met.D.Disk in
     let address = g.A.Address.address in
+    let of = value_type g.T.Mrdt.meaning g.T.Forms.forms g.T.Kinded.KIND in
     let l0 = g.S.Source.left c.args.source.now in
     let g0 = g.K.Sink.given c.args.sink.now in
     let l1 = g.S.Source.left c.loop-read.source in
@@ -80,10 +84,10 @@ returns-then-count-eq0-clause-ran g c store at =
     let f = c.tell_last.new.engine in
     let g2 = g.K.Sink.given c.tell_last.new.sink in
     let bytes_are : take waiting new ≡ more = let n : waiting ≡ waiting + count = omega (arith, c.if-count-eq0.true) in ap (λ k. take k new) n in
-    at_last_result address d.may_leave d.moment d.left_since laws.counts_now laws.only_now l0 g0 first e pending read l1 g1 r more l2 count t store at c.if-count-eq0.true (omega (arith, c.loop-read-test.true)) few f g2
+    at_last_result of address d.may_leave d.moment d.left_since laws.counts_now laws.only_now l0 g0 first e pending read l1 g1 r more l2 count t store at c.if-count-eq0.true (omega (arith, c.loop-read-test.true)) few f g2
     (g.K.Sink.faults c.loop-read.sink) (g.K.Sink.faults c.tell_last.new.sink) (d.faults e.core.disk) (d.faults f.core.disk) c.tell_last.result
-    (subst (λ bytes. OnOk c.tell_last.result (TellsLines d.may_leave d.moment d.left_since address (lines_of bytes) e f g1 g2)) bytes_are c.tell_last.ensures.ok)
-    (subst (λ bytes. IfErr c.tell_last.result (StopsLines d.may_leave d.moment d.left_since address (lines_of bytes) e f g1 g2)) bytes_are c.tell_last.ensures.err)
+    (subst (λ bytes. OnOk c.tell_last.result (TellsLines d.may_leave d.moment d.left_since of address (lines_of bytes) e f g1 g2)) bytes_are c.tell_last.ensures.ok)
+    (subst (λ bytes. IfErr c.tell_last.result (StopsLines d.may_leave d.moment d.left_since of address (lines_of bytes) e f g1 g2)) bytes_are c.tell_last.ensures.err)
     c.tell_last.ensures.cause
 
 pub returns-then-count-eq0-clause-reason : goal.returns-then-count-eq0-clause-reason
@@ -98,6 +102,7 @@ returns-in_err-rest-clause-ran g c store at =
     let d = g.D.Disk in
     let laws = g.met.D.Disk in
     let address = g.A.Address.address in
+    let of = value_type g.T.Mrdt.meaning g.T.Forms.forms g.T.Kinded.KIND in
     let l0 = g.S.Source.left c.args.source.now in
     let g0 = g.K.Sink.given c.args.sink.now in
     let l1 = g.S.Source.left c.loop-read.source in
@@ -119,8 +124,8 @@ returns-in_err-rest-clause-ran g c store at =
     let p = err_from_is_err_and c.from_residual.result c.from_residual.ensures.1 in
     let status = c.in_err-rest.field-0.0 in
     let most : read + count ≤ 2 ^ 32 = omega (arith, c.loop-read-test.true, c.min-room.ensures, c.in-Ok.ensures.ok.0) in
-    let some : StopsWhole d.may_leave d.moment d.left_since address more e f g1 g2 status = c.in_err-rest.ensures.err in
-    rw (p.1, p.2) (at_some_lines address d.may_leave d.moment d.left_since laws.counts_now laws.only_now l0 g0 first e pending read l1 g1 r more l2 count t store at f g2
+    let some : StopsWhole d.may_leave d.moment d.left_since of address more e f g1 g2 status = c.in_err-rest.ensures.err in
+    rw (p.1, p.2) (at_some_lines of address d.may_leave d.moment d.left_since laws.counts_now laws.only_now l0 g0 first e pending read l1 g1 r more l2 count t store at f g2
     (g.K.Sink.faults c.loop-read.sink) (g.K.Sink.faults c.tell_whole_lines.new.sink) (d.faults e.core.disk) (d.faults f.core.disk) status c.in_err-rest.ensures.cause most some)
 
 pub returns-in_err-rest-clause-reason : goal.returns-in_err-rest-clause-reason
@@ -136,6 +141,7 @@ returns-then-waiting-ge-LINE_LIMIT-clause-ran g c store at =
     let d = g.D.Disk in
     let laws = g.met.D.Disk in
     let address = g.A.Address.address in
+    let of = value_type g.T.Mrdt.meaning g.T.Forms.forms g.T.Kinded.KIND in
     let l0 = g.S.Source.left c.args.source.now in
     let g0 = g.K.Sink.given c.args.sink.now in
     let l1 = g.S.Source.left c.loop-read.source in
@@ -155,13 +161,13 @@ returns-then-waiting-ge-LINE_LIMIT-clause-ran g c store at =
     let f = c.tell_whole_lines.new.engine in
     let g2 = g.K.Sink.given c.tell_whole_lines.new.sink in
     let rest = c.in_ok-rest.rest.now in
-    let w : TellsWhole d.may_leave d.moment d.left_since address more rest e f g1 g2 = c.in_ok-rest.ensures.ok in
-    let next = next_reading address d.may_leave d.moment d.left_since laws.counts_now laws.only_now l0 g0 first e pending read l1 g1 r more l2 count t rest f g2 w in
+    let w : TellsWhole d.may_leave d.moment d.left_since of address more rest e f g1 g2 = c.in_ok-rest.ensures.ok in
+    let next = next_reading of address d.may_leave d.moment d.left_since laws.counts_now laws.only_now l0 g0 first e pending read l1 g1 r more l2 count t rest f g2 w in
     let most : read + count ≤ 2 ^ 32 = omega (arith, c.loop-read-test.true, c.min-room.ensures, c.in-Ok.ensures.ok.0) in
     let size = length-take (waiting + count) new in
     let parts : length more ≡ length w.whole + length rest = ap length w.cut.parts ∙ length-append w.whole rest in
     let all : length rest ≡ 4096 = omega (arith, size, parts, c.min-room.ensures, c.in-Ok.ensures.ok.0, c.if-waiting-ge-LINE_LIMIT.true, c.loop-read.invariant.fewer) in
-    at_long_line address d.may_leave d.moment d.left_since laws.counts_now laws.only_now l0 g0 first f rest (read + count) l2 g2 next store at most all
+    at_long_line of address d.may_leave d.moment d.left_since laws.counts_now laws.only_now l0 g0 first f rest (read + count) l2 g2 next store at most all
 
 pub overflow_sub-end : goal.overflow_sub-end
 overflow_sub-end g c =
@@ -177,6 +183,7 @@ loop-read-preserved g c =
     let d = g.D.Disk in
     let laws = g.met.D.Disk in
     let address = g.A.Address.address in
+    let of = value_type g.T.Mrdt.meaning g.T.Forms.forms g.T.Kinded.KIND in
     let l0 = g.S.Source.left c.args.source.now in
     let g0 = g.K.Sink.given c.args.sink.now in
     let l1 = g.S.Source.left c.loop-read.source in
@@ -196,14 +203,14 @@ loop-read-preserved g c =
     let f = c.tell_whole_lines.new.engine in
     let g2 = g.K.Sink.given c.tell_whole_lines.new.sink in
     let rest = c.in_ok-rest.rest.now in
-    let w : TellsWhole d.may_leave d.moment d.left_since address more rest e f g1 g2 = c.in_ok-rest.ensures.ok in
-    let next = next_reading address d.may_leave d.moment d.left_since laws.counts_now laws.only_now l0 g0 first e pending read l1 g1 r more l2 count t rest f g2 w in
+    let w : TellsWhole d.may_leave d.moment d.left_since of address more rest e f g1 g2 = c.in_ok-rest.ensures.ok in
+    let next = next_reading of address d.may_leave d.moment d.left_since laws.counts_now laws.only_now l0 g0 first e pending read l1 g1 r more l2 count t rest f g2 w in
     let end = waiting + count in
     let within : end ≤ length new = omega (arith, c.take_more.ensures.size, c.min-room.ensures, c.in-Ok.ensures.ok.0, c.loop-read.invariant.fewer) in
     let size : length more ≡ end = length-take-le end new within in
     let front : rest ≡ take (length rest) c.move_to_front.new.buffer = moved_rest more w.whole rest c.move_to_front.new.buffer end (length rest) w.cut.parts size refl c.move_to_front.ensures.moved in
     record {
-      reading = subst (λ xs. IsReading d.may_leave d.moment d.left_since address first f xs (read + count) l0 l2 g0 g2) front next;
+      reading = subst (λ xs. IsReading d.may_leave d.moment d.left_since of address first f xs (read + count) l0 l2 g0 g2) front next;
       fewer = omega (arith, c.if-waiting-ge-LINE_LIMIT.false);
       most = omega (arith, c.loop-read-test.true, c.min-room.ensures, c.in-Ok.ensures.ok.0);
       working = c.in_ok-rest.ensures.working;
@@ -214,9 +221,10 @@ loop-read-preserved g c =
 
 pub returns-clause-ran : goal.returns-clause-ran
 returns-clause-ran g c store at =
+    let of = value_type g.T.Mrdt.meaning g.T.Forms.forms g.T.Kinded.KIND in
     let d = g.D.Disk in
     let laws = g.met.D.Disk in
     let pending = take c.loop-read.waiting c.loop-read.buffer in
     let few : length pending < 4096 = omega (arith, length-take c.loop-read.waiting c.loop-read.buffer, c.loop-read.invariant.fewer) in
-    at_long_input g.A.Address.address d.may_leave d.moment d.left_since laws.counts_now laws.only_now (g.S.Source.left c.args.source.now) (g.K.Sink.given c.args.sink.now) c.args.engine.now c.loop-read.engine pending c.loop-read.read (g.S.Source.left c.loop-read.source) (g.K.Sink.given c.loop-read.sink)
+    at_long_input of g.A.Address.address d.may_leave d.moment d.left_since laws.counts_now laws.only_now (g.S.Source.left c.args.source.now) (g.K.Sink.given c.args.sink.now) c.args.engine.now c.loop-read.engine pending c.loop-read.read (g.S.Source.left c.loop-read.source) (g.K.Sink.given c.loop-read.sink)
     c.loop-read.invariant.reading store at (omega (arith, c.loop-read-test.false, c.loop-read.invariant.most)) few

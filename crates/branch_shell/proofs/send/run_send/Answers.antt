@@ -16,8 +16,8 @@ returns-in-Ok-clause-wrote g c =
     let address = g.A.Address.address in
     let branch = c.args.branch.now in
     let store : Stored _ _ = record { terms = core.terms; history = core.history } in
-    let is : IsOpenedAs m address told store = record { valid = opened.valid; kind = opened.kind; reads = opened.reads; only = opened.only } in
-    answers_map (TellsHead store branch (bundle_said m address c.args.here.now store)) (TellsUnknown store branch) (SaysBundle m address told branch c.args.here.now) (SaysNoBranch m g.U.Mrdt.meaning address told branch)
+    let is : IsOpenedAs g.T.Kinded.KIND m address told store = record { valid = opened.valid; kind_is = opened.kind; reads = opened.reads; only = opened.only } in
+    answers_map (TellsHead store branch (bundle_said m address c.args.here.now store)) (TellsUnknown store branch) (SaysBundle g.T.Kinded.KIND m address told branch c.args.here.now) (SaysNoBranch g.T.Kinded.KIND m g.U.Mrdt.meaning address told branch)
     (λ whole tells. (store, is, tells)) (λ whole tells. inr (store, is, tells))
     c.send_head.result (g.K.Sink.given c.args.sink.now) (g.K.Sink.given c.send_head.new.sink) c.send_head.ensures.wrote
 
@@ -36,8 +36,8 @@ returns-in-Err-clause-wrote g c =
     let m = g.T.Mrdt.meaning in
     let address = g.A.Address.address in
     let branch = c.args.branch.now in
-    answers_map (λ whole. ⊥) (λ whole. unopened_text c.in-Err.why ≡ Some whole) (SaysBundle m address told branch c.args.here.now) (SaysNoBranch m g.U.Mrdt.meaning address told branch)
-    (λ whole no. absurd no) (λ whole says. inl (says_refused m g.U.Mrdt.meaning address told c.in-Err.why c.in-Err.ensures.refused c.in-Err.ensures.refused_only whole says))
+    answers_map (λ whole. ⊥) (λ whole. unopened_text c.in-Err.why ≡ Some whole) (SaysBundle g.T.Kinded.KIND m address told branch c.args.here.now) (SaysNoBranch g.T.Kinded.KIND m g.U.Mrdt.meaning address told branch)
+    (λ whole no. absurd no) (λ whole says. inl (says_refused g.T.Kinded.KIND m g.U.Mrdt.meaning address told c.in-Err.why c.in-Err.ensures.refused c.in-Err.ensures.refused_only whole says))
     c.refuse.result (g.K.Sink.given c.args.sink.now) (g.K.Sink.given c.refuse.new.sink) c.refuse.ensures.wrote
 
 pub returns-in-Err-clause-no_fault : goal.returns-in-Err-clause-no_fault

@@ -1,5 +1,5 @@
 -- Clients run side by side; all else is the call that starts no thread.
-use Rattle.std.proofs.Common.{◌≡◌, ◌∙◌, map, refl, inl, Some}
+use Rattle.std.proofs.Common.{◌≡◌, ◌∙◌, map, inl, Some}
 use Rattle.std.specs.String.{string_bytes}
 use Rattle.branch_command.specs.Work.{Clients}
 use Rattle.branch_command.specs.Commands.{command_of, Clients as SaidClients}

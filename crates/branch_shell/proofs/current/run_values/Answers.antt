@@ -1,0 +1,20 @@
+-- The task over values of either type.
+use Rattle.branch_shell.proofs.current.run_values.Goals as goal
+
+pub returns-in-Documents-clause-ran : goal.returns-in-Documents-clause-ran
+returns-in-Documents-clause-ran g c = rw c.in-Documents.is c.run_chosen.ensures.ran
+
+pub returns-in-WithSequences-clause-ran : goal.returns-in-WithSequences-clause-ran
+returns-in-WithSequences-clause-ran g c = rw c.in-WithSequences.is c.run_chosen-in-WithSequences.ensures.ran
+
+pub returns-in-Documents-clause-behind_source : goal.returns-in-Documents-clause-behind_source
+returns-in-Documents-clause-behind_source g c fault = rw c.in-Documents.is (c.run_chosen.ensures.behind_source fault)
+
+pub returns-in-WithSequences-clause-behind_source : goal.returns-in-WithSequences-clause-behind_source
+returns-in-WithSequences-clause-behind_source g c fault = rw c.in-WithSequences.is (c.run_chosen-in-WithSequences.ensures.behind_source fault)
+
+pub returns-in-Documents-clause-behind_disk : goal.returns-in-Documents-clause-behind_disk
+returns-in-Documents-clause-behind_disk g c fault = rw c.in-Documents.is (c.run_chosen.ensures.behind_disk fault)
+
+pub returns-in-WithSequences-clause-behind_disk : goal.returns-in-WithSequences-clause-behind_disk
+returns-in-WithSequences-clause-behind_disk g c fault = rw c.in-WithSequences.is (c.run_chosen-in-WithSequences.ensures.behind_disk fault)
