@@ -1,5 +1,5 @@
 -- What a disk in memory holds.
-use Rattle.std.specs.Prelude.{◌≡◌, ◌⊎◌, ℕ, ◌+◌, length, Option, Some, Result, OnOk, OnErr}
+use Rattle.std.specs.Prelude.{◌≡◌, ◌⊎◌, ℕ, ◌+◌, ◌-◌, ◌<◌, ◌≤◌, length, vec_capacity, Option, Some, Result, OnOk, OnErr}
 use Rattle.branch_io.specs.declared.faults.Faults.{Faults}
 use Rattle.branch_io.specs.Counts.{fault_count, capped, IsNextListed}
 use Rattle.branch_disk.specs.declared.memory.MemoryDisk.{MemoryDisk}
@@ -39,3 +39,12 @@ Changes through failing result old new =
     OnOk result ((held new ≡ through (held old)) × (moment new ≡ moment old + 1))
     × OnErr result (((held new ≡ failing (held old)) × (moment new ≡ moment old + 1) × IsNextListed (faults_of old) × (new.faults.refused ≡ old.faults.refused))
     ⊎ ((new.calls.items ≡ old.calls.items) × (new.faults.refused ≡ capped (old.faults.refused + 1))))
+
+-- for how many calls more there is room to note them
+abbrev pub room : MemoryDisk → ℕ
+room disk = vec_capacity disk.calls - length disk.calls.items
+
+-- A call that is noted takes the room of one. Where there was any, it is not refused for want of it.
+pub record TakesRoom (old new : MemoryDisk) : Type 0 where
+  pub refused : 0 < room old → new.faults.refused ≡ old.faults.refused
+  pub taken : room old ≤ room new + 1

@@ -1,5 +1,5 @@
 // A disk in memory. It keeps what it had at first and each call, so it can say what a crash would have left.
-ghost use Rattle.std.specs.Prelude.{◌≡◌, ◌+◌, ◌-◌, ◌^◌, ◌≤◌, Some, Err, IfOk, OnOk, [], length, min, take, drop, vec_capacity};
+ghost use Rattle.std.specs.Prelude.{◌≡◌, ◌+◌, ◌-◌, ◌^◌, ◌<◌, ◌≤◌, Some, Err, IfOk, OnOk, [], length, min, take, drop, vec_capacity};
 ghost use Rattle.branch_io.specs.Causes.{HasCause};
 ghost use Rattle.branch_io.specs.Counts.{failed_calls, fault_count, capped, IsNew, FailsWithoutRoom};
 ghost use Rattle.branch_disk.specs.Disk.{Files, bytes_of};
@@ -34,6 +34,9 @@ fn note(calls: &mut Vec<Call>, faults: &mut Faults, what: What) -> Result<(), Di
     ensures noted { IsNoted what result calls.old.items calls.new.items faults.old faults.new }
     ensures calls { FailsWithoutRoom faults.old faults.new result }
     ensures cause { HasCause (fault_count faults.old) (fault_count faults.new) result }
+    ensures room { length calls.old.items < vec_capacity calls.old
+        → faults.new.refused ≡ faults.old.refused }
+    ensures taken { vec_capacity calls.old ≤ vec_capacity calls.new }
 {
     let failed = faults.fails();
     if calls.push(Call { what, failed }).is_err() {
@@ -171,7 +174,7 @@ impl Disk for MemoryDisk {
     ghost use Rattle.branch_disk.specs.Image.{IsImageOf, written, half_written, synced};
     ghost use Rattle.branch_disk.specs.History.{on_part};
     ghost use Rattle.branch_disk.specs.HistoryLaws.{now_counts, last_now};
-    ghost use Rattle.branch_disk.specs.Memory.{first, held, moment, left_since, contents, faults_of, faults, Changes};
+    ghost use Rattle.branch_disk.specs.Memory.{first, held, moment, left_since, contents, faults_of, faults, Changes, TakesRoom};
     ghost use Rattle.branch_disk.specs.MemoryLaws.{reads_so};
 
     ghost contents = { contents };
@@ -206,6 +209,7 @@ impl Disk for MemoryDisk {
         ensures cause { HasCause (faults self.old) (faults self.new) result }
         ensures calls { FailsWithoutRoom (faults_of self.old) (faults_of self.new) result }
         ensures held { Changes (λ h. h) (λ h. h) result self.old self.new }
+        ensures room { TakesRoom self.old self.new }
     {
         note(&mut self.calls, &mut self.faults, What::Look)?;
         Ok(part_of(&self.objects, &self.heads, part).len() as u64)
@@ -222,6 +226,7 @@ impl Disk for MemoryDisk {
         ensures cause { HasCause (faults self.old) (faults self.new) result }
         ensures calls { FailsWithoutRoom (faults_of self.old) (faults_of self.new) result }
         ensures held { Changes (λ h. h) (λ h. h) result self.old self.new }
+        ensures room { TakesRoom self.old self.new }
     {
         note(&mut self.calls, &mut self.faults, What::Look)?;
         fill(part_of(&self.objects, &self.heads, part), at, buf);
@@ -270,6 +275,7 @@ impl Disk for MemoryDisk {
         ensures cause { HasCause (faults self.old) (faults self.new) result }
         ensures calls { FailsWithoutRoom (faults_of self.old) (faults_of self.new) result }
         ensures held { Changes (on_part part synced) (λ h. h) result self.old self.new }
+        ensures room { TakesRoom self.old self.new }
     {
         note(&mut self.calls, &mut self.faults, What::Sync(part))
     }
