@@ -1,11 +1,7 @@
-//! Tests of a store on a disk: its sizes and its device calls, what crashes leave of it, calls that fail, and branches
-//! that are joined, placed and dropped; and commits that are sent and received.
+//! Tests of a store on a disk: its sizes and its device calls, objects that collide by their address, a commit that
+//! another store sent, and files that are opened again.
 #![tactic(auto)]
 
-#[cfg(test)]
-mod branches;
-#[cfg(test)]
-mod bundles;
 #[cfg(test)]
 mod files;
 #[cfg(test)]

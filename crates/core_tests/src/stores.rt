@@ -1,32 +1,25 @@
-// Stores of sums on a disk in memory.
+// Stores of sums.
 use branch_address::Address;
-use branch_disk::MemoryDisk;
+use branch_disk::{Disk, MemoryDisk};
 use branch_names::{Limits, Name, Terms};
 use mrdt_counter::{Sum, SumOp};
 use std::alloc::Global;
 use std::process::Abort;
 use store_core::{Core, LandRefused, Landed};
 
-// A store of an empty disk, of which listed calls fail.
-pub fn fresh<A: Address>(
-    rt: &impl Abort,
-    alloc: Global,
-    failing: Vec<u64>,
-) -> Core<Sum, MemoryDisk, A> {
-    match Core::init(
-        alloc,
-        MemoryDisk::new(failing),
-        Terms::under(Limits::default()),
-    ) {
+// A store of an empty disk in memory, whose branches have origins from the first one on.
+pub fn fresh<A: Address>(rt: &impl Abort, alloc: Global, first: u32) -> Core<Sum, MemoryDisk, A> {
+    let terms = Terms::new(Limits::default(), first, 0).expect(rt, "terms");
+    match Core::init(alloc, MemoryDisk::new(Vec::new(alloc)), terms) {
         Ok(core) => core,
         Err(_) => panic!(rt; "no store"),
     }
 }
 
 // Adds to what `main` has now.
-pub fn add<A: Address>(
+pub fn add<D: Disk + Drop, A: Address>(
     rt: &impl Abort,
-    core: &mut Core<Sum, MemoryDisk, A>,
+    core: &mut Core<Sum, D, A>,
     amount: i64,
 ) -> Result<Landed<()>, LandRefused> {
     let seen = core.look(&Name::main()).expect(rt, "main");

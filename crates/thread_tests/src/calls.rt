@@ -11,9 +11,9 @@ use std::alloc::Global;
 use std::process::Abort;
 use std::sync::{Condvar, Mutex, Wait};
 use std::thread::{Threads, join};
-use store_core::{Core, Kind, LandRefused, Landed, Pair, PairStep, Prepared};
+use store_core::{Core, LandRefused, Landed, Prepared};
 
-pub(crate) type Sums = Core<Sum, MemoryDisk, Sha256Address>;
+type Sums = Core<Sum, MemoryDisk, Sha256Address>;
 
 pub(crate) type Unnamed = Blank<Sum, MemoryDisk, Sha256Address>;
 
@@ -33,114 +33,27 @@ pub(crate) fn unnamed(rt: &impl Abort, alloc: Global, failing: Vec<u64>) -> Unna
     }
 }
 
-/// The addition of 1 to what a branch has now.
-pub(crate) fn prepares<N: Named<SumOp, ()>, R: Wait + Abort>(
+// The addition of 1 to what `main` has now.
+fn prepares<N: Named<SumOp, ()>, R: Wait + Abort>(
     rt: &R,
     shared: &Store<N>,
     pass: &mut Pass<Sum, N>,
-    branch: &Name,
 ) -> Prepared<Sum>
     ensures history { IsPrefix result.seen.history pass.new.moves }
     ensures terms { result.seen.terms ≡ N.terms }
 {
-    let seen = shared.look(rt, pass, branch).expect(rt, "a branch");
+    let seen = shared.look(rt, pass, &Name::main()).expect(rt, "main");
     seen.prepare(SumOp::Add(1)).expect(rt, "an addition")
 }
 
-/// Adds 1 to what a branch has now.
+/// Adds 1 to what `main` has now.
 pub(crate) fn adds<N: Named<SumOp, ()>, R: Wait + Abort>(
     rt: &R,
     shared: &Store<N>,
     pass: &mut Pass<Sum, N>,
-    branch: &Name,
 ) -> Result<Landed<()>, LandRefused> {
-    let prepared = prepares(rt, shared, pass, branch);
+    let prepared = prepares(rt, shared, pass);
     shared.land(rt, pass, prepared)
-}
-
-// Lands the merge of a pair.
-fn lands<N: Named<SumOp, ()>, R: Wait + Abort>(
-    rt: &R,
-    shared: &Store<N>,
-    pass: &mut Pass<Sum, N>,
-    pair: &Pair<Sum>,
-)
-    requires history { pair.now.history ≡ pass.old.moves }
-    requires terms { pair.now.terms ≡ N.terms }
-{
-    match pair.prepare() {
-        Ok(PairStep::Land(prepared)) => {
-            let landed = shared.land(rt, pass, prepared);
-            assert!(rt; landed.is_ok());
-        }
-        Ok(PairStep::Same) => panic!(rt; "nothing to merge"),
-        Err(_) => panic!(rt; "no merge"),
-    }
-}
-
-// Merges a branch into another.
-fn merges<N: Named<SumOp, ()>, R: Wait + Abort>(
-    rt: &R,
-    shared: &Store<N>,
-    pass: &mut Pass<Sum, N>,
-    into: &Name,
-    from: &Name,
-) {
-    let seen = shared.look(rt, pass, into).expect(rt, "a branch");
-    let pair = shared.pair(rt, pass, &seen, from).expect(rt, "a branch");
-    lands(rt, shared, pass, &pair);
-}
-
-/// What a branch's sum is.
-pub(crate) fn value<N: Named<SumOp, ()>, R: Wait + Abort>(
-    rt: &R,
-    shared: &Store<N>,
-    pass: &mut Pass<Sum, N>,
-    branch: &Name,
-) -> i128 {
-    let seen = shared.look(rt, pass, branch).expect(rt, "a branch");
-    seen.value().value()
-}
-
-// The length of the history at a landing of an operation, and the number of its commit.
-fn told(landed: &Landed<()>) -> (u64, u32) {
-    match landed.kind {
-        Kind::Operation { commit, .. } => (landed.moves, commit),
-        _ => (landed.moves, 0),
-    }
-}
-
-/// Lands the store's first move, which was prepared.
-pub(crate) fn lands_early<N: Named<SumOp, ()>, R: Wait + Abort>(
-    rt: &R,
-    shared: &Store<N>,
-    pass: &mut Pass<Sum, N>,
-    prepared: Prepared<Sum>,
-)
-    requires history { IsPrefix prepared.seen.history pass.old.moves }
-    requires terms { prepared.seen.terms ≡ N.terms }
-{
-    let landed = shared.land(rt, pass, prepared).expect(rt, "a landing");
-    assert_eq!(rt; told(&landed), (1, 1));
-}
-
-/// What was prepared is stale behind the store's first move; so it looks again, and lands the second.
-pub(crate) fn lands_late<N: Named<SumOp, ()>, R: Wait + Abort>(
-    rt: &R,
-    shared: &Store<N>,
-    pass: &mut Pass<Sum, N>,
-    prepared: Prepared<Sum>,
-)
-    requires history { IsPrefix prepared.seen.history pass.old.moves }
-    requires terms { prepared.seen.terms ≡ N.terms }
-{
-    let stale = shared.land(rt, pass, prepared);
-    assert!(rt; matches!(stale, Err(LandRefused::Stale { newest: 1 })));
-    let seen = shared.look(rt, pass, &Name::main()).expect(rt, "main");
-    assert_eq!(rt; (seen.head(), seen.moves()), (1, 1));
-    let again = prepares(rt, shared, pass, &Name::main());
-    let landed = shared.land(rt, pass, again).expect(rt, "a landing");
-    assert_eq!(rt; told(&landed), (2, 2));
 }
 
 /// Orders two threads: 0 at the start, 1 once the late one has prepared, 2 once the early one has landed.
@@ -171,87 +84,48 @@ impl Turns {
     }
 }
 
-/// What a thread does with its pass.
-#[derive(Drop)]
-pub(crate) enum Job {
-    /// Prepares on `main` before the other thread lands there, and so lands at the second try.
-    IsLate,
-    /// Prepares and lands on `main` once the other thread has prepared.
-    IsEarly,
-    /// Adds to a branch, many times.
-    Adds(Name),
-    /// Merges the second branch into the first.
-    Merges(Name, Name),
-}
-
-/// How many times that is.
-pub(crate) const MANY: u64 = 50;
-
+// Prepares before the other thread lands. That is stale behind the store's first move, and so it lands the second one.
 fn is_late<N: Named<SumOp, ()>, R: Wait + Abort>(
     rt: &R,
     shared: &Store<N>,
     turns: &Turns,
-    pass: &mut Pass<Sum, N>,
-) {
-    let prepared = prepares(rt, shared, pass, &Name::main());
+    mut pass: Pass<Sum, N>,
+) -> Pass<Sum, N> {
+    let prepared = prepares(rt, shared, &mut pass);
     turns.reach(rt, 1);
     turns.wait(rt, 2);
-    lands_late(rt, shared, pass, prepared);
+    let stale = shared.land(rt, &mut pass, prepared);
+    assert!(rt; matches!(stale, Err(LandRefused::Stale { newest: 1 })));
+    let landed = adds(rt, shared, &mut pass).expect(rt, "a landing");
+    assert_eq!(rt; landed.moves, 2);
+    pass
 }
 
+// Lands the store's first move, once the other thread has prepared.
 fn is_early<N: Named<SumOp, ()>, R: Wait + Abort>(
     rt: &R,
     shared: &Store<N>,
     turns: &Turns,
-    pass: &mut Pass<Sum, N>,
-) {
-    turns.wait(rt, 1);
-    let prepared = prepares(rt, shared, pass, &Name::main());
-    lands_early(rt, shared, pass, prepared);
-    turns.reach(rt, 2);
-}
-
-fn adds_many<N: Named<SumOp, ()>, R: Wait + Abort>(
-    rt: &R,
-    shared: &Store<N>,
-    pass: &mut Pass<Sum, N>,
-    branch: &Name,
-) {
-    for _ in 0..MANY {
-        let landed = adds(rt, shared, pass, branch);
-        assert!(rt; landed.is_ok());
-    }
-}
-
-fn runs<N: Named<SumOp, ()>, R: Wait + Abort>(
-    rt: &R,
-    shared: &Store<N>,
-    turns: &Turns,
     mut pass: Pass<Sum, N>,
-    job: Job,
 ) -> Pass<Sum, N> {
-    match job {
-        Job::IsLate => is_late(rt, shared, turns, &mut pass),
-        Job::IsEarly => is_early(rt, shared, turns, &mut pass),
-        Job::Adds(branch) => adds_many(rt, shared, &mut pass, &branch),
-        Job::Merges(into, from) => merges(rt, shared, &mut pass, &into, &from),
-    }
+    turns.wait(rt, 1);
+    let landed = adds(rt, shared, &mut pass).expect(rt, "a landing");
+    assert_eq!(rt; landed.moves, 1);
+    turns.reach(rt, 2);
     pass
 }
 
-/// Two jobs, each in a thread of its own.
+/// The late one and the early one, each in a thread of its own.
 pub(crate) fn beside<N: Named<SumOp, ()> + Send + Sync, R: Threads + Wait + Abort + Sync>(
     rt: &R,
     shared: &Store<N>,
     turns: &Turns,
-    u: (Pass<Sum, N>, Job),
-    v: (Pass<Sum, N>, Job),
+    late: Pass<Sum, N>,
+    early: Pass<Sum, N>,
 ) -> (Pass<Sum, N>, Pass<Sum, N>) {
-    let (one, first) = u;
-    let (other, second) = v;
     join(
         rt,
-        || runs(rt, shared, turns, one, first),
-        || runs(rt, shared, turns, other, second),
+        || is_late(rt, shared, turns, late),
+        || is_early(rt, shared, turns, early),
     )
 }

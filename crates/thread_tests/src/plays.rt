@@ -5,7 +5,6 @@ ghost use Rattle.branch_shared.specs.Names.{IsNamed};
 use branch_address::Sha256Address;
 use branch_disk::MemoryDisk;
 use branch_doc::{DocOp, DocReply};
-use branch_names::{Limits, Terms};
 use branch_script::{Step, read_line};
 use branch_shared::{Blank, Named, Shared};
 use mrdt_doc::Doc;
@@ -21,19 +20,6 @@ use store_core::Core;
 
 pub(crate) type Documents = Core<Doc, MemoryDisk, Sha256Address>;
 
-/// A store of an empty disk, of which listed calls fail, counted from 1.
-pub(crate) fn fresh(
-    rt: &impl Abort,
-    alloc: Global,
-    limits: Limits,
-    failing: Vec<u64>,
-) -> Documents {
-    match Documents::init(alloc, MemoryDisk::new(failing), Terms::under(limits)) {
-        Ok(core) => core,
-        Err(_) => panic!(rt; "no store"),
-    }
-}
-
 /// The steps of these lines.
 pub(crate) fn script(alloc: Global, lines: &[&str]) -> Result<Listing<Step>, Fail> {
     let mut steps = Vec::new(alloc);
@@ -43,21 +29,6 @@ pub(crate) fn script(alloc: Global, lines: &[&str]) -> Result<Listing<Step>, Fai
         }
     }
     Ok(Listing::from_vec(steps))
-}
-
-/// What became of a client, in words.
-pub(crate) fn told(alloc: Global, outcome: &Outcome) -> Result<String, Fail> {
-    Ok(match outcome {
-        Outcome::Done { places } => format!(in alloc; "done {:?}", places.as_slice())?,
-        Outcome::Refused {
-            step,
-            refusal,
-            places,
-        } => format!(in alloc; "refused {step} {refusal:?} {:?}", places.as_slice())?,
-        Outcome::Unseen { step, places } => {
-            format!(in alloc; "unseen {step} {:?}", places.as_slice())?
-        }
-    })
 }
 
 /// What becomes of a client for each script, and the store after them.

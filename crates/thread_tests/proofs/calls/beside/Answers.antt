@@ -12,7 +12,6 @@ use Rattle.mrdt_counter.specs.contracts.counter.CounterQuery as CounterQuery
 use Rattle.mrdt_counter.specs.contracts.sum.SumMrdt.TheImpl as SumMrdt
 use Rattle.branch_shared.specs.contracts.pass.Pass as Pass
 use Rattle.branch_shared.specs.contracts.shared.Shared as Shared
-use Rattle.thread_tests.specs.contracts.calls.Job as Job
 use Rattle.thread_tests.specs.contracts.calls.Turns as Turns
 use Rattle.branch_shared.proofs.Crosses.{Shared-sync, Pass-send}
 use Rattle.thread_tests.proofs.calls.beside.Goals as goal
@@ -26,6 +25,5 @@ join-requires-send-F g c κs within =
     let p : IsSend (Pass.the_row Sum.the_row (param 0 g.row.N) SumOp.the_row CounterQuery.the_row i128 unit SumMrdt.ghosts g.N.Named) =
     Pass-send Sum.the_row (param 0 g.row.N) SumOp.the_row CounterQuery.the_row i128 unit SumMrdt.ghosts g.N.Named n in
     let t : IsSync (Turns.the_field).row = search (sendable, crosses) depth 20 in
-    let j : IsSend Job.the_row = search (sendable, crosses) depth 20 in
     let r : IsSync (param 1 g.row.R) = c.type_bounds.sync-R in
     search (sendable, crosses) depth 30

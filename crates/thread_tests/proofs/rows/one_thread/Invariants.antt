@@ -1,6 +1,0 @@
--- The store's name says what the store is.
-use Rattle.std.proofs.Common.{false}
-use Rattle.thread_tests.proofs.rows.one_thread.Given as goal
-
-abbrev pub ghosts-in_one_thread : goal.ghosts-in_one_thread
-ghosts-in_one_thread g a = record { table = a.blank.table; begun = a.blank.core.history; terms = a.blank.core.terms; parts = a.blank.parts; opened = a.blank.opened; drops = false }
