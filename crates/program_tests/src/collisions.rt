@@ -9,30 +9,6 @@ use std::test::Fail;
 
 const READY: (Status, &[u8]) = (Status::Done, b"ready\n");
 
-const ONE: (Status, &[u8]) = (
-    Status::Done,
-    b"branch main #1\nmoves 1 commits 2 branches 1\n",
-);
-
-// A new store over which a script ran that ends well, with these replies.
-fn after(rt: &impl Abort, alloc: Global, input: &[u8], output: &[u8]) -> Result<MemoryDisk, Fail> {
-    let disk = MemoryDisk::new(Vec::new(alloc));
-    let disk = says::<WeakAddress>(rt, alloc, "init", b"", disk, READY)?;
-    says::<WeakAddress>(rt, alloc, "script", input, disk, (Status::Done, output))
-}
-
-// The commits of all additions to one counter are as long as each other. The store keeps its one move.
-#[test]
-fn colliding_objects_are_refused(rt: HostRuntime) -> Result<(), Fail> {
-    let alloc = rt.alloc();
-    let input = b"look a main\ndo a counter c add 1\ndo a counter c add 1\ndo a counter c add 0\n";
-    let output =
-        b"a sees main at #0\nlanded #1 at 1.0\nerror collision 0000000000000000000000000000000000000000000000000000000000000081\nerror collision 0000000000000000000000000000000000000000000000000000000000000081\n";
-    let disk = after(&rt, alloc, input, output)?;
-    let _disk = says::<WeakAddress>(&rt, alloc, "check", b"", disk, ONE)?;
-    Ok(())
-}
-
 // The bytes of a part.
 fn bytes_of(rt: &impl Abort, alloc: Global, disk: &mut MemoryDisk, part: Part) -> Vec<u8> {
     read_whole(alloc, disk, part).expect(rt, "the bytes of a part")
@@ -78,13 +54,18 @@ fn second_record(alloc: Global, first: &[u8]) -> Result<Vec<u8>, Fail> {
     Ok(record)
 }
 
-// A second addition is forged behind the first one: its commit has the first one's address.
+// The commits of all additions to one counter are as long as each other, so that the store keeps its one move. Then a
+// second addition is forged behind the first one: its commit has the first one's address.
 #[test]
-fn colliding_objects_are_not_read(rt: HostRuntime) -> Result<(), Fail> {
+fn colliding_objects_are_refused(rt: HostRuntime) -> Result<(), Fail> {
     let alloc = rt.alloc();
-    let input = b"look a main\ndo a counter c add 1\n";
-    let output = b"a sees main at #0\nlanded #1 at 1.0\n";
-    let mut disk = after(&rt, alloc, input, output)?;
+    let input = b"look a main\ndo a counter c add 1\ndo a counter c add 1\ndo a counter c add 0\n";
+    let output: &[u8] =
+        b"a sees main at #0\nlanded #1 at 1.0\nerror collision 0000000000000000000000000000000000000000000000000000000000000081\nerror collision 0000000000000000000000000000000000000000000000000000000000000081\n";
+    let disk = MemoryDisk::new(Vec::new(alloc));
+    let disk = says::<WeakAddress>(&rt, alloc, "init", b"", disk, READY)?;
+    let wanted: (Status, &[u8]) = (Status::Done, output);
+    let mut disk = says::<WeakAddress>(&rt, alloc, "script", input, disk, wanted)?;
     let mut objects = bytes_of(&rt, alloc, &mut disk, Part::Objects);
     let mut heads = bytes_of(&rt, alloc, &mut disk, Part::Heads);
     assert_eq!(rt; (objects.len(), heads.len()), (478, 129));
