@@ -1,5 +1,5 @@
 -- The objects of a commit, found by addresses.
-use Rattle.std.proofs.Common.{zero, suc, ◌≡◌, ℕ, ◌+◌, ◌*◌, ◌<◌, ◌≤◌, ◌^◌, List, [], ◌∷◌, ◌++◌, length, map, refl, sym, ◌∙◌, ap, arith, append_assoc, length-append, Some, None, Option, slice_get}
+use Rattle.std.proofs.Common.{zero, suc, ◌≡◌, ℕ, ◌+◌, ◌*◌, ◌<◌, ◌≤◌, List, [], ◌∷◌, ◌++◌, length, map, refl, sym, ◌∙◌, ap, arith, append_assoc, length-append, Some, None, Option, slice_get}
 use Rattle.std.specs.List.{AllByRecursion, flat_map}
 use Rattle.std.proofs.lemmas.Option.{slice_get_past}
 use Rattle.mrdt_model.specs.Laws.{Meaning, KeepsLaws}
@@ -17,7 +17,7 @@ use Rattle.branch_machine.specs.Objects.{Pair, both, commit_text, value_text, ad
 use Rattle.branch_machine.specs.Laws.{HasSize}
 use Rattle.branch_machine.specs.Validity.{IsFullyValid}
 use Rattle.branch_machine.proofs.Pairs.{length-pairs_of, pairs_after-longer}
-use Rattle.branch_machine.proofs.Distinct.{all-sized, few-sized, valid-sound, IsSpelledBy}
+use Rattle.branch_machine.proofs.Distinct.{all-sized, few-sized, valid-sound}
 use Rattle.object_store.specs.Views.{ObjectsView}
 use Rattle.store_seen.specs.Views.{CoreView, VersionsView}
 use Rattle.recorded_history.specs.Items.{AreSized}
@@ -113,7 +113,7 @@ module _ {S O R Q A : Type 0} (fixed : Fixed S O R Q A) where
 
 -- The answer, where no move is pending.
 module _ {S O R Q A : Type 0} (meaning : Meaning S O R Q A) (laws : KeepsLaws meaning) (address : List ℕ → List ℕ) (size : HasSize address) (settled : CoreView (Move O R))
-    (versions : VersionsView (Move O R)) (objects : ObjectsView) (stood : Option ℕ) (kept : IsRecorded meaning address (recorded_of settled versions.core) stood versions objects) (none : (recorded_of settled versions.core).pending ≡ []) where
+    (versions : VersionsView (Move O R)) (objects : ObjectsView) (stood : List ℕ) (kept : IsRecorded meaning address (recorded_of settled versions.core) stood versions objects) (none : (recorded_of settled versions.core).pending ≡ []) where
   abbrev known : Fixed S O R Q A
   known = fix meaning settled.terms address
 

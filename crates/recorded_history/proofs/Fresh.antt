@@ -1,5 +1,5 @@
 -- The recorded history of no moves.
-use Rattle.std.proofs.Common.{◌≡◌, ℕ, List, [], ◌∷◌, ◌++◌, refl, ap, sym, ◌∙◌, arith, None, subst, append-nil}
+use Rattle.std.proofs.Common.{◌≡◌, ℕ, List, [], ◌∷◌, ◌++◌, refl, ap, sym, ◌∙◌, arith, subst, append-nil}
 use Rattle.mrdt_model.specs.Laws.{Meaning, KeepsLaws}
 use Rattle.branch_names.specs.declared.terms.Terms.{Terms}
 use Rattle.branch_wire.specs.Objects.{value_object, commit_object}
@@ -38,15 +38,15 @@ module _ {S O R Q A : Type 0} (meaning : Meaning S O R Q A) (address : List ℕ 
   none-addressed = refl
 
   pub recorded-fresh : (versions : VersionsView (Move O R)) (objects : ObjectsView) (spelling root : List ℕ) → spelling ≡ meaning.spelling_of [] → versions ≡ record { core = record { history = []; terms = terms }; addresses = root ∷ [] }
-      → objects.stored ≡ value_object spelling ∷ commit_object (root_fields address spelling) ∷ [] → objects.staged ≡ [] → root ≡ address (commit_object (root_fields address spelling)) → IsRecorded meaning address (recorded_of versions.core versions.core) None versions objects
+      → objects.stored ≡ value_object spelling ∷ commit_object (root_fields address spelling) ∷ [] → objects.staged ≡ [] → root ≡ address (commit_object (root_fields address spelling)) → IsRecorded meaning address (recorded_of versions.core versions.core) [] versions objects
   recorded-fresh versions objects spelling root is made stored staged at =
       let stored_is : objects.stored ≡ objects_of fixed [] = stored ∙ ap (λ (s : List ℕ). value_object s ∷ commit_object (root_fields address s) ∷ []) is ∙ sym none-stored in
       let core_is = ap (λ (v : VersionsView (Move O R)). v.core) made in
       let addressed : versions.addresses ≡ addresses_of fixed [] = ap (λ (v : VersionsView (Move O R)). v.addresses) made ∙ ap (λ (a : List ℕ). a ∷ []) (at ∙ ap (λ (s : List ℕ). address (commit_object (root_fields address s))) is) ∙ sym none-addressed in
-      subst (λ (core : CoreView (Move O R)). IsRecorded meaning address (recorded_of core core) None versions objects) (sym core_is)
+      subst (λ (core : CoreView (Move O R)). IsRecorded meaning address (recorded_of core core) [] versions objects) (sym core_is)
       (record {
         valid = valid-none fixed;
-        came = refl;
+        came = tt;
         moves = core_is;
         addressed = addressed;
         stored = stored_is;

@@ -4,6 +4,7 @@ pub mod Heads
 pub mod Commits
 pub mod Staged
 pub mod Kept
+pub mod Pending
 pub mod Joined
 pub mod Forks
 pub mod Placed

@@ -68,7 +68,7 @@ module _ {S O R Q A : Type 0} (meaning : Meaning S O R Q A) (terms : Terms) (his
   pub drop-same : (r : ℕ) → (store_of terms.origin (history ++ move.Drop r ∷ [])).commits ≡ (store_of terms.origin history).commits
   drop-same r = ap (λ (s : Store O R). s.commits) (store_of-more terms.origin history (move.Drop r))
 
-module _ {S O R Q A : Type 0} (meaning : Meaning S O R Q A) (address : List ℕ → List ℕ) (settled : CoreView (Move O R)) (old : VersionsView (Move O R)) (objects : ObjectsView) (stood : Option ℕ) (kept : IsRecorded meaning address (recorded_of settled old.core) stood old objects) (none : (recorded_of settled old.core).pending ≡ []) where
+module _ {S O R Q A : Type 0} (meaning : Meaning S O R Q A) (address : List ℕ → List ℕ) (settled : CoreView (Move O R)) (old : VersionsView (Move O R)) (objects : ObjectsView) (stood : List ℕ) (kept : IsRecorded meaning address (recorded_of settled old.core) stood old objects) (none : (recorded_of settled old.core).pending ≡ []) where
   abbrev fixed : Fixed S O R Q A
   fixed = fix meaning settled.terms address
 
@@ -91,7 +91,7 @@ module _ {S O R Q A : Type 0} (meaning : Meaning S O R Q A) (address : List ℕ 
         counted = tt;
       }
 
-      short : Steps fixed step (recorded_of settled old.core) (recorded_of settled new.core) Short
+      pub short : Steps fixed step (recorded_of settled old.core) (recorded_of settled new.core) Short
       short = record { turns = tt; pending = pending_none; counted = tt }
 
     unchanged : new.core.history ≡ old.core.history → new ≡ record { core = record { history = new.core.history; terms = old.core.terms }; addresses = old.addresses } → new ≡ old
@@ -143,7 +143,7 @@ module _ {S O R Q A : Type 0} (meaning : Meaning S O R Q A) (address : List ℕ 
         whole : objects.stored ++ objects.staged ≡ objects_of fixed (settled.history ++ made ∷ [])
         whole = settled-whole meaning address settled old objects stood kept none ∙ sym (none-objects fixed settled.history made same)
 
-        pub quiet-kept : (head : ℕ) → IsValid meaning new.core.terms new.core.history → IsNew fixed settled.history made → StoodAt settled.terms settled.history made head → IsRecorded meaning address (recorded_of settled new.core) (Some head) new objects
+        pub quiet-kept : (head : ℕ) → IsValid meaning new.core.terms new.core.history → IsNew fixed settled.history made → StoodAt settled.terms settled.history made head → IsRecorded meaning address (recorded_of settled new.core) (head ∷ []) new objects
         quiet-kept head valid unseen stood_at =
             recorded-more meaning address settled made new longer objects head (settled-valid meaning address settled old objects stood kept) valid unseen (none-free fixed settled.history made same) stood_at
             (ap (λ (v : VersionsView (Move O R)). v.addresses) steps.rest ∙ settled-addressed meaning address settled old objects stood kept none ∙ sym (none-addresses fixed settled.history made same)) kept.stored whole

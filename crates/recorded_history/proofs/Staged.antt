@@ -1,5 +1,5 @@
 -- What staging a work's objects answers.
-use Rattle.std.proofs.Common.{◌≡◌, ℕ, ◌+◌, ◌<◌, List, [], ◌∷◌, ◌++◌, length, map, refl, ap, sym, ◌∙◌, arith, Some, None, All, get_or, slice_get, append-nil, subst, Bor}
+use Rattle.std.proofs.Common.{◌≡◌, ℕ, ◌+◌, ◌<◌, List, [], ◌∷◌, ◌++◌, length, map, refl, ap, sym, ◌∙◌, arith, Some, None, All, get_or, slice_get, append_assoc, subst, Bor}
 use Rattle.std.proofs.lemmas.List.{length-map}
 use Rattle.std.proofs.lemmas.Option.{slice_get-get_or}
 use Rattle.std.specs.List.{AllByRecursion}
@@ -56,18 +56,18 @@ module _ {S O R Q A : Type 0} (fixed : Fixed S O R Q A) (history : List (Move O 
     collides = ap (λ (s : Stored). collision fixed.address s (value ∷ commit ∷ [])) stored_is ∙ ap (collision fixed.address (objects_of fixed history)) makes.pair
 
     -- the two objects are staged
-    pub staged-one : (objects : ObjectsView) (a : List ℕ) → collision fixed.address stored (value ∷ commit ∷ []) ≡ None → objects.stored ≡ stored → objects.staged ≡ fresh stored (value ∷ commit ∷ []) → a ≡ fixed.address commit
-        → IsStaged fixed history work made objects a
-    staged-one objects a none same added address_is =
+    pub staged-one : (old objects : ObjectsView) (a : List ℕ) → old.stored ++ old.staged ≡ stored → collision fixed.address stored (value ∷ commit ∷ []) ≡ None → objects.stored ≡ old.stored → objects.staged ≡ old.staged ++ fresh stored (value ∷ commit ∷ []) → a ≡ fixed.address commit
+        → IsStaged fixed history work made old objects a
+    staged-one old objects a all none same added address_is =
         let p = new_pair fixed history made makes.new makes.one in
         let commit_is : commit ≡ p.commit = let e = makes.pair in cc in
         let own : a ≡ fixed.address p.commit = address_is ∙ ap fixed.address commit_is in
-        let both_stored : objects.stored ≡ objects_of fixed history = same ∙ stored_is in
-        let both_staged : objects.staged ≡ fresh (objects_of fixed history) (both p) = added ∙ ap (λ (s : Stored). fresh s (value ∷ commit ∷ [])) stored_is ∙ ap (fresh (objects_of fixed history)) makes.pair in
+        let new : fresh stored (value ∷ commit ∷ []) ≡ fresh (objects_of fixed history) (both p) = ap (λ (s : Stored). fresh s (value ∷ commit ∷ [])) stored_is ∙ ap (fresh (objects_of fixed history)) makes.pair in
         record {
           free = one-refused fixed history made makes.new makes.one ∙ ap (refusal_for fixed.address) (sym collides ∙ none);
-          stored = both_stored;
-          staged = ap (λ (s : Stored). s ++ objects.staged) both_stored ∙ ap (λ (s : Stored). objects_of fixed history ++ s) both_staged ∙ sym (one-stored fixed history made makes.new makes.one);
+          stored = same;
+          staged = ap (λ (s : Stored). s ++ objects.staged) same ∙ ap (λ (s : Stored). old.stored ++ s) added ∙ sym (append_assoc old.stored old.staged (fresh stored (value ∷ commit ∷ [])))
+              ∙ ap (λ (s : Stored). s ++ fresh stored (value ∷ commit ∷ [])) (all ∙ stored_is) ∙ ap (λ (s : Stored). objects_of fixed history ++ s) new ∙ sym (one-stored fixed history made makes.new makes.one);
           addressed = makes.after a (addresses_of fixed history) ∙ ap (λ (b : List ℕ). addresses_of fixed history ++ b ∷ []) own ∙ sym (one-addresses fixed history made makes.new makes.one);
           recorded = record-is fixed history made a (end_of fixed (history ++ made ∷ [])) (one-address fixed history made makes.new makes.one ∙ sym own) refl;
         }
@@ -82,18 +82,18 @@ module _ {S O R Q A : Type 0} (fixed : Fixed S O R Q A) (history : List (Move O 
 
 -- a move up stages nothing
 pub staged-none : {S O R Q A : Type 0} (fixed : Fixed S O R Q A) (history : List (Move O R)) (branch : ℕ) (work : Work O R) (seen : SeenView (Move O R)) (other : ℕ) → IsWrittenWork fixed.meaning seen work (written.Forward other)
-    → (objects : ObjectsView) (a : List ℕ) → objects.stored ≡ objects_of fixed history → objects.staged ≡ [] → IsStaged fixed history work (move_of branch work) objects a
-staged-none fixed history branch (Operation op reply) seen other is objects a stored staged = absurd is
-staged-none fixed history branch (Merge commit) seen other is objects a stored staged = absurd is
-staged-none fixed history branch (Join commits) seen other is objects a stored staged = absurd is
-staged-none {S} {O} {R} fixed history branch (Forward commit) seen other is objects a stored staged =
+    → (objects : ObjectsView) (a : List ℕ) → objects.stored ++ objects.staged ≡ objects_of fixed history → IsStaged fixed history work (move_of branch work) objects objects a
+staged-none fixed history branch (Operation op reply) seen other is objects a whole = absurd is
+staged-none fixed history branch (Merge commit) seen other is objects a whole = absurd is
+staged-none fixed history branch (Join commits) seen other is objects a whole = absurd is
+staged-none {S} {O} {R} fixed history branch (Forward commit) seen other is objects a whole =
     let work : Work O R = Forward commit in
     let made : Move O R = move_of branch work in
     let same = ap (λ (s : Store O R). s.commits) (store_of-more fixed.terms.origin history made) in
     record {
       free = none-free fixed history made same;
-      stored = stored;
-      staged = ap (λ (s : Stored). objects.stored ++ s) staged ∙ append-nil objects.stored ∙ stored ∙ sym (none-objects fixed history made same);
+      stored = refl;
+      staged = whole ∙ sym (none-objects fixed history made same);
       addressed = sym (none-addresses fixed history made same);
       recorded = refl;
     }

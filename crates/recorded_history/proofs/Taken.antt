@@ -1,29 +1,26 @@
 -- What a recorded history answers to an item.
-use Rattle.std.proofs.Common.{◌≡◌, inl, inr, ℕ, ◌+◌, ◌<◌, ◌≤◌, ◌^◌, List, [], ◌∷◌, ◌++◌, length, drop, refl, ap, sym, ◌∙◌, subst, Option, Some, None}
+use Rattle.std.proofs.Common.{◌≡◌, inl, inr, ℕ, ◌≤◌, ◌^◌, List, [], ◌∷◌, ◌++◌, length, refl, ap, sym, ◌∙◌, subst, Option, Some, None}
 use Rattle.std.specs.Prelude.{option_and_then}
-use Rattle.mrdt_model.specs.Laws.{Meaning, KeepsLaws}
-use Rattle.branch_names.specs.declared.terms.Terms.{Terms}
-use Rattle.branch_objects_codec.specs.Grammar.{IsCommit}
-use Rattle.branch_wire.specs.Objects.{CommitFields, commit_object}
+use Rattle.mrdt_model.specs.Laws.{Meaning}
 use Rattle.branch_wire.specs.StoredObjects.{Stored, collision, fresh, file_of}
 use Rattle.branch_history.specs.declared.moves.Move.{Move}
 use Rattle.branch_history.specs.declared.moves.Move.TheVariants as move
 use Rattle.branch_history.specs.Commits.{Commit, greatest_clock, visible}
-use Rattle.branch_history.specs.History.{Store, store_of, operation_commit, merge_commit}
+use Rattle.branch_history.specs.History.{Store, operation_commit, merge_commit}
 use Rattle.branch_history.specs.Machine.{makes, answers, event_made, received_operation_refusal, received_merge_refusal, receive_operation_turn, receive_merge_turn, turn}
 use Rattle.branch_history.specs.Steps as machine
 use Rattle.branch_history.specs.Validity.{IsValid}
 use Rattle.branch_history.proofs.Histories.{received-operation}
 use Rattle.branch_history.proofs.Valid.{made_unless, store_of-more}
 use Rattle.branch_machine.specs.Fixed.{Fixed, fix}
-use Rattle.branch_machine.specs.Objects.{Pair, both, store_after, pairs_of, objects_of, end_of}
+use Rattle.branch_machine.specs.Objects.{Pair, both, store_after, objects_of, end_of}
 use Rattle.branch_machine.specs.Machine.{collision_refusal, commit_received, pair_next, commit_at, commit_here, full_turn}
-use Rattle.branch_machine.specs.Laws.{HasSize, IsNew}
-use Rattle.branch_machine.specs.Validity.{IsFullMove, IsFullyValid, IsItem, Receives}
+use Rattle.branch_machine.specs.Laws.{IsNew}
+use Rattle.branch_machine.specs.Validity.{IsItem, Receives}
 use Rattle.branch_machine.proofs.Valid.{full_move-is}
 use Rattle.branch_files.specs.Records.{record_with, new_address}
 use Rattle.heads_journal.specs.declared.record.Record.TheVariants as journal
-use Rattle.machine_answers.specs.Answers.{Answer, Made, Still, Refused, Short, TurnsAs, CountsAs}
+use Rattle.machine_answers.specs.Answers.{Answer, Made, Still, Refused, TurnsAs, CountsAs}
 use Rattle.mrdt_model.specs.declared.errors.Unread.{Unread}
 use Rattle.mrdt_model.specs.declared.errors.Unread.TheVariants as unread
 use Rattle.object_store.specs.declared.errors.StageRefused.{StageRefused}
@@ -33,18 +30,17 @@ use Rattle.object_store.specs.Views.{ObjectsView}
 use Rattle.store_seen.specs.declared.answers.ReceiveRefused as seen
 use Rattle.store_seen.specs.declared.answers.ReceiveRefused.TheVariants as seen_refusal
 use Rattle.store_seen.specs.Answers.{not_received}
-use Rattle.store_seen.specs.Arrivals.{MayReceive}
 use Rattle.store_seen.specs.Turns.{StoodAt, StoodBefore}
 use Rattle.store_seen.specs.Turns as turns
 use Rattle.store_seen.specs.Views.{CoreView, VersionsView}
-use Rattle.recorded_history.specs.Asks.{item_with, IsAddressed}
+use Rattle.recorded_history.specs.Asks.{IsAddressed}
 use Rattle.recorded_history.specs.Keeps.{IsRecorded}
 use Rattle.recorded_history.specs.Machine.{FullyRefuses, IsRecordOf, addresses_of}
 use Rattle.recorded_history.specs.Receives.{HasTurn, AnswersItem, ReceivesItem, item_refused, refused_item, unstaged_item, unread_item}
 use Rattle.recorded_history.specs.Views.{RecordedView, recorded_of}
 use Rattle.recorded_history.specs.declared.arrivals.ReceiveRefused.{ReceiveRefused}
 use Rattle.recorded_history.specs.declared.arrivals.ReceiveRefused.TheVariants as refusal
-use Rattle.recorded_history.proofs.Kept.{settled-kept, core-settled, core-more, settled-valid, settled-addressed, settled-whole, pending-one, recorded-more}
+use Rattle.recorded_history.proofs.Kept.{core-settled, laid-out, core-more, settled-valid, settled-addressed, pending-one, recorded-more}
 use Rattle.recorded_history.proofs.Steps.{full-makes, full-collides, full-refuses, one-refused, one-stored, one-addresses, one-address, refusal_for, new_pair}
 
 -- a move that receives a commit
@@ -230,7 +226,7 @@ item-stays {S} {O} {R} {Q} {A} fixed item r new why none same is =
 pub item-here : {S O R Q A : Type 0} (fixed : Fixed S O R Q A) (item : Pair) (r : RecordedView (Move O R)) (n : ℕ) → r.pending ≡ [] → commit_at fixed r.written item ≡ Some n → ReceivesItem fixed item r r (Still (machine.Here n))
 item-here fixed item r n none is = record { answers = (answers (machine.Here n), inl (n, is, refl), refl, none); rest = refl; counted = tt }
 
-module _ {S O R Q A : Type 0} (meaning : Meaning S O R Q A) (address : List ℕ → List ℕ) (settled : CoreView (Move O R)) (old : VersionsView (Move O R)) (objects : ObjectsView) (stood : Option ℕ) (kept : IsRecorded meaning address (recorded_of settled old.core) stood old objects) (none : (recorded_of settled old.core).pending ≡ []) where
+module _ {S O R Q A : Type 0} (meaning : Meaning S O R Q A) (address : List ℕ → List ℕ) (settled : CoreView (Move O R)) (old : VersionsView (Move O R)) (objects : ObjectsView) (stood : List ℕ) (kept : IsRecorded meaning address (recorded_of settled old.core) stood old objects) (none : (recorded_of settled old.core).pending ≡ []) where
   abbrev own : Fixed S O R Q A
   own = fix meaning settled.terms address
 
@@ -239,7 +235,7 @@ module _ {S O R Q A : Type 0} (meaning : Meaning S O R Q A) (address : List ℕ 
 
   -- each commit has its address
   pub addressed : IsAddressed meaning address old
-  addressed = let k = settled-kept meaning address settled old objects stood kept none in record { valid = k.valid; addressed = k.addressed }
+  addressed = let k = laid-out meaning address settled old objects stood kept in record { valid = k.valid; addressed = k.addressed }
 
   module _ (item : Pair) (unseen : commit_at own settled.history item ≡ None) (step : machine.Step O Q) (of : IsItem own settled.history step item) (staged : ObjectsView) (free : collision address objects.stored (both item) ≡ None) (stored_is : staged.stored ≡ objects.stored) (staged_is : staged.staged ≡ fresh objects.stored (both item))
       (new : VersionsView (Move O R)) (commit moves : ℕ) (given : List ℕ) (given_is : given ≡ address item.commit) (steps : turns.Steps meaning step old new (old.addresses ++ given ∷ []) (Made (machine.New commit) moves)) where
@@ -275,7 +271,7 @@ module _ {S O R Q A : Type 0} (meaning : Meaning S O R Q A) (address : List ℕ 
     stood_at = subst (λ (m : Move O R). StoodAt settled.terms settled.history m 0) (sym (arrival own settled.history item unseen step of made outcome turned).is) tt
 
     -- the move is pending
-    pub item-kept : IsValid meaning new.core.terms new.core.history → IsRecorded meaning address (recorded_of settled new.core) (Some 0) new staged
+    pub item-kept : IsValid meaning new.core.terms new.core.history → IsRecorded meaning address (recorded_of settled new.core) (0 ∷ []) new staged
     item-kept valid =
         recorded-more meaning address settled made new longer staged 0 (settled-valid meaning address settled old objects stood kept) valid (new-is own settled.history item unseen step of made outcome turned no_clash) (free-is own settled.history item unseen step of made outcome turned no_clash) stood_at
         (ap (λ (v : VersionsView (Move O R)). v.addresses) steps.rest ∙ ap (λ (l : List (List ℕ)). l ++ given ∷ []) (settled-addressed meaning address settled old objects stood kept none) ∙ ap (λ (a : List ℕ). addresses_of own settled.history ++ a ∷ []) given_is

@@ -6,7 +6,7 @@ use Rattle.branch_history.specs.Steps as machine
 use Rattle.branch_history.specs.Machine.{answers}
 use Rattle.heads_journal.specs.declared.record.Record.{Record}
 use Rattle.branch_machine.specs.Fixed.{Fixed}
-use Rattle.branch_machine.specs.Objects.{store_after, pairs_of}
+use Rattle.branch_machine.specs.Objects.{store_after, pairs_of, region}
 use Rattle.branch_machine.specs.Machine.{full_turn}
 use Rattle.branch_files.specs.Records.{record_of}
 use Rattle.machine_answers.specs.Answers.{Answer, TurnsAs, CountsAs, behind}
@@ -32,10 +32,22 @@ pub record Makes {S O R Q A : Type 0} (fixed : Fixed S O R Q A) (old new : Recor
   pub counted : moves ≡ length old.written + 1
   pub recorded : r ≡ record_of fixed old.written made
 
+-- the same behind the moves that are pending already
+pub record MakesMore {S O R Q A : Type 0} (fixed : Fixed S O R Q A) (old new : RecordedView (Move O R)) (step : machine.Step O Q) (made : Move O R) (outcome : machine.Outcome A R) (moves : ℕ) (r : Record) : Type 0 where
+  pub turn_is : full_turn fixed (old.written ++ old.pending) step ≡ record { outcome = outcome; made = made ∷ [] }
+  pub pending : new ≡ record old { pending = old.pending ++ made ∷ [] }
+  pub counted : moves ≡ length (old.written ++ old.pending) + 1
+  pub recorded : r ≡ record_of fixed (old.written ++ old.pending) made
+
 -- what was prepared landed as the machine's step does it
 abbrev pub LandsAs : {S O R Q A : Type 0} → Fixed S O R Q A → PreparedView O R → RecordedView (Move O R) → RecordedView (Move O R) → Made R → Type 0
 LandsAs {S} {O} {R} {Q} {A} fixed prepared old new made =
     Makes fixed old new (step_of prepared.seen prepared.work) (move_of prepared.seen.branch prepared.work) (outcome_of made.landed.kind) made.landed.moves made.record
+
+-- and behind the moves that are pending already
+abbrev pub LandsMore : {S O R Q A : Type 0} → Fixed S O R Q A → PreparedView O R → RecordedView (Move O R) → RecordedView (Move O R) → Made R → Type 0
+LandsMore {S} {O} {R} {Q} {A} fixed prepared old new made =
+    MakesMore fixed old new (step_of prepared.seen prepared.work) (move_of prepared.seen.branch prepared.work) (outcome_of made.landed.kind) made.landed.moves made.record
 
 -- a branch forked as the machine's step does it
 abbrev pub Forks : {S O R Q A : Type 0} → Fixed S O R Q A → List ℕ → List ℕ → RecordedView (Move O R) → RecordedView (Move O R) → Branched → Type 0
@@ -70,3 +82,8 @@ place_answer (Err refused) = not_placed refused
 abbrev pub drop_answer : {A R M : Type 0} → SeenView M → Result Dropped DropRefused → Answer A R
 drop_answer seen (Ok made) = dropped seen made.moves
 drop_answer seen (Err refused) = not_dropped refused
+
+-- what moves that are made one behind the other append to the file of objects, all of them
+abbrev pub regions : {S O R Q A : Type 0} → Fixed S O R Q A → List (Move O R) → List (Move O R) → List ℕ
+regions fixed history [] = []
+regions fixed history (made ∷ more) = region fixed history made ++ regions fixed (history ++ made ∷ []) more

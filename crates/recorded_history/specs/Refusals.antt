@@ -1,5 +1,5 @@
 -- The machine's refusals, of what the calls of a recorded history refuse.
-use Rattle.std.specs.Prelude.{◌≡◌, List, ℕ, IsTrue}
+use Rattle.std.specs.Prelude.{◌≡◌, List, [], ℕ, IsTrue}
 use Rattle.branch_graph.specs.Graph.{reaches}
 use Rattle.branch_history.specs.declared.moves.Move.{Move}
 use Rattle.branch_history.specs.Commits.{graph_of}
@@ -17,6 +17,7 @@ use Rattle.store_seen.specs.Views.{PreparedView}
 use Rattle.recorded_history.specs.declared.answers.LandRefused.{LandRefused}
 use Rattle.recorded_history.specs.declared.answers.LandRefused.TheVariants as land_refusal
 use Rattle.recorded_history.specs.Machine.{FullyRefuses}
+use Rattle.recorded_history.specs.Views.{RecordedView}
 
 -- what cannot be staged cannot land, for the same reason
 abbrev pub stage_refused : StageRefused → LandRefused
@@ -41,6 +42,15 @@ LandRefusedAs fixed made history (land_refusal.FullCommits count) = FullyRefuses
 LandRefusedAs fixed made history (land_refusal.FullMoves count) = FullyRefuses fixed history (step_of made.seen made.work) (machine.FullMoves count)
 LandRefusedAs fixed made history (land_refusal.Collision address stored new) = FullyRefuses fixed history (step_of made.seen made.work) (machine.Collision address stored new)
 LandRefusedAs fixed made history land_refusal.Memory = Unit {0}
+
+-- nothing has changed; but where memory is short, no move is pending any more
+abbrev pub LeavesPending : {M : Type 0} → RecordedView M → RecordedView M → LandRefused → Type 0
+LeavesPending old new (land_refusal.Dropped branch) = new ≡ old
+LeavesPending old new (land_refusal.Stale newest) = new ≡ old
+LeavesPending old new (land_refusal.FullCommits count) = new ≡ old
+LeavesPending old new (land_refusal.FullMoves count) = new ≡ old
+LeavesPending old new (land_refusal.Collision address stored fresh) = new ≡ old
+LeavesPending old new land_refusal.Memory = new ≡ record old { pending = [] }
 
 -- the machine that keeps objects refuses a fork
 abbrev pub ForkRefusedAs : {S O R Q A : Type 0} → Fixed S O R Q A → List ℕ → List ℕ → List (Move O R) → ForkRefused → Type 0

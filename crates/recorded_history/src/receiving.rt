@@ -33,6 +33,9 @@ impl<T: Mrdt, A: Address> Recorded<T, A> {
         let fields = fields_of(self.alloc, commit)?;
         let made = arrival_of::<T, A>(self.alloc, &mut self.versions, value, &fields)?;
         self.versions.may_receive(&made)?;
+        if self.stood.reserve(1).is_err() {
+            return Err(ReceiveRefused::Memory);
+        }
         let address = stage_item(&mut self.objects, &made, value, fields)?;
         let end = self.objects.end();
         let Ok(taken) = self.versions.receive(made, address) else {
@@ -41,7 +44,7 @@ impl<T: Mrdt, A: Address> Recorded<T, A> {
         };
         // The longer history is valid: its count tells the proof so.
         let _moves = self.versions.moves();
-        self.stood = Some(0);
+        self.stood.push_reserved(0);
         Ok(Arrived::New {
             commit: taken.commit,
             moves: taken.moves,

@@ -20,8 +20,9 @@ ghost use Rattle.store_seen.specs.Groups.{grouped_at, IsGrouped, GroupRefusedAs,
 ghost use Rattle.store_seen.specs.Pairs.{IsPaired, PairRefusedAs, paired_at, IsStepOf, MergeRefusedAs};
 ghost use Rattle.store_seen.specs.Turns.{LookRefusedAs};
 ghost use Rattle.recorded_history.specs.Items.{lent_item};
-ghost use Rattle.recorded_history.specs.Machine.{addresses_of, commit_of_address, Forks, LandsAs, Steps, IsRecordOf, place_answer, drop_answer};
-ghost use Rattle.recorded_history.specs.Refusals.{ForkRefusedAs, LandRefusedAs};
+ghost use Rattle.recorded_history.specs.Keeps.{CameBehind, IsBackAt};
+ghost use Rattle.recorded_history.specs.Machine.{addresses_of, commit_of_address, Forks, LandsAs, LandsMore, Steps, IsRecordOf, place_answer, drop_answer, regions};
+ghost use Rattle.recorded_history.specs.Refusals.{ForkRefusedAs, LandRefusedAs, LeavesPending};
 ghost use Rattle.recorded_history.specs.Views.{core_of};
 
 use crate::addressed::Addressed;
@@ -43,8 +44,8 @@ use store_seen::{
     PlaceRefused, Seen, Versions,
 };
 
-/// A history with the bytes of its files. Contracts see a `RecordedView`: the moves that are written, the one that was
-/// made and is not written yet, and the terms.
+/// A history with the bytes of its files. Contracts see a `RecordedView`: the moves that are written, those that were
+/// made and are not written yet, and the terms.
 #[derive(Drop)]
 pub struct Recorded<T: Mrdt, A: Address> {
     pub(crate) alloc: Global,
@@ -52,8 +53,8 @@ pub struct Recorded<T: Mrdt, A: Address> {
     pub(crate) objects: Objects<A>,
     // What was there when no move was pending last.
     settled: Snapshot<Versions<T>>,
-    // Where the branch of the pending move stood before it, if one is pending.
-    pub(crate) stood: Option<u32>,
+    // For each pending move, where its branch stood before it.
+    pub(crate) stood: Vec<u32>,
 }
 
 impl<T: Mrdt, A: Address> Model for Recorded<T, A> {
@@ -66,8 +67,8 @@ impl<T: Mrdt, A: Address> Model for Recorded<T, A> {
     ghost view = { λ r. recorded_of r.settled.value.core r.versions.core };
 
     ghost invariant = { λ r.
-        IsRecorded T.meaning A.address (recorded_of r.settled.value.core r.versions.core) r.stood
-        r.versions r.objects };
+        IsRecorded T.meaning A.address (recorded_of r.settled.value.core r.versions.core)
+        r.stood.items r.versions r.objects };
 }
 
 impl<T: Mrdt, A: Address> Recorded<T, A> {
@@ -88,7 +89,7 @@ impl<T: Mrdt, A: Address> Recorded<T, A> {
             settled: Snapshot::of(&versions),
             versions,
             objects,
-            stood: None,
+            stood: Vec::new(alloc),
         })
     }
 
@@ -97,7 +98,7 @@ impl<T: Mrdt, A: Address> Recorded<T, A> {
         self.alloc
     }
 
-    /// How many moves the history has, the pending one counted. It is a valid history of a store that keeps objects.
+    /// How many moves the history has, the pending ones counted. It is a valid history of a store that keeps objects.
     pub fn moves(&self) -> u64
         ensures moves { result ≡ length (self.now.written ++ self.now.pending) }
         ensures valid { IsFullyValid (fix T.meaning self.now.terms A.address)
@@ -122,7 +123,7 @@ impl<T: Mrdt, A: Address> Recorded<T, A> {
         self.versions.into_moves()
     }
 
-    /// How many commits the store holds, commit 0 counted, and that of the pending move.
+    /// How many commits the store holds, commit 0 counted, and those of the pending moves.
     pub fn commits(&self) -> u32
         ensures { result
             ≡ length (store_of self.now.terms.origin
@@ -131,7 +132,7 @@ impl<T: Mrdt, A: Address> Recorded<T, A> {
         self.versions.commits()
     }
 
-    /// How many branches the store holds, `main`, those that were dropped and that of the pending move counted.
+    /// How many branches the store holds, `main`, those that were dropped and those of the pending moves counted.
     pub fn branches(&self) -> u32
         ensures { result
             ≡ length (store_of self.now.terms.origin
@@ -147,7 +148,7 @@ impl<T: Mrdt, A: Address> Recorded<T, A> {
         self.versions.terms()
     }
 
-    /// The name and the head of a branch, after the pending move, of a dropped one those that it had; `None` exactly
+    /// The name and the head of a branch, after the pending moves, of a dropped one those that it had; `None` exactly
     /// past the last branch. No other branch has the name of one that was not dropped.
     pub fn branch(&self, number: u32) -> Option<(Name, u32)>
         ensures named { IfSome result (λ found.
@@ -362,6 +363,22 @@ impl<T: Mrdt, A: Address> Recorded<T, A> {
             (LandRefusedAs (fix T.meaning self.old.terms A.address) prepared self.old.written) }
         ensures kept { OnErr result (self.new ≡ self.old) }
     {
+        self.land_more(prepared)
+    }
+
+    /// Lands what was prepared, as `land` does, behind the moves that are pending already; then it is pending too. It is
+    /// refused exactly as the machine refuses it behind those moves, and then nothing has changed; but where memory is
+    /// short, no move is pending any more.
+    pub fn land_more(&mut self, prepared: Addressed<T, A>) -> Result<Made<T::Reply>, LandRefused>
+        requires history { IsPrefix prepared.seen.history (self.old.written ++ self.old.pending) }
+        requires terms { prepared.seen.terms ≡ self.old.terms }
+        ensures made { IfOk result
+            (LandsMore (fix T.meaning self.old.terms A.address) prepared self.old self.new) }
+        ensures refused { IfErr result
+            (LandRefusedAs (fix T.meaning self.old.terms A.address) prepared
+            (self.old.written ++ self.old.pending)) }
+        ensures kept { IfErr result (LeavesPending self.old self.new) }
+    {
         let Addressed {
             prepared,
             known,
@@ -369,21 +386,33 @@ impl<T: Mrdt, A: Address> Recorded<T, A> {
         } = prepared;
         self.versions.may_land(&prepared)?;
         let head = prepared.head();
-        let address = stage(
+        if self.stood.reserve(1).is_err() {
+            self.undo();
+            return Err(LandRefused::Memory);
+        }
+        let address = match stage(
             self.alloc,
             &self.versions,
             &mut self.objects,
             &prepared,
             known,
-        )?;
+        ) {
+            Ok(address) => address,
+            Err(LandRefused::Memory) => {
+                self.undo();
+                return Err(LandRefused::Memory);
+            }
+            Err(refused) => return Err(refused),
+        };
         let record = record_for(&prepared, address, self.objects.end());
         let Ok(landed) = self.versions.land(prepared, address) else {
+            take_back(&self.settled, &mut self.versions, &mut self.stood);
             self.objects.drop_staged();
             return Err(LandRefused::Memory);
         };
         // The longer history is valid: its count tells the proof so.
         let _moves = self.versions.moves();
-        self.stood = Some(head);
+        self.stood.push_reserved(head);
         Ok(Made { landed, record })
     }
 
@@ -401,10 +430,13 @@ impl<T: Mrdt, A: Address> Recorded<T, A> {
         let Some(source) = self.versions.find(from) else {
             return Err(ForkRefused::UnknownBranch { name: *from });
         };
+        if self.stood.reserve(1).is_err() {
+            return Err(ForkRefused::Memory);
+        }
         let forked = self.versions.fork(new, from)?;
         // The longer history is valid: its count tells the proof so.
         let _moves = self.versions.moves();
-        self.stood = Some(forked.head);
+        self.stood.push_reserved(forked.head);
         let record = Record::Fork {
             number: forked.number,
             from: source,
@@ -424,10 +456,13 @@ impl<T: Mrdt, A: Address> Recorded<T, A> {
         ensures recorded { IfOk result (λ made.
             IsRecordOf (fix T.meaning self.old.terms A.address) self.new made.record) }
     {
+        if self.stood.reserve(1).is_err() {
+            return Err(PlaceRefused::Memory);
+        }
         let forked = self.versions.place(name, commit)?;
         // The longer history is valid: its count tells the proof so.
         let _moves = self.versions.moves();
-        self.stood = Some(forked.head);
+        self.stood.push_reserved(forked.head);
         let record = Record::Place {
             number: forked.number,
             commit,
@@ -450,10 +485,13 @@ impl<T: Mrdt, A: Address> Recorded<T, A> {
         ensures recorded { IfOk result (λ made.
             IsRecordOf (fix T.meaning self.old.terms A.address) self.new made.record) }
     {
+        if self.stood.reserve(1).is_err() {
+            return Err(DropRefused::Memory);
+        }
         let moves = self.versions.drop_branch(seen)?;
         // The longer history is valid: its count tells the proof so.
         let _moves = self.versions.moves();
-        self.stood = Some(seen.head());
+        self.stood.push_reserved(seen.head());
         let record = Record::Drop {
             branch: seen.branch(),
             end: self.objects.end(),
@@ -461,8 +499,10 @@ impl<T: Mrdt, A: Address> Recorded<T, A> {
         Ok(Dropped { moves, record })
     }
 
-    /// The bytes that the pending move adds to the objects; none where no move is pending.
+    /// The bytes that the pending moves add to the objects; none where no move is pending.
     pub fn region(&self) -> &[u8]
+        ensures all { result.now
+            ≡ regions (fix T.meaning self.now.terms A.address) self.now.written self.now.pending }
         ensures region { (made : Move T.Op T.Reply) → self.now.pending ≡ made ∷ []
             → result.now ≡ region (fix T.meaning self.now.terms A.address) self.now.written made }
         ensures none { self.now.pending ≡ [] → result.now ≡ [] }
@@ -470,7 +510,7 @@ impl<T: Mrdt, A: Address> Recorded<T, A> {
         self.objects.staged()
     }
 
-    /// Where the objects end, behind those of the pending move.
+    /// Where the objects end, behind those of the pending moves.
     pub fn end(&self) -> u64
         ensures { result ≡ end_of (fix T.meaning self.now.terms A.address)
             (self.now.written ++ self.now.pending) }
@@ -505,8 +545,8 @@ impl<T: Mrdt, A: Address> Recorded<T, A> {
         self.objects.create_in(disk)
     }
 
-    /// Writes the objects of the pending move behind the others, and syncs them; where there are none, it makes no
-    /// device call. Then the move is still pending.
+    /// Writes the objects of the pending moves behind the others, and syncs them; where there are none, it makes no
+    /// device call. Then the moves are still pending.
     pub fn write<D: Disk>(&self, disk: &mut D) -> Result<(), DiskFailed>
         requires { AllBegin (objects_text (fix T.meaning self.now.terms A.address) self.now.written)
             (D.may_leave disk.old) }
@@ -526,10 +566,21 @@ impl<T: Mrdt, A: Address> Recorded<T, A> {
             (Holds (end_of (fix T.meaning self.now.terms A.address) self.now.written)
             (region (fix T.meaning self.now.terms A.address) self.now.written made)))
             (D.contents disk.old) (D.contents disk.new)) }
+        ensures all_written { OnOk result (Tells
+            (OnPart Part.Objects
+            (Holds (end_of (fix T.meaning self.now.terms A.address) self.now.written)
+            (regions (fix T.meaning self.now.terms A.address) self.now.written self.now.pending)))
+            (D.contents disk.old) (D.contents disk.new)) }
         ensures torn { (made : Move T.Op T.Reply) → self.now.pending ≡ made ∷ []
             → Tells (OnPart Part.Objects
             (Torn (end_of (fix T.meaning self.now.terms A.address) self.now.written)
             (length (region (fix T.meaning self.now.terms A.address) self.now.written made))))
+            (D.contents disk.old) (D.contents disk.new) }
+        ensures all_torn { Tells
+            (OnPart Part.Objects
+            (Torn (end_of (fix T.meaning self.now.terms A.address) self.now.written)
+            (length
+            (regions (fix T.meaning self.now.terms A.address) self.now.written self.now.pending))))
             (D.contents disk.old) (D.contents disk.new) }
         ensures untouched { objects_of (fix T.meaning self.now.terms A.address)
             (self.now.written ++ self.now.pending)
@@ -540,7 +591,7 @@ impl<T: Mrdt, A: Address> Recorded<T, A> {
         self.objects.write(disk)
     }
 
-    /// Counts the pending move, if there is one, as written. It takes no memory.
+    /// Counts the pending moves as written. It takes no memory.
     pub fn settle(&mut self)
         ensures { self.new ≡ record {
           written = self.old.written ++ self.old.pending;
@@ -550,18 +601,31 @@ impl<T: Mrdt, A: Address> Recorded<T, A> {
     {
         self.objects.keep_staged();
         self.settled = Snapshot::of(&self.versions);
-        self.stood = None;
+        self.stood.clear();
     }
 
-    /// Takes the pending move, if there is one, off again. It takes no memory.
+    /// Takes the pending moves off again. It takes no memory.
     pub fn undo(&mut self)
         ensures { self.new ≡ record self.old { pending = [] } }
     {
-        let Some(head) = self.stood else {
-            return;
-        };
-        self.versions.undo(head);
+        take_back(&self.settled, &mut self.versions, &mut self.stood);
         self.objects.drop_staged();
-        self.stood = None;
     }
+}
+
+// Takes moves off again, the last one first, until those are left that were settled.
+fn take_back<T: Mrdt>(
+    settled: &Snapshot<Versions<T>>,
+    versions: &mut Versions<T>,
+    stood: &mut Vec<u32>,
+)
+    requires { CameBehind settled.now.value.core versions.old.core stood.old.items }
+    ensures back { IsBackAt settled.now.value.core versions.old versions.new }
+    ensures none { stood.new.items ≡ [] }
+{
+    while let Some(head) = stood.pop() {
+        versions.undo(head);
+    }
+    // Each commit has an address: their count tells the proof so.
+    let _count = versions.commits();
 }

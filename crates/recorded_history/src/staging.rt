@@ -6,7 +6,7 @@ ghost use Rattle.branch_history.specs.History.{store_of};
 ghost use Rattle.branch_machine.specs.Fixed.{fix};
 ghost use Rattle.store_seen.specs.Turns.{MayLand, move_of};
 ghost use Rattle.recorded_history.specs.Addresses.{IsValueAddress};
-ghost use Rattle.recorded_history.specs.Keeps.{IsSettled, IsStaged};
+ghost use Rattle.recorded_history.specs.Keeps.{IsLaidOut, IsStaged};
 ghost use Rattle.recorded_history.specs.Refusals.{LandRefusedAs};
 
 use crate::answers::LandRefused;
@@ -31,10 +31,11 @@ pub(crate) fn stage<T: Mrdt, A: Address>(
     requires terms { prepared.now.seen.terms ≡ versions.now.core.terms }
     requires may { MayLand T.meaning prepared.now versions.now.core }
     requires known { IfSome known (IsValueAddress T.meaning A.address prepared.now) }
-    requires settled { IsSettled T.meaning A.address versions.now objects.old }
+    requires laid_out { IsLaidOut T.meaning A.address versions.now objects.old }
     ensures staged { IfOk result
         (IsStaged (fix T.meaning versions.now.core.terms A.address) versions.now.core.history
-        prepared.now.work (move_of prepared.now.seen.branch prepared.now.work) objects.new) }
+        prepared.now.work (move_of prepared.now.seen.branch prepared.now.work) objects.old
+        objects.new) }
     ensures refused { IfErr result
         (LandRefusedAs (fix T.meaning versions.now.core.terms A.address) prepared.now
         versions.now.core.history) }

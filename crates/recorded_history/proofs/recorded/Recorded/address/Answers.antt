@@ -17,6 +17,6 @@ returns-else-commit-commits g c =
     let addresses : List (List ℕ) = self.versions.addresses in
     let counted : c.commits.result ≡ length addresses = c.commits.ensures.count ∙ sym c.commits.ensures.addressed in
     let past : length addresses ≤ c.args.commit = subst (λ (n : ℕ). n ≤ c.args.commit) counted c.if-commit-commits.false in
-    let known = settled-addressed meaning address settled self.versions self.objects self.stood c.self.invariant none in
+    let known = settled-addressed meaning address settled self.versions self.objects self.stood.items c.self.invariant none in
     subst (λ r. None ≡ slice_get (addresses_of (fix meaning r.terms address) r.written) c.args.commit) c.self.view_is
     (sym (slice_get_past addresses c.args.commit past) ∙ ap (λ l. slice_get l c.args.commit) known)

@@ -1,5 +1,5 @@
 -- The move is pending, as the machine makes it.
-use Rattle.std.proofs.Common.{◌≡◌, [], ◌∷◌, ◌++◌, length, refl, ap, sym, ◌∙◌, subst, length-append}
+use Rattle.std.proofs.Common.{◌≡◌, [], ◌∷◌, ◌++◌, length, refl, ap, sym, ◌∙◌, subst, length-append, rules}
 use Rattle.std.proofs.lemmas.Result.{err_from_is_err_and}
 use Rattle.branch_names.specs.Heads.{branch_named}
 use Rattle.branch_wire.specs.StoredObjects.{file_of}
@@ -11,11 +11,12 @@ use Rattle.heads_journal.specs.declared.record.Record.TheVariants as journal
 use Rattle.branch_machine.specs.Fixed.{fix}
 use Rattle.branch_machine.specs.Objects.{end_of}
 use Rattle.store_seen.specs.Turns as turns
+use Rattle.recorded_history.specs.Keeps.{IsRecorded}
 use Rattle.recorded_history.specs.Machine.{Makes, FullyRefuses}
 use Rattle.recorded_history.specs.Refusals.{ForkRefusedAs}
 use Rattle.recorded_history.specs.Views.{recorded_of}
 use Rattle.recorded_history.proofs.Steps.{full-makes, none-free, none-objects, none-addresses}
-use Rattle.recorded_history.proofs.Kept.{core-settled, core-more, settled-valid, settled-addressed, settled-whole, pending-one, recorded-more}
+use Rattle.recorded_history.proofs.Kept.{unmoved, core-settled, core-more, settled-valid, settled-addressed, settled-whole, pending-one, recorded-more}
 use Rattle.recorded_history.proofs.Forks.{fork-source, fork-is_unknown, fork-refused, fork-same}
 use Rattle.recorded_history.proofs.recorded.Recorded.fork.Goals as goal
 
@@ -26,7 +27,7 @@ returns-in_default-clause-refused g c =
     let self = c.self.inside in
     let settled = self.settled.value.core in
     let none = ap (λ r. r.pending) c.self.view_is ∙ c.requires.settled in
-    let core = core-settled meaning address settled self.versions self.objects self.stood c.self.invariant none in
+    let core = core-settled meaning address settled self.versions self.objects self.stood.items c.self.invariant none in
     let missing = ap (λ k. branch_named (store_of k.terms.origin k.history).branches c.args.from.now) (sym core) ∙ sym c.find.ensures.number ∙ c.in_default.is in
     (refl, subst (λ r. FullyRefuses (fix meaning r.terms address) r.written (machine.Fork c.args.new c.args.from.now) (machine.UnknownBranch c.args.from.now)) c.self.view_is (fork-is_unknown (fix meaning settled.terms address) settled.history c.args.new c.args.from.now missing))
 
@@ -37,7 +38,7 @@ returns-in_err-forked-clause-refused g c =
     let self = c.self.inside in
     let settled = self.settled.value.core in
     let none = ap (λ r. r.pending) c.self.view_is ∙ c.requires.settled in
-    let core = core-settled meaning address settled self.versions self.objects self.stood c.self.invariant none in
+    let core = core-settled meaning address settled self.versions self.objects self.stood.items c.self.invariant none in
     let e = c.in_err-forked.field-0.0 in
     let refused = subst (λ k. turns.ForkRefusedAs meaning c.args.new c.args.from.now k e) core c.in_err-forked.ensures.refused in
     let p = err_from_is_err_and c.from_residual.result c.from_residual.ensures.1 in
@@ -55,10 +56,13 @@ invariant_of-self-2 g c =
     let forks = c.in_ok-forked.ensures.forked in
     let made = move.Fork c.args.new forked.number forks.0 in
     let same = fork-same fixed settled.history c.args.new c.args.from.now forked.number forks.0 in
-    recorded-more meaning address settled made c.fork.new.self (core-more meaning address settled self.versions self.objects self.stood c.self.invariant none made c.fork.new.self.core forks.1.history) self.objects forked.head
-    (settled-valid meaning address settled self.versions self.objects self.stood c.self.invariant) c.moves-moves.ensures.valid tt (none-free fixed settled.history made same) tt
-    (c.in_ok-forked.ensures.addresses ∙ settled-addressed meaning address settled self.versions self.objects self.stood c.self.invariant none ∙ sym (none-addresses fixed settled.history made same)) c.self.invariant.stored
-    (settled-whole meaning address settled self.versions self.objects self.stood c.self.invariant none ∙ sym (none-objects fixed settled.history made same))
+    let kept = recorded-more meaning address settled made c.fork.new.self (core-more meaning address settled self.versions self.objects self.stood.items c.self.invariant none made c.fork.new.self.core forks.1.history) self.objects forked.head
+    (settled-valid meaning address settled self.versions self.objects self.stood.items c.self.invariant) c.moves-moves.ensures.valid tt (none-free fixed settled.history made same) tt
+    (c.in_ok-forked.ensures.addresses ∙ settled-addressed meaning address settled self.versions self.objects self.stood.items c.self.invariant none ∙ sym (none-addresses fixed settled.history made same)) c.self.invariant.stored
+    (settled-whole meaning address settled self.versions self.objects self.stood.items c.self.invariant none ∙ sym (none-objects fixed settled.history made same)) in
+    let room : c.reserve.new.self.items ≡ self.stood.items = search rules in
+    let none_stood = unmoved meaning address settled self.versions self.objects self.stood.items c.self.invariant none in
+    subst (λ s. IsRecorded meaning address (recorded_of settled c.fork.new.self.core) s c.fork.new.self self.objects) (sym (c.push_reserved.ensures.items ∙ ap (λ l. l ++ forked.head ∷ []) (room ∙ none_stood))) kept
 
 pub returns-clause-forked : goal.returns-clause-forked
 returns-clause-forked g c =
@@ -68,18 +72,18 @@ returns-clause-forked g c =
     let settled = self.settled.value.core in
     let fixed = fix meaning settled.terms address in
     let none = ap (λ r. r.pending) c.self.view_is ∙ c.requires.settled in
-    let core = core-settled meaning address settled self.versions self.objects self.stood c.self.invariant none in
+    let core = core-settled meaning address settled self.versions self.objects self.stood.items c.self.invariant none in
     let forked = c.in_ok-forked.forked in
     let forks = c.in_ok-forked.ensures.forked in
     let step = machine.Fork c.args.new c.args.from.now in
     let made = move.Fork c.args.new forked.number forks.0 in
     let outcome = machine.Forked forked.number forked.head in
     let same = fork-same fixed settled.history c.args.new c.args.from.now forked.number forks.0 in
-    let longer = core-more meaning address settled self.versions self.objects self.stood c.self.invariant none made c.fork.new.self.core forks.1.history in
+    let longer = core-more meaning address settled self.versions self.objects self.stood.items c.self.invariant none made c.fork.new.self.core forks.1.history in
     let turned = subst (λ k. turn meaning k.terms k.history step ≡ record { outcome = outcome; made = made ∷ [] }) core forks.1.turn_is in
     let there = ap (λ k. branch_named (store_of k.terms.origin k.history).branches c.args.from.now) (sym core) ∙ sym c.find.ensures.number ∙ c.in-Some.is in
     let source = fork-source meaning settled.terms settled.history c.args.new c.args.from.now c.in-Some.source forked.number forks.0 there (ap (λ t. t.made) turned) in
-    let whole = settled-whole meaning address settled self.versions self.objects self.stood c.self.invariant none ∙ sym (none-objects fixed settled.history made same) in
+    let whole = settled-whole meaning address settled self.versions self.objects self.stood.items c.self.invariant none ∙ sym (none-objects fixed settled.history made same) in
     let ends : c.end.result ≡ end_of fixed (settled.history ++ made ∷ []) = c.end.ensures ∙ ap (λ s. length (file_of s)) whole in (
       forks.0,
       subst (λ r. Makes (fix meaning r.terms address) r (recorded_of settled c.fork.new.self.core) step made outcome forked.moves (journal.Fork forked.number c.in-Some.source c.args.new c.end.result)) c.self.view_is

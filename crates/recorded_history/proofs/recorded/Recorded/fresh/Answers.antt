@@ -1,5 +1,5 @@
 -- The root commit alone, with the first value.
-use Rattle.std.proofs.Common.{◌++◌, None, ap, sym, ◌∙◌, subst}
+use Rattle.std.proofs.Common.{◌++◌, [], ap, sym, ◌∙◌, subst}
 use Rattle.recorded_history.specs.Keeps.{IsRecorded}
 use Rattle.recorded_history.specs.Views.{recorded_of}
 use Rattle.recorded_history.proofs.Fresh.{first-spelled, recorded-fresh}
@@ -14,5 +14,6 @@ invariant_of-result g c =
     let objects = c.in_ok-objects in
     let spelled =
     c.deref.ensures.value ∙ c.in_ok-put.ensures.ok ∙ ap (λ l. l ++ meaning.state_spelling c.initial.result) c.new-value.ensures.items ∙ first-spelled meaning laws c.initial.result c.initial.ensures in
-    subst (λ v. IsRecorded meaning address (recorded_of v.core versions.core) None versions objects.objects) (sym c.of.ensures)
-    (recorded-fresh meaning address c.args.terms versions objects.objects c.deref.result.now objects.root spelled c.in_ok-versions.ensures objects.ensures.stored objects.ensures.staged objects.ensures.root)
+    subst (λ s. IsRecorded meaning address (recorded_of c.of.result.value.core versions.core) s versions objects.objects) (sym c.new.ensures.items)
+    (subst (λ v. IsRecorded meaning address (recorded_of v.core versions.core) [] versions objects.objects) (sym c.of.ensures)
+    (recorded-fresh meaning address c.args.terms versions objects.objects c.deref.result.now objects.root spelled c.in_ok-versions.ensures objects.ensures.stored objects.ensures.staged objects.ensures.root))

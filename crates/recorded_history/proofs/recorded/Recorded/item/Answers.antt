@@ -1,5 +1,5 @@
 -- The first objects, or those that the index finds.
-use Rattle.std.proofs.Common.{◌≡◌, ◌<◌, ap, ◌∙◌, arith, subst, None, slice_get}
+use Rattle.std.proofs.Common.{◌≡◌, ap, ◌∙◌, arith, subst, None, slice_get}
 use Rattle.branch_history.specs.History.{store_of}
 use Rattle.branch_machine.specs.Fixed.{fix}
 use Rattle.branch_machine.specs.Objects.{pairs_of}
@@ -17,7 +17,7 @@ returns-then-commit-commits g c =
     let count = c.commits.ensures.count in
     let past = c.if-commit-commits.true in
     subst (λ r. None ≡ slice_get (pairs_of (fix meaning r.terms address) (store_of r.terms.origin r.written).commits) c.args.commit) c.self.view_is
-    (item-past meaning laws address g.met.A.Address.size self.settled.value.core self.versions self.objects self.stood c.self.invariant none c.args.commit (omega (arith, count, past)))
+    (item-past meaning laws address g.met.A.Address.size self.settled.value.core self.versions self.objects self.stood.items c.self.invariant none c.args.commit (omega (arith, count, past)))
 
 pub returns-in-0 : goal.returns-in-0
 returns-in-0 g c =
@@ -29,7 +29,7 @@ returns-in-0 g c =
     let count = c.commits.ensures.count in
     let less = c.if-commit-commits.false in
     subst (λ r. lent_item c.first_item.result ≡ slice_get (pairs_of (fix meaning r.terms address) (store_of r.terms.origin r.written).commits) c.args.commit) c.self.view_is
-    (item-first meaning laws address g.met.A.Address.size self.settled.value.core self.versions self.objects self.stood c.self.invariant none (lent_item c.first_item.result) c.args.commit c.in-0.is (omega (arith, count, less)) c.first_item.ensures)
+    (item-first meaning laws address g.met.A.Address.size self.settled.value.core self.versions self.objects self.stood.items c.self.invariant none (lent_item c.first_item.result) c.args.commit c.in-0.is (omega (arith, count, less)) c.first_item.ensures)
 
 pub returns-in_default : goal.returns-in_default
 returns-in_default g c =
@@ -42,4 +42,4 @@ returns-in_default g c =
     let less = c.if-commit-commits.false in
     let some = c.in_default in
     subst (λ r. lent_item c.item_at.result ≡ slice_get (pairs_of (fix meaning r.terms address) (store_of r.terms.origin r.written).commits) c.args.commit) c.self.view_is
-    (item-behind meaning laws address g.met.A.Address.size self.settled.value.core self.versions self.objects self.stood c.self.invariant none (lent_item c.item_at.result) c.args.commit c.address.result.now (omega (arith, some)) (omega (arith, count, less)) c.address.ensures.address c.item_at.ensures)
+    (item-behind meaning laws address g.met.A.Address.size self.settled.value.core self.versions self.objects self.stood.items c.self.invariant none (lent_item c.item_at.result) c.args.commit c.address.result.now (omega (arith, some)) (omega (arith, count, less)) c.address.ensures.address c.item_at.ensures)

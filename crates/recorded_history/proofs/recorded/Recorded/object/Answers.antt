@@ -13,6 +13,6 @@ returns g c =
     let address = g.A.Address.address in
     let self = c.self.inside in
     let none = ap (λ r. r.pending) c.self.view_is ∙ c.requires.settled in
-    let whole = settled-whole meaning address self.settled.value.core self.versions self.objects self.stood c.self.invariant none in
+    let whole = settled-whole meaning address self.settled.value.core self.versions self.objects self.stood.items c.self.invariant none in
     subst (λ r. option_copied c.get.result ≡ first_with address c.args.address.now (objects_of (fix meaning r.terms address) r.written)) c.self.view_is
     (c.get.ensures ∙ ap (first_with address c.args.address.now) whole)

@@ -1,5 +1,5 @@
 -- The item is answered as the machine receives it.
-use Rattle.std.proofs.Common.{◌≡◌, [], ◌∷◌, ◌++◌, length, None, Some, Err, refl, ap, sym, ◌∙◌, subst}
+use Rattle.std.proofs.Common.{◌≡◌, [], ◌∷◌, ◌++◌, length, None, Err, refl, ap, sym, ◌∙◌, subst, rules}
 use Rattle.std.proofs.lemmas.Result.{err_from_is_err_and}
 use Rattle.branch_wire.specs.Objects.{commit_object}
 use Rattle.branch_wire.specs.StoredObjects.{collision, fresh}
@@ -8,18 +8,20 @@ use Rattle.branch_history.specs.Machine.{makes, turn}
 use Rattle.branch_history.specs.Steps as machine
 use Rattle.branch_machine.specs.Fixed.{fix}
 use Rattle.branch_machine.specs.Machine.{commit_at}
-use Rattle.branch_machine.specs.Objects.{Pair, both, objects_of}
+use Rattle.branch_machine.specs.Objects.{Pair, both}
 use Rattle.heads_journal.specs.declared.record.Record.TheVariants as journal
 use Rattle.machine_answers.specs.Answers.{Made, TurnsAs}
 use Rattle.object_store.specs.Refusals.{RefusesToStage}
 use Rattle.store_seen.specs.Answers.{not_received}
 use Rattle.store_seen.specs.Turns as turns
-use Rattle.recorded_history.specs.Asks.{fields_in, item_with}
+use Rattle.recorded_history.specs.Asks.{fields_in}
+use Rattle.recorded_history.specs.Keeps.{IsRecorded}
 use Rattle.recorded_history.specs.Machine.{IsRecordOf}
 use Rattle.recorded_history.specs.Receives.{ReceivesItem, item_refused, unread_item, refused_item, unstaged_item}
+use Rattle.recorded_history.specs.declared.arrivals.ReceiveRefused.TheVariants as refusal
 use Rattle.recorded_history.specs.Views.{recorded_of}
 use Rattle.recorded_history.proofs.Asked.{unread-none}
-use Rattle.recorded_history.proofs.Kept.{core-settled, settled-valid, settled-staged}
+use Rattle.recorded_history.proofs.Kept.{unmoved, core-settled, settled-valid, settled-staged}
 use Rattle.recorded_history.proofs.Taken.{item-moved, item-stays, item-kept, item-taken, item-record, seen-refuses, stage-refuses, unread-refused}
 use Rattle.recorded_history.proofs.recorded.Recorded.receive.Goals as goal
 
@@ -35,7 +37,7 @@ returns-in_err-fields-clause-receives g c =
     let item : Pair = record { value = c.args.value.now; commit = c.args.commit.now } in
     let unseen = subst (λ r. commit_at (fix meaning r.terms address) r.written item ≡ None) (sym c.self.view_is) (sym c.commit_of.ensures ∙ c.in_default.is) in
     let old = recorded_of settled self.versions.core in
-    let valid = settled-valid meaning address settled self.versions self.objects self.stood c.self.invariant in
+    let valid = settled-valid meaning address settled self.versions self.objects self.stood.items c.self.invariant in
     let e = c.in_err-fields.field-0.0 in
     let p = err_from_is_err_and c.from_residual.result c.from_residual.ensures.1 in
     rw (p.1, p.2)
@@ -51,7 +53,7 @@ returns-in_err-made-clause-receives g c =
     let settled = self.settled.value.core in
     let fixed = fix meaning settled.terms address in
     let none = ap (λ r. r.pending) c.self.view_is ∙ c.requires.settled in
-    let core = core-settled meaning address settled self.versions self.objects self.stood c.self.invariant none in
+    let core = core-settled meaning address settled self.versions self.objects self.stood.items c.self.invariant none in
     let item : Pair = record { value = c.args.value.now; commit = c.args.commit.now } in
     let unseen = subst (λ r. commit_at (fix meaning r.terms address) r.written item ≡ None) (sym c.self.view_is) (sym c.commit_of.ensures ∙ c.in_default.is) in
     let old = recorded_of settled self.versions.core in
@@ -72,7 +74,7 @@ returns-in_err-may_receive-clause-receives g c =
     let settled = self.settled.value.core in
     let fixed = fix meaning settled.terms address in
     let none = ap (λ r. r.pending) c.self.view_is ∙ c.requires.settled in
-    let core = core-settled meaning address settled self.versions self.objects self.stood c.self.invariant none in
+    let core = core-settled meaning address settled self.versions self.objects self.stood.items c.self.invariant none in
     let item : Pair = record { value = c.args.value.now; commit = c.args.commit.now } in
     let unseen = subst (λ r. commit_at (fix meaning r.terms address) r.written item ≡ None) (sym c.self.view_is) (sym c.commit_of.ensures ∙ c.in_default.is) in
     let v = c.arrival_of.new.versions in
@@ -89,10 +91,24 @@ returns-in_err-may_receive-clause-receives g c =
     (subst (λ r. ReceivesItem (fix meaning r.terms address) item r new (item_refused (refused_item e))) c.self.view_is
     (item-stays fixed item old new (refused_item e) none (ap (λ v. recorded_of settled v.core) c.in_ok-made.ensures.same) (seen-refuses fixed settled.history item unseen made.step of e refused)))
 
+pub returns-then-is_err-clause-receives : goal.returns-then-is_err-clause-receives
+returns-then-is_err-clause-receives g c =
+    let meaning = g.T.Mrdt.meaning in
+    let address = g.A.Address.address in
+    let self = c.self.inside in
+    let settled = self.settled.value.core in
+    let fixed = fix meaning settled.terms address in
+    let none = ap (λ r. r.pending) c.self.view_is ∙ c.requires.settled in
+    let item : Pair = record { value = c.args.value.now; commit = c.args.commit.now } in
+    let old = recorded_of settled self.versions.core in
+    let new = recorded_of settled c.arrival_of.new.versions.core in
+    subst (λ r. ReceivesItem (fix meaning r.terms address) item r new (item_refused refusal.Memory)) c.self.view_is
+    (item-stays fixed item old new refusal.Memory none (ap (λ v. recorded_of settled v.core) c.in_ok-made.ensures.same) refl)
+
 pub stage_item-requires-clause-staged : goal.stage_item-requires-clause-staged
 stage_item-requires-clause-staged g c κs within =
     let self = c.self.inside in
-    settled-staged g.T.Mrdt.meaning g.A.Address.address self.settled.value.core self.versions self.objects self.stood c.self.invariant (ap (λ r. r.pending) c.self.view_is ∙ c.requires.settled)
+    settled-staged g.T.Mrdt.meaning g.A.Address.address self.settled.value.core self.versions self.objects self.stood.items c.self.invariant (ap (λ r. r.pending) c.self.view_is ∙ c.requires.settled)
 
 pub returns-in_err-address-clause-receives : goal.returns-in_err-address-clause-receives
 returns-in_err-address-clause-receives g c =
@@ -102,7 +118,7 @@ returns-in_err-address-clause-receives g c =
     let settled = self.settled.value.core in
     let fixed = fix meaning settled.terms address in
     let none = ap (λ r. r.pending) c.self.view_is ∙ c.requires.settled in
-    let core = core-settled meaning address settled self.versions self.objects self.stood c.self.invariant none in
+    let core = core-settled meaning address settled self.versions self.objects self.stood.items c.self.invariant none in
     let item : Pair = record { value = c.args.value.now; commit = c.args.commit.now } in
     let unseen = subst (λ r. commit_at (fix meaning r.terms address) r.written item ≡ None) (sym c.self.view_is) (sym c.commit_of.ensures ∙ c.in_default.is) in
     let v = c.arrival_of.new.versions in
@@ -128,7 +144,7 @@ invariant_of-self-2 g c =
     let self = c.self.inside in
     let settled = self.settled.value.core in
     let none = ap (λ r. r.pending) c.self.view_is ∙ c.requires.settled in
-    let core = core-settled meaning address settled self.versions self.objects self.stood c.self.invariant none in
+    let core = core-settled meaning address settled self.versions self.objects self.stood.items c.self.invariant none in
     let item : Pair = record { value = c.args.value.now; commit = c.args.commit.now } in
     let unseen = subst (λ r. commit_at (fix meaning r.terms address) r.written item ≡ None) (sym c.self.view_is) (sym c.commit_of.ensures ∙ c.in_default.is) in
     let spelled = sym c.in_ok-fields.ensures.spelled in
@@ -143,7 +159,10 @@ invariant_of-self-2 g c =
     let taken = c.in-Ok.taken in
     let given = c.in_ok-address.address in
     let steps = subst (λ o. turns.Steps meaning made.step o new (o.addresses ++ given ∷ []) (Made (machine.New taken.commit) taken.moves)) c.in_ok-made.ensures.same c.in-Ok.ensures.steps in
-    item-kept meaning address settled self.versions self.objects self.stood c.self.invariant none item unseen made.step of staged free done.stored added new taken.commit taken.moves given (done.address ∙ ap address spelled) steps c.moves-moves.ensures.valid
+    let kept = item-kept meaning address settled self.versions self.objects self.stood.items c.self.invariant none item unseen made.step of staged free done.stored added new taken.commit taken.moves given (done.address ∙ ap address spelled) steps c.moves-moves.ensures.valid in
+    let room : c.reserve.new.self.items ≡ self.stood.items = search rules in
+    let none_stood = unmoved meaning address settled self.versions self.objects self.stood.items c.self.invariant none in
+    subst (λ s. IsRecorded meaning address (recorded_of settled new.core) s new staged) (sym (c.push_reserved.ensures.items ∙ ap (λ l. l ++ 0 ∷ []) (room ∙ none_stood))) kept
 
 pub returns-clause-receives : goal.returns-clause-receives
 returns-clause-receives g c =
@@ -152,7 +171,7 @@ returns-clause-receives g c =
     let self = c.self.inside in
     let settled = self.settled.value.core in
     let none = ap (λ r. r.pending) c.self.view_is ∙ c.requires.settled in
-    let core = core-settled meaning address settled self.versions self.objects self.stood c.self.invariant none in
+    let core = core-settled meaning address settled self.versions self.objects self.stood.items c.self.invariant none in
     let item : Pair = record { value = c.args.value.now; commit = c.args.commit.now } in
     let unseen = subst (λ r. commit_at (fix meaning r.terms address) r.written item ≡ None) (sym c.self.view_is) (sym c.commit_of.ensures ∙ c.in_default.is) in
     let spelled = sym c.in_ok-fields.ensures.spelled in
@@ -168,7 +187,7 @@ returns-clause-receives g c =
     let given = c.in_ok-address.address in
     let steps = subst (λ o. turns.Steps meaning made.step o new (o.addresses ++ given ∷ []) (Made (machine.New taken.commit) taken.moves)) c.in_ok-made.ensures.same c.in-Ok.ensures.steps in
     subst (λ r. ReceivesItem (fix meaning r.terms address) item r (recorded_of settled new.core) (Made (machine.New taken.commit) taken.moves)) c.self.view_is
-    (item-taken meaning address settled self.versions self.objects self.stood c.self.invariant none item unseen made.step of staged free done.stored added new taken.commit taken.moves given (done.address ∙ ap address spelled) steps)
+    (item-taken meaning address settled self.versions self.objects self.stood.items c.self.invariant none item unseen made.step of staged free done.stored added new taken.commit taken.moves given (done.address ∙ ap address spelled) steps)
 
 pub returns-clause-recorded : goal.returns-clause-recorded
 returns-clause-recorded g c =
@@ -177,7 +196,7 @@ returns-clause-recorded g c =
     let self = c.self.inside in
     let settled = self.settled.value.core in
     let none = ap (λ r. r.pending) c.self.view_is ∙ c.requires.settled in
-    let core = core-settled meaning address settled self.versions self.objects self.stood c.self.invariant none in
+    let core = core-settled meaning address settled self.versions self.objects self.stood.items c.self.invariant none in
     let item : Pair = record { value = c.args.value.now; commit = c.args.commit.now } in
     let unseen = subst (λ r. commit_at (fix meaning r.terms address) r.written item ≡ None) (sym c.self.view_is) (sym c.commit_of.ensures ∙ c.in_default.is) in
     let spelled = sym c.in_ok-fields.ensures.spelled in
@@ -193,4 +212,4 @@ returns-clause-recorded g c =
     let given = c.in_ok-address.address in
     let steps = subst (λ o. turns.Steps meaning made.step o new (o.addresses ++ given ∷ []) (Made (machine.New taken.commit) taken.moves)) c.in_ok-made.ensures.same c.in-Ok.ensures.steps in
     subst (λ r. IsRecordOf (fix meaning r.terms address) (recorded_of settled new.core) (journal.Received given c.end-end.result)) c.self.view_is
-    (item-record meaning address settled self.versions self.objects self.stood c.self.invariant none item unseen made.step of staged free done.stored added new taken.commit taken.moves given (done.address ∙ ap address spelled) steps c.end-end.result c.end-end.ensures)
+    (item-record meaning address settled self.versions self.objects self.stood.items c.self.invariant none item unseen made.step of staged free done.stored added new taken.commit taken.moves given (done.address ∙ ap address spelled) steps c.end-end.result c.end-end.ensures)

@@ -1,5 +1,5 @@
 -- What was settled last is there again.
-use Rattle.std.proofs.Common.{subst}
+use Rattle.std.proofs.Common.{sym, subst}
 use Rattle.recorded_history.specs.Keeps.{IsRecorded}
 use Rattle.recorded_history.specs.Views.{recorded_of}
 use Rattle.recorded_history.proofs.Kept.{recorded-back}
@@ -11,5 +11,5 @@ invariant_of-self g c =
     let address = g.A.Address.address in
     let self = c.self.inside in
     let settled = self.settled.value.core in
-    let kept = subst (λ s. IsRecorded meaning address (recorded_of settled self.versions.core) s self.versions self.objects) c.in-Some.is c.self.invariant in
-    recorded-back meaning address settled self.versions c.undo.new.self self.objects c.drop_staged.new.self c.in-Some.head kept c.undo.ensures c.drop_staged.ensures.stored c.drop_staged.ensures.staged
+    let kept = recorded-back meaning address settled self.versions c.take_back.new.versions self.objects c.drop_staged.new.self self.stood.items c.self.invariant c.take_back.ensures.back c.drop_staged.ensures.stored c.drop_staged.ensures.staged in
+    subst (λ s. IsRecorded meaning address (recorded_of settled c.take_back.new.versions.core) s c.take_back.new.versions c.drop_staged.new.self) (sym c.take_back.ensures.none) kept
