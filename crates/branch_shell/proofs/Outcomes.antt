@@ -140,11 +140,11 @@ module _ {S O R Q A : Type 0} (on : Setting S O R Q A) (old new : List (Move O R
   pub fault_rose : SomeTellFault outcomes → Rose on.opened (on.opened + faults)
   fault_rose some = fault_of_one some.0 some.1 (worked.each some.0 some.1 some.2) some.3
 
--- what may be left of a store reads as it, after a fault of the disk with or without a move behind its history
+-- what may be left of a store reads as it, after a fault of the disk with or without moves behind its history
 module _ {S O R Q A : Type 0} (of : ValueType S O R Q A) (address : List ℕ → List ℕ) (reads : ReadsWhatStands of.meaning) (store : Stored O R) (history : List (Move O R)) (valid : IsFullyValid (fixed_for of.meaning address store) history) where
   pub reads_failed : (c : Files) → MayBeLeft (fixed_for of.meaning address store) history c → ReadsUpTo of address store history DiskFault c
   reads_failed c (inl stands) = inl (reads store.terms address history c valid stands)
-  reads_failed c (inr more) = inr (refl, (more.0, reads store.terms address (history ++ more.0 ∷ []) c more.2 more.1))
+  reads_failed c (inr more) = inr (refl, (more.0, reads store.terms address (history ++ more.0) c more.2 more.1))
 
   pub reads_all : (images : Files → Type 0) → AllStand (fixed_for of.meaning address store) history images → (c : Files) → images c → ReadsAsStore of.meaning address (with_history store history) c
   reads_all images stand c left = reads store.terms address history c valid (stand c left)

@@ -106,11 +106,11 @@ RanTogether {S} {O} {R} may_leave of address told clients new text = (store : St
 abbrev pub CameTogether : {S O R Q A : Type 0} → ValueType S O R Q A → (List ℕ → List ℕ) → Stored O R → Clients → List (Move O R) → Type 0
 CameTogether of address store clients history = (history ≡ store.history) ⊎ ((outcomes : List Outcome) × WorkedTogether of address store clients history outcomes)
 
--- the files read as the store with this history; or with one move more, where the disk failed
+-- the files read as the store with this history; or with more moves behind it, where the disk failed
 abbrev pub ReadsUpTo : {S O R Q A : Type 0} → ValueType S O R Q A → (List ℕ → List ℕ) → Stored O R → List (Move O R) → Status → Files → Type 0
 ReadsUpTo {S} {O} {R} of address store history status c =
     ReadsAsStore of.meaning address (with_history store history) c
-    ⊎ ((status ≡ DiskFault) × ((made : Move O R) × ReadsAsStore of.meaning address (with_history store (history ++ made ∷ [])) c))
+    ⊎ ((status ≡ DiskFault) × ((more : List (Move O R)) × ReadsAsStore of.meaning address (with_history store (history ++ more)) c))
 
 -- However clients ended, each image of the disk reads as the store with the history that it came to by them.
 pub record LeftTogether {S O R Q A D : Type 0} (may_leave : D → Files → Type 0) (of : ValueType S O R Q A) (address : List ℕ → List ℕ) (store : Stored O R) (clients : Clients) (status : Status) (new : D) : Type 0 where

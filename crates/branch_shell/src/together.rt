@@ -196,7 +196,7 @@ fn run_together<
         (SaysUnopened (value_type T.meaning T.forms T.KIND) A.address (D.contents disk)) result.0
         (K.given sink.old) (K.given sink.new) }
     // However clients end, each image of the disk reads as the store with the history that it came to by them; where the
-    // disk failed, also as it with one move more.
+    // disk failed, also as it with more moves behind it.
     ensures crashes { (store : Stored T.Op T.Reply)
         → Holds D.contents D.may_leave T.meaning A.address disk store
         → LeftTogether D.may_leave (value_type T.meaning T.forms T.KIND) A.address store

@@ -92,7 +92,7 @@ fn read_clients(alloc: Global, words: &[String]) -> Result<Option<ClientWork>, M
 /// history whose report was written: it begins with the one that was found, each client's moves lie behind that in its
 /// own order, and the sum of the numbers of the lines, with the moves of clients that were refused, is how many moves lie
 /// behind the old history. Whatever the status, the files that are left read as the store with such a history, or with
-/// its own where no client began; after a fault of the disk also with one move more.
+/// its own where no client began; after a fault of the disk also with more moves behind it.
 pub fn run<S: Source, K: Sink, D: Disk + Drop + Send, A: Address + Send, R: Threads + Wait + Sync>(
     rt: &R,
     alloc: Global,

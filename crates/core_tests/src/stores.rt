@@ -7,10 +7,15 @@ use std::alloc::Global;
 use std::process::Abort;
 use store_core::{Core, LandRefused, Landed};
 
-// A store of an empty disk in memory, whose branches have origins from the first one on.
-pub fn fresh<A: Address>(rt: &impl Abort, alloc: Global, first: u32) -> Core<Sum, MemoryDisk, A> {
+// A store of an empty disk in memory, of which listed calls fail; its branches have origins from the first one on.
+pub fn fresh<A: Address>(
+    rt: &impl Abort,
+    alloc: Global,
+    failing: Vec<u64>,
+    first: u32,
+) -> Core<Sum, MemoryDisk, A> {
     let terms = Terms::new(Limits::default(), first, 0).expect(rt, "terms");
-    match Core::init(alloc, MemoryDisk::new(Vec::new(alloc)), terms) {
+    match Core::init(alloc, MemoryDisk::new(failing), terms) {
         Ok(core) => core,
         Err(_) => panic!(rt; "no store"),
     }

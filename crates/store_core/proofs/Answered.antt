@@ -15,7 +15,7 @@ use Rattle.recorded_history.specs.Machine.{FullyRefuses, Makes, Steps}
 use Rattle.recorded_history.specs.Views.{RecordedView}
 use Rattle.store_core.specs.Answers.{turn_of, Leaves}
 use Rattle.store_core.specs.Contents.{HoldsExactly, LeavesExactly, LeavesTorn, MayTear, PutsExactly}
-use Rattle.store_core.specs.Images.{AllStand, WithOrWithout}
+use Rattle.store_core.specs.Images.{AllStand, WithFirst, WithOrWithout}
 use Rattle.store_core.specs.Turns.{Moves}
 use Rattle.store_core.specs.Views.{StoreView}
 use Rattle.store_core.proofs.Landings.{moves_so, made_so, leaves_so, valid_so, exactly_so, torn_so}
@@ -113,7 +113,7 @@ module _ {D S O R Q A : Type 0} (disk : Ghosts D) (meaning : Meaning S O R Q A) 
   module _ (old : StoreView (Move O R) D) (r0 r1 r2 : RecordedView (Move O R)) (m : Move O R) (outcome : Outcome A R) (n : ℕ) (r : Record)
       (makes : Makes (fix meaning r0.terms address) r0 r1 step m outcome n r) (d0 d1 opened : D) (failed0 failed1 : Bool)
       (view_is : view_of r0 failed0 d0 opened ≡ old) (worked : failed0 ≡ false)
-      (any_moment : LeavesOnly disk.moment disk.left_since d0 d1 (WithOrWithout (fix meaning r1.terms address) r1.written r1.pending)) where
+      (any_moment : LeavesOnly disk.moment disk.left_since d0 d1 (WithFirst (fix meaning r1.terms address) r1.written r1.pending)) where
     moments : LeavesEither (view_of r0 failed0 d0 opened) (view_of r2 failed1 d1 opened)
     moments = weakened disk.moment disk.left_since d0 d1 _ _ any_moment (leaves_so meaning address r0 r1 step m outcome n r makes d0 opened failed0 _ refl)
 

@@ -7,6 +7,8 @@ pub mod Starts
 pub mod Kept
 pub mod Landings
 pub mod Branchings
+pub mod Batched
+pub mod Batches
 pub mod Answered
 pub mod Arrivals
 pub mod Causes

@@ -1,5 +1,5 @@
 -- What a disk that tells its bytes has of a store, byte for byte.
-use Rattle.std.specs.Prelude.{◌≡◌, ℕ, List, [], ◌∷◌, ◌++◌, length, drop, Option}
+use Rattle.std.specs.Prelude.{◌≡◌, ℕ, ◌+◌, ◌*◌, List, [], ◌∷◌, ◌++◌, length, drop, Option}
 use Rattle.branch_disk.specs.Disk.{Files, Tells, Torn}
 use Rattle.mrdt_model.specs.Laws.{Meaning}
 use Rattle.branch_history.specs.declared.moves.Move.{Move}
@@ -8,6 +8,7 @@ use Rattle.branch_machine.specs.Fixed.{Fixed, fix}
 use Rattle.branch_machine.specs.Machine.{full_turn}
 use Rattle.branch_machine.specs.Objects.{objects_text, end_of, region}
 use Rattle.branch_files.specs.Records.{history_text, gate_of}
+use Rattle.recorded_history.specs.Machine.{regions}
 use Rattle.recorded_history.specs.Views.{RecordedView}
 use Rattle.store_core.specs.Views.{StoreView}
 
@@ -27,21 +28,29 @@ files_with fixed history old = record { objects = over (objects_text fixed histo
 abbrev pub HoldsExactly : {S O R Q A : Type 0} → Fixed S O R Q A → List (Move O R) → Option Files → Option Files → Type 0
 HoldsExactly fixed history = Tells (λ old new. new ≡ files_with fixed history old)
 
--- Any bytes may stand in so many of the objects from a place on, and in 65 of the heads from a gate on, which is a record with the gates before and behind it. All others are the old ones.
-pub record IsTorn (start count gate : ℕ) (old new : Files) : Type 0 where
+-- Any bytes may stand in so many of the objects from a place on, and in so many of the heads from a gate on. All others are the old ones.
+pub record AreTorn (start count gate width : ℕ) (old new : Files) : Type 0 where
   pub objects : Torn start count old.objects new.objects
-  pub heads : Torn gate 65 old.heads new.heads
+  pub heads : Torn gate width old.heads new.heads
+
+-- the same with 65 bytes of the heads, which is a record with the gates before and behind it
+abbrev pub IsTorn : ℕ → ℕ → ℕ → Files → Files → Type 0
+IsTorn start count gate = AreTorn start count gate 65
 
 -- what was told is told now but for the region and the record of the move that comes behind the history, if one does
 abbrev pub MayBeTorn : {S O R Q A : Type 0} → Fixed S O R Q A → List (Move O R) → List (Move O R) → Option Files → Option Files → Type 0
 MayBeTorn {S} {O} {R} fixed history more old new = (made : Move O R) → more ≡ made ∷ [] → Tells (IsTorn (end_of fixed history) (length (region fixed history made)) (gate_of fixed history)) old new
 
--- the same of a recorded history, whose pending move is put on the disk
+-- what was told is told now but for the regions of moves that come behind the history, and for their records with the gates before, between and behind them
+abbrev pub MayTearAll : {S O R Q A : Type 0} → Fixed S O R Q A → List (Move O R) → List (Move O R) → Option Files → Option Files → Type 0
+MayTearAll fixed history more = Tells (AreTorn (end_of fixed history) (length (regions fixed history more)) (gate_of fixed history) (64 * length more + 1))
+
+-- the same of a recorded history, whose pending moves are put on the disk
 abbrev pub PutsExactly : {S O R Q A : Type 0} → Meaning S O R Q A → (List ℕ → List ℕ) → RecordedView (Move O R) → Option Files → Option Files → Type 0
 PutsExactly meaning address r = HoldsExactly (fix meaning r.terms address) (r.written ++ r.pending)
 
 abbrev pub MayTear : {S O R Q A : Type 0} → Meaning S O R Q A → (List ℕ → List ℕ) → RecordedView (Move O R) → Option Files → Option Files → Type 0
-MayTear meaning address r = MayBeTorn (fix meaning r.terms address) r.written r.pending
+MayTear meaning address r = MayTearAll (fix meaning r.terms address) r.written r.pending
 
 -- the disk of a store tells exactly the bytes of the history that it has now, over what it told before
 abbrev pub LeavesExactly : {D S O R Q A : Type 0} → Meaning S O R Q A → (List ℕ → List ℕ) → (D → Option Files) → StoreView (Move O R) D → StoreView (Move O R) D → Type 0

@@ -10,3 +10,4 @@ pub mod Opens
 pub mod Answers
 pub mod Bundling
 pub mod Receiving
+pub mod Batches

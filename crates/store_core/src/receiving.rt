@@ -83,7 +83,7 @@ impl<T: Mrdt, D: Disk + Drop, A: Address> Core<T, D, A> {
             &mut self.journal,
             &mut self.disk,
             &mut self.failed,
-            &record,
+            &[record],
         ) else {
             return Err(ReceiveRefused::DiskFault);
         };

@@ -231,7 +231,7 @@ impl<T: Mrdt, D: Disk + Drop, A: Address> Core<T, D, A> {
     }
 
     /// How many moves the history has, which is a valid one. Until the disk failed, each image stands for it; then each
-    /// stands for it, or for a valid one with one move more.
+    /// stands for it, or for a valid one with more moves behind it: those of a batch, at most.
     pub fn moves(&self) -> u64
         ensures moves { result ≡ length self.now.history }
         ensures valid { IsFullyValid (fix T.meaning self.now.terms A.address) self.now.history }
@@ -489,7 +489,7 @@ impl<T: Mrdt, D: Disk + Drop, A: Address> Core<T, D, A> {
             &mut self.journal,
             &mut self.disk,
             &mut self.failed,
-            &made.record,
+            &[made.record],
         ) else {
             return Err(LandRefused::DiskFault);
         };
@@ -543,7 +543,7 @@ impl<T: Mrdt, D: Disk + Drop, A: Address> Core<T, D, A> {
             &mut self.journal,
             &mut self.disk,
             &mut self.failed,
-            &made.record,
+            &[made.record],
         ) else {
             return Err(ForkRefused::DiskFault);
         };
@@ -571,7 +571,7 @@ impl<T: Mrdt, D: Disk + Drop, A: Address> Core<T, D, A> {
             &mut self.journal,
             &mut self.disk,
             &mut self.failed,
-            &made.record,
+            &[made.record],
         ) else {
             return Err(PlaceRefused::DiskFault);
         };
@@ -603,7 +603,7 @@ impl<T: Mrdt, D: Disk + Drop, A: Address> Core<T, D, A> {
             &mut self.journal,
             &mut self.disk,
             &mut self.failed,
-            &made.record,
+            &[made.record],
         ) else {
             return Err(DropRefused::DiskFault);
         };

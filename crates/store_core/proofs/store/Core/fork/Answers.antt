@@ -3,11 +3,11 @@ use Rattle.std.proofs.Common.{sym, ◌∙◌, ap}
 use Rattle.branch_disk.specs.Moments.{now_too}
 use Rattle.branch_history.specs.declared.moves.Move.{Move}
 use Rattle.store_core.specs.Views.{StoreView}
-use Rattle.store_core.proofs.Landings.{waits_fork, moves_so, made_so, leaves_so, valid_so, exactly_so, torn_so}
+use Rattle.store_core.proofs.Landings.{waits_so, moves_so, made_so, leaves_so, moments_so, valid_so, exactly_so, torn_so}
 use Rattle.store_core.proofs.store.Core.fork.Goals as goal
 
 pub put-requires-clause-waits : goal.put-requires-clause-waits
-put-requires-clause-waits g c = λ _ _. waits_fork g.T.Mrdt.meaning g.A.Address.address c.self.inside.recorded _ _ _ _ _ _ _ _ c.in_ok-made.ensures.forked.1
+put-requires-clause-waits g c = λ _ _. waits_so g.T.Mrdt.meaning g.A.Address.address c.self.inside.recorded _ _ _ _ _ _ c.in_ok-made.ensures.forked.1
 
 pub returns-clause-forked : goal.returns-clause-forked
 returns-clause-forked g c =
@@ -41,3 +41,13 @@ returns-clause-exact g c =
 pub returns-in_default-clause-torn : goal.returns-in_default-clause-torn
 returns-in_default-clause-torn g c = λ fault.
     torn_so g.T.Mrdt.meaning g.A.Address.address c.self.inside.recorded _ _ _ _ _ _ c.in_ok-made.ensures.forked.1 _ _ _ _ c.self.view_is g.D.Disk.contents _ c.put.ensures.torn
+
+pub returns-in_default-clause-any_moment : goal.returns-in_default-clause-any_moment
+returns-in_default-clause-any_moment g c = λ worked.
+    let d = g.D.Disk in
+    moments_so g.T.Mrdt.meaning g.A.Address.address c.self.inside.recorded _ _ _ _ _ _ c.in_ok-made.ensures.forked.1 _ _ _ _ c.self.view_is d.moment d.left_since _ c.put.ensures.any_moment
+
+pub returns-clause-any_moment : goal.returns-clause-any_moment
+returns-clause-any_moment g c = λ worked.
+    let d = g.D.Disk in
+    moments_so g.T.Mrdt.meaning g.A.Address.address c.self.inside.recorded _ _ _ _ _ _ c.in_ok-made.ensures.forked.1 _ _ _ _ c.self.view_is d.moment d.left_since _ c.put.ensures.any_moment

@@ -1,11 +1,10 @@
 -- The move waits; then the history has it, or the files may have it.
 use Rattle.branch_disk.specs.Moments.{now_too}
-use Rattle.branch_machine.specs.Fixed.{fix}
-use Rattle.store_core.proofs.Landings.{waits_so, known_so, moves_so, leaves_so, valid_so, exactly_so, torn_so}
+use Rattle.store_core.proofs.Landings.{waits_so, moves_so, leaves_so, moments_so, valid_so, exactly_so, torn_so}
 use Rattle.store_core.proofs.store.Core.land_addressed.Goals as goal
 
 pub put-requires-clause-waits : goal.put-requires-clause-waits
-put-requires-clause-waits g c = λ _ _. waits_so g.T.Mrdt.meaning g.A.Address.address c.self.inside.recorded _ _ _ _ _ _ (known_so (fix g.T.Mrdt.meaning c.self.inside.recorded.terms g.A.Address.address) _ c.args.prepared.seen.branch c.args.prepared.work) c.in_ok-made.ensures.made
+put-requires-clause-waits g c = λ _ _. waits_so g.T.Mrdt.meaning g.A.Address.address c.self.inside.recorded _ _ _ _ _ _ c.in_ok-made.ensures.made
 
 pub returns-clause-landed : goal.returns-clause-landed
 returns-clause-landed g c =
@@ -30,3 +29,13 @@ returns-clause-exact g c =
 pub returns-in_default-clause-torn : goal.returns-in_default-clause-torn
 returns-in_default-clause-torn g c = λ fault.
     torn_so g.T.Mrdt.meaning g.A.Address.address c.self.inside.recorded _ _ _ _ _ _ c.in_ok-made.ensures.made _ _ _ _ c.self.view_is g.D.Disk.contents _ c.put.ensures.torn
+
+pub returns-in_default-clause-any_moment : goal.returns-in_default-clause-any_moment
+returns-in_default-clause-any_moment g c = λ worked.
+    let d = g.D.Disk in
+    moments_so g.T.Mrdt.meaning g.A.Address.address c.self.inside.recorded _ _ _ _ _ _ c.in_ok-made.ensures.made _ _ _ _ c.self.view_is d.moment d.left_since _ c.put.ensures.any_moment
+
+pub returns-clause-any_moment : goal.returns-clause-any_moment
+returns-clause-any_moment g c = λ worked.
+    let d = g.D.Disk in
+    moments_so g.T.Mrdt.meaning g.A.Address.address c.self.inside.recorded _ _ _ _ _ _ c.in_ok-made.ensures.made _ _ _ _ c.self.view_is d.moment d.left_since _ c.put.ensures.any_moment

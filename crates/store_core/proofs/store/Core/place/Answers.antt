@@ -19,7 +19,7 @@ use Rattle.store_core.specs.Answers.{place_answer}
 use Rattle.store_core.specs.Images.{AllStand}
 use Rattle.store_core.specs.Refusals.{place_refused}
 use Rattle.store_core.specs.Views.{StoreView}
-use Rattle.store_core.proofs.Branchings.{known_placed, makes_so, waits_step}
+use Rattle.store_core.proofs.Branchings.{makes_so, waits_step}
 use Rattle.store_core.proofs.Answered.{Answered, view_of, put_made, put_fault, still_failed, step_refused, step_short}
 use Rattle.store_core.proofs.store.Core.place.Goals as goal
 
@@ -52,7 +52,6 @@ pub put-requires-clause-waits : goal.put-requires-clause-waits
 put-requires-clause-waits g c = λ _ _.
     let r = c.self.inside.recorded in
     waits_step g.T.Mrdt.meaning g.A.Address.address r _ _ _ _ _ c.self.invariant.settled c.in_ok-made.ensures.steps c.in_ok-made.ensures.recorded
-    (known_placed (fix g.T.Mrdt.meaning r.terms g.A.Address.address) r.written c.args.name c.args.commit)
 
 pub returns : goal.returns
 returns g c =

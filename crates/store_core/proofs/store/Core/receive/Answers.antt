@@ -4,8 +4,20 @@ use Rattle.branch_bundle.specs.Held.{pair_of}
 use Rattle.branch_machine.specs.Fixed.{fix}
 use Rattle.store_core.proofs.Branchings.{makes_so}
 use Rattle.store_core.proofs.Answered.{put_made, put_fault}
+use Rattle.store_core.proofs.Landings.{waits_so}
 use Rattle.store_core.proofs.Arrivals.{stepped, of_bytes, turn_at, by_step, item_failed, item_refused_at}
 use Rattle.store_core.proofs.store.Core.receive.Goals as goal
+
+pub put-requires-clause-waits : goal.put-requires-clause-waits
+put-requires-clause-waits g c = λ _ _.
+    let meaning = g.T.Mrdt.meaning in
+    let address = g.A.Address.address in
+    let r = c.self.inside.recorded in
+    let item = pair_of c.args.item.now in
+    let is = of_bytes (fix meaning r.terms address) r _ _ _ _ item.value item.commit c.as_slice-value.ensures.bytes c.as_slice-commit.ensures.bytes (rw c.in-Ok-New.field-0-is at c.in-Ok-New.ensures.receives) in
+    let recorded = rw c.in-Ok-New.field-0-is at c.in-Ok-New.ensures.recorded in
+    let s = stepped (fix meaning r.terms address) item r _ _ _ is in
+    waits_so meaning address r _ s.step _ _ _ _ (makes_so meaning address r _ s.step _ _ _ c.self.invariant.settled s.steps recorded)
 
 pub returns-then-self-clause-takes : goal.returns-then-self-clause-takes
 returns-then-self-clause-takes g c =
