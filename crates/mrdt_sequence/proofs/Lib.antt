@@ -5,3 +5,4 @@ pub mod Paths
 pub mod NodesRead
 pub mod Rising
 pub mod Sorted
+pub mod Chunked

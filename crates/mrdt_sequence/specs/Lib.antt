@@ -1,3 +1,4 @@
+pub mod Chunks
 pub mod Order
 pub mod Sequence
 pub mod Edits

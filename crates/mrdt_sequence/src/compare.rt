@@ -5,6 +5,7 @@ ghost use Rattle.mrdt_model.specs.Times.{IsTime, same_time};
 ghost use Rattle.mrdt_sequence.specs.Sequence.{IsReply, node_spelling};
 
 use crate::node::Node;
+use crate::nodes::Nodes;
 use live_set::Payload;
 use mrdt_model::Time;
 
@@ -49,15 +50,22 @@ fn is_same_node(mine: &Node, theirs: &Node) -> bool
 }
 
 // Whether as many nodes are equal, each to the other at its place.
-pub(crate) fn are_same(nodes: &[Node], others: &[Node]) -> bool
+pub(crate) fn are_same(nodes: &Nodes, others: &Nodes) -> bool
     requires { length nodes.now ≡ length others.now }
     ensures same { IsTrue result ↔ (nodes.now ≡ others.now) }
     ensures spelled { flat_map node_spelling nodes.now ≡ flat_map node_spelling others.now
         → nodes.now ≡ others.now }
 {
-    for index in 0..nodes.len() {
-        if !is_same_node(&nodes[index], &others[index]) {
-            return false;
+    let mut mine = nodes.walk();
+    let mut theirs = others.walk();
+    while let Some(node) = mine.next() {
+        match theirs.next() {
+            Some(other) => {
+                if !is_same_node(node, other) {
+                    return false;
+                }
+            }
+            None => return false,
         }
     }
     true

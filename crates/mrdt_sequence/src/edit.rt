@@ -1,12 +1,14 @@
 // Lists of nodes.
-ghost use Rattle.std.specs.Prelude.{◌≡◌, ◌+◌, ◌<◌, ◌++◌, ◌∷◌, [], None, take, drop, length, IfOk, OnOk, MatchOption};
+ghost use Rattle.std.specs.Prelude.{◌≡◌, ◌+◌, ◌<◌, ◌^◌, ◌∷◌, [], false, None, Some, take, drop, length, IfOk, IfSome, MatchOption};
 ghost use Rattle.mrdt_model.specs.Times.{same_time};
-ghost use Rattle.mrdt_sequence.specs.Order.{insert_behind, woven};
+ghost use Rattle.mrdt_sequence.specs.Order.{woven};
 ghost use Rattle.mrdt_sequence.specs.Sequence.{hidden_if, hide_at, item_of, items_of, first_time, last_time};
 ghost use Rattle.mrdt_sequence.specs.Edits.{SettlesAt, FollowsAt, StartsAt, InsertsAt};
 
+use crate::chunk::Walk;
 use crate::compare::is_same_time;
 use crate::node::Node;
+use crate::nodes::Nodes;
 use live_set::Kept;
 use mrdt_model::{Bytes, Memory, Shared, Time};
 use std::alloc::Global;
@@ -23,52 +25,42 @@ pub(crate) fn copy_of(node: &Node) -> Result<Node, Memory>
     })
 }
 
-// Puts copies of nodes behind those of a list.
-pub(crate) fn push_copies(list: &mut Vec<Node>, nodes: &[Node]) -> Result<(), Memory>
-    ensures { OnOk result (list.new.items ≡ list.old.items ++ nodes.now) }
-{
-    for node in nodes {
-        list.push(copy_of(node)?)?;
-    }
-    Ok(())
-}
-
-// The same nodes.
-pub(crate) fn copies(alloc: Global, nodes: &[Node]) -> Result<Vec<Node>, Memory>
-    ensures { IfOk result (λ list. list.items ≡ nodes.now) }
-{
-    let mut list = Vec::new(alloc);
-    push_copies(&mut list, nodes)?;
-    Ok(list)
-}
-
 // How many nodes in front are newer.
-fn newer_in_front(nodes: &[Node], time: Time) -> usize
-    ensures { SettlesAt time nodes.now result }
+fn newer_in_front(nodes: &mut Walk<'_>, time: Time) -> usize
+    requires { length nodes.old < 2 ^ 64 }
+    ensures { SettlesAt time nodes.old result }
 {
-    for index in 0..nodes.len() {
-        if !time.is_before(nodes[index].time) {
-            return index;
+    let mut count = 0;
+    while let Some(node) = nodes.next() {
+        if !time.is_before(node.time) {
+            return count;
         }
+        count += 1;
     }
-    nodes.len()
+    count
 }
 
-// How many nodes there are up to the one at a time, which is the last of them.
-fn up_to(nodes: &[Node], time: Time) -> Option<usize>
-    ensures { FollowsAt time nodes.now result }
+// Walks up to the node at a time, which is the last that is passed, and counts these nodes.
+fn up_to(nodes: &mut Walk<'_>, time: Time) -> Option<usize>
+    requires { length nodes.old < 2 ^ 64 }
+    ensures follows { FollowsAt time nodes.old result }
+    ensures ahead { IfSome result (λ count. nodes.new ≡ drop count nodes.old) }
 {
-    for index in 0..nodes.len() {
-        if is_same_time(time, nodes[index].time) {
-            return Some(index + 1);
+    let mut count = 0;
+    while let Some(node) = nodes.next() {
+        count += 1;
+        if is_same_time(time, node.time) {
+            return Some(count);
         }
     }
     None
 }
 
-// How many nodes there are up to a parent, if it is there: none up to the start.
-fn up_to_parent(nodes: &[Node], parent: Option<Time>) -> Option<usize>
-    ensures { StartsAt parent nodes.now result }
+// Walks up to a parent, if it is there, and counts the nodes: none up to the start.
+fn up_to_parent(nodes: &mut Walk<'_>, parent: Option<Time>) -> Option<usize>
+    requires { length nodes.old < 2 ^ 64 }
+    ensures starts { StartsAt parent nodes.old result }
+    ensures ahead { IfSome result (λ count. nodes.new ≡ drop count nodes.old) }
 {
     match parent {
         Some(time) => up_to(nodes, time),
@@ -77,31 +69,29 @@ fn up_to_parent(nodes: &[Node], parent: Option<Time>) -> Option<usize>
 }
 
 // Behind how many nodes a new one with this parent goes. Nowhere, where there is no such parent.
-fn place_of(nodes: &[Node], parent: Option<Time>, time: Time) -> Option<usize>
+pub(crate) fn place_of(nodes: &Nodes, parent: Option<Time>, time: Time) -> Option<usize>
     ensures { InsertsAt parent time nodes.now result }
 {
-    let from = up_to_parent(nodes, parent)?;
-    Some(from + newer_in_front(&nodes[from..], time))
+    let _count = nodes.len();
+    let mut ahead = nodes.walk();
+    let from = up_to_parent(&mut ahead, parent)?;
+    Some(from + newer_in_front(&mut ahead, time))
 }
 
-// The nodes with a new one behind its parent.
-pub(crate) fn inserted(alloc: Global, nodes: &[Node], node: Node) -> Result<Vec<Node>, Memory>
-    ensures { IfOk result (λ list. list.items ≡ insert_behind node.parent node nodes.now) }
+// Whether there is a node at a time. Where there is none, none is to be hidden.
+pub(crate) fn has_time(nodes: &[Node], time: Time) -> bool
+    ensures { result ≡ false → hide_at (Some time) nodes.now ≡ nodes.now }
 {
-    match place_of(nodes, node.parent, node.time) {
-        Some(place) => {
-            let (front, behind) = nodes.split_at(place);
-            let mut list = copies(alloc, front)?;
-            list.push(node)?;
-            push_copies(&mut list, behind)?;
-            Ok(list)
+    for node in nodes {
+        if is_same_time(node.time, time) {
+            return true;
         }
-        None => copies(alloc, nodes),
     }
+    false
 }
 
 // The same node, hidden where it is at this time.
-fn hidden_copy(alloc: Global, node: &Node, time: Time) -> Result<Node, Memory>
+pub(crate) fn hidden_copy(alloc: Global, node: &Node, time: Time) -> Result<Node, Memory>
     ensures { IfOk result (λ made. made ≡ hidden_if (same_time node.now.time time) node.now) }
 {
     if is_same_time(node.time, time) {
@@ -116,32 +106,13 @@ fn hidden_copy(alloc: Global, node: &Node, time: Time) -> Result<Node, Memory>
     }
 }
 
-// The nodes where the one at this time, if any, is hidden.
-pub(crate) fn hidden_at(
-    alloc: Global,
-    nodes: &[Node],
-    time: Option<Time>,
-) -> Result<Vec<Node>, Memory>
-    ensures { IfOk result (λ list. list.items ≡ hide_at time nodes.now) }
-{
-    match time {
-        Some(time) => {
-            let mut list = Vec::new(alloc);
-            for node in nodes {
-                list.push(hidden_copy(alloc, node, time)?)?;
-            }
-            Ok(list)
-        }
-        None => copies(alloc, nodes),
-    }
-}
-
 // The items in order.
-pub(crate) fn items(alloc: Global, nodes: &[Node]) -> Result<Vec<Kept<Bytes>>, Memory>
+pub(crate) fn items(alloc: Global, nodes: &Nodes) -> Result<Vec<Kept<Bytes>>, Memory>
     ensures { IfOk result (λ list. list.items ≡ items_of nodes.now) }
 {
+    let mut ahead = nodes.walk();
     let mut list = Vec::new(alloc);
-    for node in nodes {
+    while let Some(node) = ahead.next() {
         if !node.hidden {
             list.push(Kept {
                 time: node.time,
@@ -153,11 +124,13 @@ pub(crate) fn items(alloc: Global, nodes: &[Node]) -> Result<Vec<Kept<Bytes>>, M
 }
 
 // The number of the items.
-pub(crate) fn count_of(nodes: &[Node]) -> u64
+pub(crate) fn count_of(nodes: &Nodes) -> u64
     ensures { result ≡ length (items_of nodes.now) }
 {
+    let _count = nodes.len();
+    let mut ahead = nodes.walk();
     let mut count = 0;
-    for node in nodes {
+    while let Some(node) = ahead.next() {
         if !node.hidden {
             count += 1;
         }
@@ -166,12 +139,14 @@ pub(crate) fn count_of(nodes: &[Node]) -> u64
 }
 
 // The time of the last of this many items, or of all where there are fewer.
-pub(crate) fn last_of(nodes: &[Node], place: u32) -> Option<Time>
+#[tactic(auto, using(crate::proofs::Steps::last_item))]
+pub(crate) fn last_of(nodes: &Nodes, place: u32) -> Option<Time>
     ensures { result ≡ last_time None (take place (items_of nodes.now)) }
 {
+    let mut ahead = nodes.walk();
     let mut last = None;
     let mut left = place;
-    for node in nodes {
+    while let Some(node) = ahead.next() {
         if left == 0 {
             return last;
         }
@@ -184,11 +159,12 @@ pub(crate) fn last_of(nodes: &[Node], place: u32) -> Option<Time>
 }
 
 // The time of the item behind this many.
-pub(crate) fn first_behind(nodes: &[Node], place: u32) -> Option<Time>
+pub(crate) fn first_behind(nodes: &Nodes, place: u32) -> Option<Time>
     ensures { result ≡ first_time (drop place (items_of nodes.now)) }
 {
+    let mut ahead = nodes.walk();
     let mut left = place;
-    for node in nodes {
+    while let Some(node) = ahead.next() {
         if !node.hidden {
             if left == 0 {
                 return Some(node.time);
@@ -199,40 +175,31 @@ pub(crate) fn first_behind(nodes: &[Node], place: u32) -> Option<Time>
     None
 }
 
-// The first node of two lists, woven, and what is left of them.
-fn next<'a>(left: &'a [Node], right: &'a [Node]) -> Option<(&'a Node, &'a [Node], &'a [Node])>
-    ensures { MatchOption result (woven left.now right.now ≡ []) (λ next.
-        (woven left.now right.now ≡ next.0.now ∷ woven next.1.now next.2.now)
-        × (length next.1.now + length next.2.now < length left.now + length right.now)) }
+// Steps over the first node of two lists, woven.
+#[tactic(auto, using(crate::proofs::Steps::woven_none))]
+pub(crate) fn next<'a>(left: &mut Walk<'a>, right: &mut Walk<'a>) -> Option<&'a Node>
+    ensures { MatchOption result (woven left.old right.old ≡ []) (λ node.
+        (woven left.old right.old ≡ node.now ∷ woven left.new right.new)
+        × (length left.new + length right.new < length left.old + length right.old)) }
 {
-    match (left.split_first(), right.split_first()) {
-        (Some((mine, behind_mine)), Some((other, behind_other))) => {
+    match (left.first(), right.first()) {
+        (Some(mine), Some(other)) => {
             if is_same_time(mine.time, other.time) {
-                let hidden = if mine.hidden { mine } else { other };
-                Some((hidden, behind_mine, behind_other))
+                left.next();
+                right.next();
+                if mine.hidden { Some(mine) } else { Some(other) }
             } else if mine.time.is_before(other.time) {
-                Some((other, left, behind_other))
+                right.next();
+                Some(other)
             } else {
-                Some((mine, behind_mine, right))
+                left.next();
+                Some(mine)
             }
         }
-        (Some((mine, behind)), None) => Some((mine, behind, right)),
-        (None, Some((other, behind))) => Some((other, left, behind)),
-        (None, None) => None,
+        (Some(mine), None) => {
+            left.next();
+            Some(mine)
+        }
+        (None, _) => right.next(),
     }
-}
-
-// Two lists of nodes, woven.
-pub(crate) fn woven_of(alloc: Global, left: &[Node], right: &[Node]) -> Result<Vec<Node>, Memory>
-    ensures { IfOk result (λ list. list.items ≡ woven left.now right.now) }
-{
-    let mut list = Vec::new(alloc);
-    let mut mine = left;
-    let mut others = right;
-    while let Some((node, behind_mine, behind_others)) = next(mine, others) {
-        list.push(copy_of(node)?)?;
-        mine = behind_mine;
-        others = behind_others;
-    }
-    Ok(list)
 }

@@ -5,10 +5,12 @@
 //! first. What either side has deleted is gone from their merge.
 #![tactic(auto)]
 
+mod chunk;
 mod compare;
 mod edit;
 pub mod laws;
 pub mod node;
+mod nodes;
 pub mod op;
 mod reading;
 pub mod sequence;

@@ -4,11 +4,12 @@ ghost use Rattle.mrdt_sequence.specs.Order.{woven};
 ghost use Rattle.mrdt_sequence.specs.Sequence.{items_of, nodes_behind, reply_at, answer_at};
 
 use crate::compare::are_same;
-use crate::edit::{copies, count_of, first_behind, hidden_at, inserted, items, last_of, woven_of};
+use crate::edit::{count_of, first_behind, items, last_of};
 use crate::node::Node;
+use crate::nodes::Nodes;
 use crate::op::{SequenceAnswer, SequenceOp, SequenceQuery};
 use crate::reading::get_nodes;
-use crate::spelling::{get_op, get_reply, put_named, put_nodes, put_op};
+use crate::spelling::{get_op, get_reply, put_named, put_op};
 use live_set::shared_text;
 use mrdt_model::{Listing, Memory, Mrdt, Time, Unread};
 use std::alloc::Global;
@@ -17,8 +18,7 @@ use std::marker::Model;
 /// Payloads in an order that each insert chooses. Contracts see all nodes in that order, hidden ones too.
 #[derive(Drop)]
 pub struct Sequence {
-    alloc: Global,
-    nodes: Vec<Node>,
+    nodes: Nodes,
 }
 
 impl Model for Sequence {
@@ -27,7 +27,7 @@ impl Model for Sequence {
 
     ghost Value = { List Node };
 
-    ghost view = { λ s. s.nodes.items };
+    ghost view = { λ s. s.nodes };
 }
 
 impl Sequence {
@@ -43,8 +43,7 @@ impl Sequence {
         ensures { IfOk result (λ sequence. sequence ≡ self.now) }
     {
         Ok(Sequence {
-            alloc: self.alloc,
-            nodes: copies(self.alloc, &self.nodes)?,
+            nodes: self.nodes.shared()?,
         })
     }
 
@@ -63,22 +62,15 @@ impl Sequence {
         ensures { IfOk result (λ made. made ≡ nodes_behind time op.now reply self.now) }
     {
         let nodes = match op {
-            SequenceOp::Insert(_, payload) => inserted(
-                self.alloc,
-                &self.nodes,
-                Node {
-                    time,
-                    parent: reply,
-                    hidden: false,
-                    payload: shared_text(self.alloc, payload.as_slice())?,
-                },
-            )?,
-            SequenceOp::Delete(_) => hidden_at(self.alloc, &self.nodes, reply)?,
+            SequenceOp::Insert(_, payload) => self.nodes.inserted(Node {
+                time,
+                parent: reply,
+                hidden: false,
+                payload: shared_text(self.nodes.alloc(), payload.as_slice())?,
+            })?,
+            SequenceOp::Delete(_) => self.nodes.hidden_at(reply)?,
         };
-        Ok(Sequence {
-            alloc: self.alloc,
-            nodes,
-        })
+        Ok(Sequence { nodes })
     }
 
     // Two sequences, woven.
@@ -86,8 +78,7 @@ impl Sequence {
         ensures { IfOk result (λ made. made ≡ woven left.now right.now) }
     {
         Ok(Sequence {
-            alloc: left.alloc,
-            nodes: woven_of(left.alloc, &left.nodes, &right.nodes)?,
+            nodes: Nodes::woven(&left.nodes, &right.nodes)?,
         })
     }
 
@@ -97,7 +88,7 @@ impl Sequence {
     {
         match query {
             SequenceQuery::Read => {
-                let list = items(self.alloc, &self.nodes)?;
+                let list = items(self.nodes.alloc(), &self.nodes)?;
                 Ok(SequenceAnswer::OnItems(Listing::from_vec(list)))
             }
             SequenceQuery::Length => Ok(SequenceAnswer::OnLength(self.length())),
@@ -121,8 +112,7 @@ impl Mrdt for Sequence {
 
     fn initial(alloc: Global) -> Sequence {
         Sequence {
-            alloc,
-            nodes: Vec::new(alloc),
+            nodes: Nodes::new(alloc),
         }
     }
 
@@ -150,13 +140,12 @@ impl Mrdt for Sequence {
     }
 
     fn put(&self, out: &mut Vec<u8>) -> Result<(), Memory> {
-        put_nodes(&self.nodes, out)
+        self.nodes.put(out)
     }
 
     fn get(alloc: Global, bytes: &[u8]) -> Result<Sequence, Unread> {
         Ok(Sequence {
-            alloc,
-            nodes: get_nodes(alloc, bytes)?,
+            nodes: Nodes::of(alloc, &get_nodes(alloc, bytes)?)?,
         })
     }
 

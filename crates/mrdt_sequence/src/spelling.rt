@@ -1,14 +1,15 @@
 // How sequences, operations and replies are spelled.
-ghost use Rattle.std.specs.Prelude.{◌≡◌, ◌++◌, ◌∷◌, Option, List, ℕ, length, IfOk, OnOk, OnErr, IsErrOf};
+ghost use Rattle.std.specs.Prelude.{◌≡◌, ◌++◌, ◌∷◌, Option, List, ℕ, IfOk, OnOk, OnErr, IsErrOf};
+ghost use Rattle.std.specs.List.{flat_map};
 ghost use Rattle.mrdt_model.specs.Spelled.{AppendsPart};
 ghost use Rattle.mrdt_model.specs.declared.time.Time.{Time as SpecTime};
 ghost use Rattle.branch_wire.specs.Fields.{field};
 ghost use Rattle.mrdt_sequence.specs.declared.op.SequenceOp.{SequenceOp as SpecOp};
-ghost use Rattle.mrdt_sequence.specs.Sequence.{IsOp, IsReply, named_time, hidden_field, node_spelling, sequence_spelling, op_spelling, IsOpSpelling, IsReplySpelling};
+ghost use Rattle.mrdt_sequence.specs.Sequence.{IsOp, IsReply, named_time, hidden_field, node_spelling, op_spelling, IsOpSpelling, IsReplySpelling};
 
 use crate::node::Node;
 use crate::op::SequenceOp;
-use branch_wire::{Cursor, put_bytes, put_time, put_u32, put_u64};
+use branch_wire::{Cursor, put_bytes, put_time, put_u32};
 use live_set::whole_text;
 use mrdt_model::{Memory, Time, Unread};
 use std::alloc::Global;
@@ -69,13 +70,22 @@ fn put_node(node: &Node, out: &mut Vec<u8>) -> Result<(), Memory>
     put_rest(node, out)
 }
 
-// Writes the number of the nodes, and the nodes in order.
-pub(crate) fn put_nodes(nodes: &[Node], out: &mut Vec<u8>) -> Result<(), Memory>
-    ensures ok { OnOk result (out.new.items ≡ out.old.items ++ sequence_spelling nodes.now) }
-    ensures err { OnErr result
-        (AppendsPart out.old.items out.new.items (sequence_spelling nodes.now)) }
+// How many bytes the nodes take.
+pub(crate) fn room_for(nodes: &[Node]) -> usize {
+    let mut room: usize = 0;
+    for node in nodes {
+        let parent = if node.parent.is_some() { 13 } else { 1 };
+        room = room
+            .saturating_add(21 + parent)
+            .saturating_add(node.payload.get().as_slice().len());
+    }
+    room
+}
+
+// Writes nodes in order.
+pub(crate) fn put_each(nodes: &[Node], out: &mut Vec<u8>) -> Result<(), Memory>
+    ensures { OnOk result (out.new.items ≡ out.old.items ++ flat_map node_spelling nodes.now) }
 {
-    put_u64(nodes.len() as u64, out)?;
     for node in nodes {
         put_node(node, out)?;
     }

@@ -1,17 +1,24 @@
-use Rattle.std.proofs.Common.{◌+◌, ◌<◌, drop, length, arith}
-use Rattle.std.proofs.lemmas.Bool.{both_ways}
+use Rattle.std.proofs.Common.{false, refl}
 use Rattle.std.specs.List.{flat_map}
-use Rattle.live_set.proofs.Alike.{spelled-next}
+use Rattle.std.proofs.lemmas.Bool.{both_ways}
 use Rattle.mrdt_sequence.specs.Sequence.{node_spelling}
+use Rattle.mrdt_sequence.proofs.Chunked.{alike-first, alike-next, alike-more}
 use Rattle.mrdt_sequence.proofs.compare.are_same.Goals as goal
+
+pub returns-then-not-is_same_node-clause-same : goal.returns-then-not-is_same_node-clause-same
+returns-then-not-is_same_node-clause-same c = (
+  λ no. absurd (both_ways false refl no),
+  λ same.
+      let one = alike-first c.args.nodes.now c.args.others.now c.loop-node.mine c.loop-node.theirs c.loop-node.invariant c.in-Some.node.now c.in-Some-next.other.now c.next.new.self c.next-in-Some.new.self c.in-Some.ensures c.in-Some-next.ensures same in
+      absurd (both_ways c.is_same_node.result c.if-not-is_same_node.true (c.is_same_node.ensures.same.1 one)),
+)
 
 pub returns-then-not-is_same_node-clause-spelled : goal.returns-then-not-is_same_node-clause-spelled
 returns-then-not-is_same_node-clause-spelled c spelled =
-    let nodes = c.args.nodes.now in
-    let others = c.args.others.now in
-    let index = c.loop-index.index in
-    let first = c.loop-index-test.true in
-    let long = c.requires in
-    let second : index < length others = omega (arith, first, long) in
-    let next = spelled-next node_spelling nodes others index c.index-nodes-index.result c.index-others-index.result first second c.index-nodes-index.is c.index-others-index.is c.loop-index.invariant spelled in
-    absurd (both_ways c.is_same_node.result c.if-not-is_same_node.true (c.is_same_node.ensures.same.1 (c.is_same_node.ensures.spelled (flat_map node_spelling (drop (index + 1) nodes)) (flat_map node_spelling (drop (index + 1) others)) next)))
+    let next = alike-next c.args.nodes.now c.args.others.now c.loop-node.mine c.loop-node.theirs c.loop-node.invariant c.in-Some.node.now c.in-Some-next.other.now c.next.new.self c.next-in-Some.new.self c.in-Some.ensures c.in-Some-next.ensures spelled in
+    let one = c.is_same_node.ensures.spelled (flat_map node_spelling c.next.new.self) (flat_map node_spelling c.next-in-Some.new.self) next in
+    absurd (both_ways c.is_same_node.result c.if-not-is_same_node.true (c.is_same_node.ensures.same.1 one))
+
+pub loop-node-preserved : goal.loop-node-preserved
+loop-node-preserved c =
+    alike-more c.args.nodes.now c.args.others.now c.loop-node.mine c.loop-node.theirs c.loop-node.invariant c.in-Some.node.now c.in-Some-next.other.now c.next.new.self c.next-in-Some.new.self c.in-Some.ensures c.in-Some-next.ensures (c.is_same_node.ensures.same.0 c.if-not-is_same_node.false)

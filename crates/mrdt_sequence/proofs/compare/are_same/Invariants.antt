@@ -1,6 +1,10 @@
-use Rattle.std.proofs.Common.{◌≡◌, take}
+use Rattle.std.proofs.Common.{length}
+use Rattle.mrdt_sequence.proofs.Chunked.{Alike}
 use Rattle.mrdt_sequence.proofs.compare.are_same.Given as goal
 
--- what was compared is the same
-abbrev pub invariant-loop-index : goal.invariant-loop-index
-invariant-loop-index l = take l.index l.nodes ≡ take l.index l.others
+abbrev pub invariant-loop-node : goal.invariant-loop-node
+invariant-loop-node l = Alike l.nodes l.others l.mine l.theirs
+
+-- what is ahead
+abbrev pub decreases-loop-node : goal.decreases-loop-node
+decreases-loop-node l = length l.mine

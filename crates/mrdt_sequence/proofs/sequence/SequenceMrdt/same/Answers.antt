@@ -8,8 +8,8 @@ use Rattle.mrdt_sequence.proofs.sequence.SequenceMrdt.same.Goals as goal
 
 pub returns-then-len-clause-spelled : goal.returns-then-len-clause-spelled
 returns-then-len-clause-spelled c short spelled =
-    let mine = c.deref.ensures.value ∙ c.self.view_is in
-    let theirs = c.deref-then-len.ensures.value ∙ c.other.view_is in
+    let mine = c.self.view_is in
+    let theirs = c.other.view_is in
     let flat = (counted-parts node_spelling c.args.self.now c.args.other.now spelled).1 in
     sym mine ∙ c.are_same.ensures.spelled (ap (flat_map node_spelling) mine ∙ flat ∙ sym (ap (flat_map node_spelling) theirs)) ∙ theirs
 
