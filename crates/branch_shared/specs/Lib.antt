@@ -1,3 +1,4 @@
 pub mod Keeps
 pub mod Names
 pub mod Passes
+pub mod Batches

@@ -6,16 +6,18 @@ use Rattle.branch_names.specs.declared.limits.Limits.{Limits}
 use Rattle.branch_names.specs.declared.terms.Terms.{Terms}
 use Rattle.store_core.specs.Views.{StoreView}
 
--- a store that has no name yet: its front, its core, the number of parts, and the disk's faults when the core was opened
+-- a store that has no name yet: its front and that of its queue, its core, the number of parts, and the disk's faults when the core was opened
 pub record BlankView (M D : Type 0) : Type 0 where
   pub table : TableId
+  pub queue : TableId
   pub core : StoreView M D
   pub parts : ℕ
   pub opened : ℕ
 
 -- the name says what this store is
-pub record IsNamed {M D : Type 0} (blank : BlankView M D) (table : TableId) (begun : List M) (terms : Terms) (parts opened : ℕ) : Type 0 where
+pub record IsNamed {M D : Type 0} (blank : BlankView M D) (table queue : TableId) (begun : List M) (terms : Terms) (parts opened : ℕ) : Type 0 where
   pub table_is : blank.table ≡ table
+  pub queue_is : blank.queue ≡ queue
   pub history_is : blank.core.history ≡ begun
   pub terms_are : blank.core.terms ≡ terms
   pub parts_are : blank.parts ≡ parts

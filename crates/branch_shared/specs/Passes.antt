@@ -82,6 +82,11 @@ LandRefusedAt fixed opened made old new land_refusal.DiskFault =
 LandRefusedAt fixed opened made old new (land_refusal.Failed moves) = HasFailed opened new × (moves ≡ length new.moves)
 LandRefusedAt fixed opened made old new land_refusal.Memory = Unit {0}
 
+-- Why what was prepared did not land together with others. A disk that fails does so for all of them, also for one that the machine refuses.
+abbrev pub BatchRefusedAt : {S O R Q A : Type 0} → Fixed S O R Q A → ℕ → PreparedView O R → PassView (Move O R) → PassView (Move O R) → LandRefused → Type 0
+BatchRefusedAt fixed opened made old new land_refusal.DiskFault = HasFailedSince opened old new
+BatchRefusedAt fixed opened made old new refused = LandRefusedAt fixed opened made old new refused
+
 -- Why no branch was forked, at the history that is seen then. The disk fails only where the machine makes the fork.
 abbrev pub ForkRefusedAt : {S O R Q A : Type 0} → Fixed S O R Q A → ℕ → List ℕ → List ℕ → PassView (Move O R) → PassView (Move O R) → ForkRefused → Type 0
 ForkRefusedAt {S} {O} {R} fixed opened name from old new (fork_refusal.UnknownBranch named) = (named ≡ from) × FullyRefuses fixed new.moves (machine.Fork name from) (machine.UnknownBranch from)

@@ -2,6 +2,7 @@
 ghost use Rattle.std.specs.Prelude.{◌≡◌, ◌<◌, ◌≤◌, [], IfOk, IfErr};
 ghost use Rattle.branch_shared.specs.Keeps.{faults_since};
 
+use crate::job::Job;
 use crate::name::MoveOf;
 use branch_address::Address;
 use branch_disk::Disk;
@@ -11,7 +12,7 @@ use std::alloc::Global;
 use std::marker::{Brand, Model};
 use store_core::Core;
 
-/// A core that threads are to share, with a front of its own, under no name yet. Contracts see a `BlankView`.
+/// A core that threads are to share, with a front and a queue of jobs of its own, under no name yet. Contracts see a `BlankView`.
 #[derive(Drop)]
 pub struct Blank<T: Mrdt, D: Disk + Drop, A: Address> {
     pub(crate) alloc: Global,
@@ -19,6 +20,7 @@ pub struct Blank<T: Mrdt, D: Disk + Drop, A: Address> {
     pub(crate) front: Front<MoveOf<T>>,
     pub(crate) writer: Writer<MoveOf<T>>,
     pub(crate) begun: u64,
+    pub(crate) queue: branch_batch::Blank<Job<T, A>>,
 }
 
 impl<T: Mrdt, D: Disk + Drop, A: Address> Model for Blank<T, D, A> {
@@ -31,6 +33,7 @@ impl<T: Mrdt, D: Disk + Drop, A: Address> Model for Blank<T, D, A> {
 
     ghost view = { λ b. record {
       table = b.front.table;
+      queue = b.queue;
       core = b.core;
       parts = b.front.parts;
       opened = D.faults b.core.opened;
@@ -51,6 +54,7 @@ impl<T: Mrdt, D: Disk + Drop, A: Address> Blank<T, D, A> {
         requires parts { 0 < parts }
         ensures made { IfOk result (λ blank. blank ≡ record {
           table = blank.table;
+          queue = blank.queue;
           core = core;
           parts = parts;
           opened = D.faults core.opened;
@@ -58,6 +62,10 @@ impl<T: Mrdt, D: Disk + Drop, A: Address> Blank<T, D, A> {
         ensures same { IfErr result (λ refused. refused.0 ≡ core) }
     {
         let begun = core.moves();
+        let queue = match branch_batch::Blank::new(alloc) {
+            Ok(queue) => queue,
+            Err(memory) => return Err((core, memory)),
+        };
         match Front::new(alloc, begun, parts) {
             Ok((front, mut writer)) => {
                 note_faults(&front, &mut writer, &core);
@@ -67,6 +75,7 @@ impl<T: Mrdt, D: Disk + Drop, A: Address> Blank<T, D, A> {
                     front,
                     writer,
                     begun,
+                    queue,
                 })
             }
             Err(memory) => Err((core, memory)),
@@ -75,7 +84,7 @@ impl<T: Mrdt, D: Disk + Drop, A: Address> Blank<T, D, A> {
 }
 
 // The writer learns how often the core's disk has failed.
-fn note_faults<T: Mrdt, D: Disk + Drop, A: Address>(
+pub(crate) fn note_faults<T: Mrdt, D: Disk + Drop, A: Address>(
     front: &Front<MoveOf<T>>,
     writer: &mut Writer<MoveOf<T>>,
     core: &Core<T, D, A>,

@@ -228,7 +228,7 @@ impl<T: Mrdt, D: Disk + Drop, A: Address, N: Named<T::Op, T::Reply>> Kept<T, D, 
 }
 
 // The pass sees the core's history, and the writer and the pass how often its disk has failed.
-fn see<T: Mrdt, D: Disk + Drop, A: Address, N: Named<T::Op, T::Reply>>(
+pub(crate) fn see<T: Mrdt, D: Disk + Drop, A: Address, N: Named<T::Op, T::Reply>>(
     front: &Front<MoveOf<T>>,
     writer: &mut Writer<MoveOf<T>>,
     pass: &mut Pass<T, N>,

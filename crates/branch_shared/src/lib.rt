@@ -1,14 +1,17 @@
 //! One store for many threads: a core under a lock, and a front that says how much of its history each caller has seen.
 //!
 //! A caller carries a `Pass`. What it looks at, pairs, groups, lands, forks or drops stands in the one history of all callers, of
-//! which its pass has seen a beginning. Only these six calls wait for the lock; what computes is done outside, on what a
+//! which its pass has seen a beginning. Only these calls wait for the lock; what computes is done outside, on what a
 //! look gave.
 #![tactic(auto)]
 
+mod batch;
 mod blank;
+mod job;
 mod kept;
 mod name;
 mod pass;
+mod room;
 mod shared;
 
 pub use blank::Blank;

@@ -19,6 +19,9 @@ pub trait Named<O, R> {
     // Which front it is.
     ghost table: { TableId };
 
+    // Which queue of jobs it has.
+    ghost queue: { TableId };
+
     // The history that the store began with.
     ghost begun: { List (Move O R) };
 
@@ -40,6 +43,8 @@ impl<O, R> Named<O, R> for Brand {
     ghost use Rattle.branch_shared.specs.Names.{no_table, least_terms};
 
     ghost table = { no_table };
+
+    ghost queue = { no_table };
 
     ghost begun = { [] };
 

@@ -1,5 +1,5 @@
 // A store that threads share.
-ghost use Rattle.std.specs.Prelude.{ℕ, ◌≡◌, ◌≢◌, ◌+◌, ◌-◌, ◌<◌, ◌≤◌, ◌++◌, true, false, [], length, max, Err, IfOk, IfErr, OnErr};
+ghost use Rattle.std.specs.Prelude.{ℕ, ◌≡◌, ◌≢◌, ◌+◌, ◌-◌, ◌<◌, ◌≤◌, ◌++◌, true, false, [], length, max, vec_capacity, Err, IfOk, IfErr, OnErr};
 ghost use mathlib.Core.List.{IsPrefix};
 ghost use Rattle.branch_front.specs.Lists.{longer, AreAllWithin, AreApart, AreDistinct, AreSomeWithin};
 ghost use Rattle.branch_history.specs.Machine.{turn, answers};
@@ -11,18 +11,22 @@ ghost use Rattle.store_seen.specs.Pairs.{IsPaired, PairRefusedAs};
 ghost use Rattle.store_seen.specs.Turns.{LookRefusedAs};
 ghost use Rattle.store_core.specs.Answers.{drop_answer};
 ghost use Rattle.branch_shared.specs.Keeps.{DropsNone, faults_since};
+ghost use Rattle.branch_shared.specs.Batches.{MayLand, Serves};
 ghost use Rattle.branch_shared.specs.Names.{IsNamed};
-ghost use Rattle.branch_shared.specs.Passes.{seen_by, IsSeenOn, LandedAt, LandRefusedAt, ForkedAt, ForkRefusedAt, AnsweredAt};
+ghost use Rattle.branch_shared.specs.Passes.{seen_by, IsSeenOn, LandedAt, LandRefusedAt, BatchRefusedAt, ForkedAt, ForkRefusedAt, AnsweredAt};
 
 use crate::blank::Blank;
+use crate::job::{Given, Job, Landing};
 use crate::kept::Kept;
 use crate::name::{MoveOf, Named};
 use crate::pass::Pass;
+use crate::room::Room;
 use branch_address::Address;
+use branch_batch::{Queue, Ticket};
 use branch_disk::Disk;
 use branch_front::Front;
 use branch_names::Name;
-use mrdt_model::Mrdt;
+use mrdt_model::{Memory, Mrdt};
 use std::alloc::Global;
 use std::marker::{Model, PhantomData};
 use std::sync::{Mutex, Wait};
@@ -31,10 +35,17 @@ use store_core::{
     Pair, PairRefused, Prepared, Seen,
 };
 
+// The jobs that wait to be landed together.
+type Line<T, A, N> = Queue<Job<T, A>, Given<T, N>, Landing<T, A, N>>;
+
+// The right to what comes back for a job.
+type Claim<T, A, N> = Ticket<Job<T, A>, Given<T, N>, Landing<T, A, N>>;
+
 /// A store that threads share by reference. What it began with, its terms and the number of its parts are those that N
 /// names. Contracts see the front's `Opening`.
 ///
-/// `look`, `pair`, `group`, `land`, `fork` and `drop_branch` wait for the one lock, and do under it what one event of the store is. After each
+/// `look`, `pair`, `group`, `land`, `fork` and `drop_branch` wait for the one lock, and do under it what one event of the store is;
+/// `land_batched` waits for it too, or for another caller who holds it and lands its move together with others. After each
 /// of them, refused or not, the pass has seen a beginning of the one history, no shorter than the one that it had seen, and
 /// the answer is the machine's there. That this is all of the history up to the call is how the code goes: no contract can
 /// say it of callers that never met.
@@ -47,6 +58,7 @@ pub struct Shared<T: Mrdt, D: Disk + Drop, A: Address, N: Named<T::Op, T::Reply>
     alloc: Global,
     front: Front<MoveOf<T>>,
     kept: Mutex<Kept<T, D, A, N>>,
+    queue: Line<T, A, N>,
     begun: u64,
 }
 
@@ -77,7 +89,7 @@ pub struct Closed<T: Mrdt, D: Disk + Drop, A: Address> {
 impl<T: Mrdt, D: Disk + Drop, A: Address, N: Named<T::Op, T::Reply>> Shared<T, D, A, N> {
     /// The store under its name, and the pass that holds all parts.
     pub fn new(blank: Blank<T, D, A>) -> (Shared<T, D, A, N>, Pass<T, N>)
-        requires name { IsNamed blank N.table N.begun N.terms N.parts N.opened }
+        requires name { IsNamed blank N.table N.queue N.begun N.terms N.parts N.opened }
         ensures { result.1 ≡ record {
           moves = blank.core.history;
           mine = [];
@@ -93,6 +105,7 @@ impl<T: Mrdt, D: Disk + Drop, A: Address, N: Named<T::Op, T::Reply>> Shared<T, D
             front,
             mut writer,
             begun,
+            queue,
         } = blank;
         let pass = writer.first(&front);
         let kept = Kept {
@@ -104,6 +117,7 @@ impl<T: Mrdt, D: Disk + Drop, A: Address, N: Named<T::Op, T::Reply>> Shared<T, D
             alloc,
             front,
             kept: Mutex::new(kept),
+            queue: Queue::new(queue),
             begun,
         };
         let pass = Pass {
@@ -238,6 +252,161 @@ impl<T: Mrdt, D: Disk + Drop, A: Address, N: Named<T::Op, T::Reply>> Shared<T, D
         self.kept.lock(rt).land(&self.front, pass, prepared)
     }
 
+    /// Lands what was prepared on a look, as `land` does, but together with the landings of other callers who wait too: one
+    /// of them lands all, at most 64, with one write of their records. After `Ok` the last move that the pass has seen is
+    /// its own, though others may have landed behind it in the same batch. It is refused exactly as the machine refuses it
+    /// on the history that the pass has seen then; where the disk fails or has failed, it is so for all of a batch.
+    ///
+    /// A part of the pass goes with the move, and comes back with the answer. Where memory for the queue is short, the move
+    /// is landed alone.
+    pub fn land_batched<R: Wait>(
+        &self,
+        rt: &R,
+        pass: &mut Pass<T, N>,
+        prepared: Prepared<T>,
+    ) -> Result<Landed<T::Reply>, LandRefused>
+        requires parts { 1 < pass.old.parts }
+        requires history { IsPrefix prepared.seen.history pass.old.moves }
+        requires terms { prepared.seen.terms ≡ N.terms }
+        ensures prefix { IsPrefix pass.old.moves pass.new.moves }
+        ensures begun { IsPrefix N.begun pass.new.moves }
+        ensures valid { IsFullyValid (fix T.meaning N.terms A.address) pass.new.moves }
+        ensures faults { pass.old.faults ≤ pass.new.faults }
+        ensures parts { pass.new.parts ≡ pass.old.parts }
+        ensures landed { IfOk result (λ landed.
+            LandedAt (fix T.meaning N.terms A.address) prepared pass.old pass.new landed.moves
+            landed.kind) }
+        ensures refused { IfErr result
+            (BatchRefusedAt (fix T.meaning N.terms A.address) N.opened prepared pass.old
+            pass.new) }
+        ensures rest { OnErr result (IsSeenOn pass.old pass.new) }
+        ensures quiet { result ≢ Err LandRefused.DiskFault
+            → ((moves : ℕ) → result ≢ Err (LandRefused.Failed moves)) → pass.new.faults ≡ 0 }
+    {
+        let prepared = Addressed::new(self.alloc, prepared);
+        let part = pass.pass.split_off(&self.front, 1);
+        let given = self.land_together(
+            rt,
+            Job {
+                prepared,
+                pass: part,
+            },
+        );
+        let Given { pass: part, answer } = given;
+        pass.pass.adopt(&self.front, part.pass);
+        answer
+    }
+
+    // Lands a job together with those of others, or alone where memory for the queue is short.
+    fn land_together<R: Wait>(&self, rt: &R, job: Job<T, A>) -> Given<T, N>
+        requires may { MayLand N.table N.begun N.terms job }
+        ensures { Serves (fix T.meaning N.terms A.address) N.opened N.begun job result }
+    {
+        match self.queue.put(rt, job) {
+            Ok(claim) => self.await_answer(rt, claim),
+            Err(job) => self.kept.lock(rt).land_alone(&self.front, job),
+        }
+    }
+
+    // What comes back for a job: the caller looks for it, and lands the next batch where it is not there.
+    fn await_answer<R: Wait>(&self, rt: &R, claim: Claim<T, A, N>) -> Given<T, N>
+        requires may { MayLand N.table N.begun N.terms claim.job }
+        ensures { Serves (fix T.meaning N.terms A.address) N.opened N.begun claim.job result }
+    {
+        let mut claim = claim;
+        for _ in rt.forever() {
+            match self.turn(rt, claim) {
+                Ok(given) => return given,
+                Err(back) => claim = back,
+            }
+        }
+        unreachable!()
+    }
+
+    // One turn: what came back, if the job is done behind it, and else the claim to it.
+    fn turn<R: Wait>(&self, rt: &R, claim: Claim<T, A, N>) -> Result<Given<T, N>, Claim<T, A, N>>
+        requires may { MayLand N.table N.begun N.terms claim.job }
+        ensures serves { IfOk result
+            (Serves (fix T.meaning N.terms A.address) N.opened N.begun claim.job) }
+        ensures back { IfErr result (λ back. back ≡ claim) }
+    {
+        match self.lead(rt, claim) {
+            Ok(given) => Ok(given),
+            Err(claim) => self.queue.take_out(rt, claim),
+        }
+    }
+
+    // Under the store's lock: what has come back for the job, or else the next batch is landed, the job in it.
+    fn lead<R: Wait>(&self, rt: &R, claim: Claim<T, A, N>) -> Result<Given<T, N>, Claim<T, A, N>>
+        requires may { MayLand N.table N.begun N.terms claim.job }
+        ensures serves { IfOk result
+            (Serves (fix T.meaning N.terms A.address) N.opened N.begun claim.job) }
+        ensures back { IfErr result (λ back. back ≡ claim) }
+    {
+        let mut kept = self.kept.lock(rt);
+        match self.queue.take_out(rt, claim) {
+            Ok(given) => Ok(given),
+            Err(claim) => self.land_next(rt, &mut kept, claim),
+        }
+    }
+
+    // Lands the next batch, and gives back what serves its jobs. Where memory is short, the own job is landed alone.
+    fn land_next<R: Wait>(
+        &self,
+        rt: &R,
+        kept: &mut Kept<T, D, A, N>,
+        claim: Claim<T, A, N>,
+    ) -> Result<Given<T, N>, Claim<T, A, N>>
+        requires may { MayLand N.table N.begun N.terms claim.job }
+        ensures serves { IfOk result
+            (Serves (fix T.meaning N.terms A.address) N.opened N.begun claim.job) }
+        ensures back { IfErr result (λ back. back ≡ claim) }
+    {
+        match Room::new(self.alloc) {
+            Ok(room) => Err(self.land_taken(rt, kept, room, claim)),
+            Err(Memory) => self.land_withdrawn(rt, kept, claim),
+        }
+    }
+
+    // Takes the next batch, lands it, and gives back what serves its jobs.
+    fn land_taken<R: Wait>(
+        &self,
+        rt: &R,
+        kept: &mut Kept<T, D, A, N>,
+        room: Room<T, A, N>,
+        claim: Claim<T, A, N>,
+    ) -> Claim<T, A, N>
+        requires jobs { (room.jobs.items ≡ []) × (64 ≤ vec_capacity room.jobs) }
+        requires taken { (room.taken.items ≡ []) × (64 ≤ vec_capacity room.taken) }
+        requires prepared { (room.prepared.items ≡ []) × (64 ≤ vec_capacity room.prepared) }
+        requires done { (room.done.items ≡ []) × (64 ≤ vec_capacity room.done) }
+        ensures back { result ≡ claim }
+    {
+        let mut room = room;
+        self.queue.take(rt, &claim, &mut room.jobs);
+        let done = kept.land_batch(&self.front, room);
+        self.queue.give(rt, done);
+        claim
+    }
+
+    // Lands the claim's job alone, if it still waits.
+    fn land_withdrawn<R: Wait>(
+        &self,
+        rt: &R,
+        kept: &mut Kept<T, D, A, N>,
+        claim: Claim<T, A, N>,
+    ) -> Result<Given<T, N>, Claim<T, A, N>>
+        requires may { MayLand N.table N.begun N.terms claim.job }
+        ensures serves { IfOk result
+            (Serves (fix T.meaning N.terms A.address) N.opened N.begun claim.job) }
+        ensures back { IfErr result (λ back. back ≡ claim) }
+    {
+        match self.queue.withdraw(rt, claim) {
+            Ok(job) => Ok(kept.land_alone(&self.front, job)),
+            Err(claim) => Err(claim),
+        }
+    }
+
     /// Forks a new branch from the head that another has now. After `Ok` the last move that the pass has seen is this one.
     /// It is refused exactly as the machine refuses it on the history that the pass has seen then, or where the disk fails
     /// or has failed.
@@ -326,6 +495,7 @@ impl<T: Mrdt, D: Disk + Drop, A: Address, N: Named<T::Op, T::Reply>> Shared<T, D
             alloc: _,
             front: _,
             kept,
+            queue: _,
             begun: _,
         } = self;
         let Kept {
@@ -361,6 +531,7 @@ impl<T: Mrdt, D: Disk + Drop, A: Address, N: Named<T::Op, T::Reply>> Shared<T, D
             alloc: _,
             front,
             kept,
+            queue: _,
             begun,
         } = self;
         let Kept {

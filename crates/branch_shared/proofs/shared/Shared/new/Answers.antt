@@ -10,6 +10,6 @@ pub invariant_of-kept : goal.invariant_of-kept
 invariant_of-kept g c =
     let n = g.N.Named in
     let blank = c.blank.inside in
-    let named = subst (λ (b : BlankView (Move _ _) _). IsNamed b n.table n.begun n.terms n.parts n.opened) (sym c.blank.view_is) c.requires.name in
+    let named = subst (λ (b : BlankView (Move _ _) _). IsNamed b n.table n.queue n.begun n.terms n.parts n.opened) (sym c.blank.view_is) c.requires.name in
     let is = c.first-pass.ensures.writer ∙ ap (λ (w : View (Move _ _)). record w { mine = []; others = []; parts = 0; receipts = 0 }) c.blank.invariant.0 in
     kept-first g.D.Disk.faults n.table n.begun n.terms n.opened n.drops blank.core blank.front.parts blank.front.table c.first-pass.new.self named.table_is named.history_is named.terms_are named.opened_is is

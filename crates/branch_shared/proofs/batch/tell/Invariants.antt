@@ -1,0 +1,7 @@
+use Rattle.std.proofs.Common.{length, take, drop, ◌++◌}
+use Rattle.branch_shared.specs.Keeps.{faults_since}
+use Rattle.branch_shared.proofs.batch.tell.Given as goal
+
+-- the move behind those that the writer knows
+abbrev pub ghosts-tell_as : goal.ghosts-tell_as
+ghosts-tell_as g a = record { entry = take 1 (drop (length (g.N.Named.begun ++ a.writer.now.moves)) a.core.now.history); faults = faults_since g.D.Disk.faults a.core.now }
