@@ -39,7 +39,7 @@ pub(crate) fn share<
     N: Named<T::Op, T::Reply> + Drop + Send + Sync,
     R: Threads + Wait + Sync,
 >(rt: &R, alloc: Global, blank: Blank<T, D, A>, scripts: &[Listing<Step>]) -> Finished<T, D, A>
-    requires name { IsNamed blank N.table N.begun N.terms N.parts N.opened }
+    requires name { IsNamed blank N.table N.queue N.begun N.terms N.parts N.opened }
     requires parts { 2 * length scripts.now < blank.parts }
     requires drops { N.drops ≡ false }
     requires scripts { MayDropIn N.drops scripts.now }

@@ -53,6 +53,10 @@ record Starts {M : Type 0} (from : PassView M) (steps : List Step) (entrant : En
 abbrev pub HasRoom : {M : Type 0} → Entrant M → Type 0
 HasRoom entrant = (entrant.seat.places.items ≡ []) × (length entrant.seat.steps.now ≤ vec_capacity entrant.seat.places)
 
+-- a client whose pass has more than one part
+abbrev pub HasParts : {M : Type 0} → Entrant (PassView M) → Type 0
+HasParts entrant = 1 < entrant.pass.parts
+
 module _ {M : Type 0} (from : PassView M) (scripts : List (List Step)) (seats : List Seat) (entrants : List (Entrant (PassView M))) (seated : AllZip IsSeat scripts seats) (ready : AllZip (IsReady from) seats entrants) where
   start : (steps : List Step) (seat : Seat) (entrant : Entrant (PassView M)) → IsSeat steps seat → IsReady from seat entrant → Starts from steps entrant
   start steps seat entrant is on_seat = record {
@@ -64,6 +68,9 @@ module _ {M : Type 0} (from : PassView M) (scripts : List (List Step)) (seats : 
 
   starts : AllZip (Starts from) scripts entrants
   starts = zip-through IsSeat (IsReady from) (Starts from) start scripts seats entrants seated ready
+
+  pub all-parts : AllByRecursion HasParts entrants
+  all-parts = zip-second (Starts from) HasParts (λ steps e is. let two = ap (λ p. p.parts) is.pass_is in omega arith) scripts entrants starts
 
   pub all-room : AllByRecursion HasRoom entrants
   all-room = zip-second (Starts from) HasRoom (λ steps e is. (is.none, is.room)) scripts entrants starts

@@ -96,6 +96,7 @@ fn work<T: Forms, D: Disk + Drop, A: Address, N: Named<T::Op, T::Reply>, G: Gate
     entrant: &mut Entrant<'_, Pass<T, N>>,
 )
     requires drops { AllByRecursion (MayDrop N.drops) entrant.old.seat.steps.now }
+    requires parts { 1 < entrant.old.pass.parts }
     requires none { entrant.old.seat.places.items ≡ [] }
     requires room { length entrant.old.seat.steps.now ≤ vec_capacity entrant.old.seat.places }
     ensures { HasWorked (setting (fix T.meaning N.terms A.address) T.forms N.opened)
@@ -123,6 +124,8 @@ fn work_all<
 )
     requires drops { (i : ℕ) (d : _) → i < length entrants.old
         → AllByRecursion (MayDrop N.drops) (slice_index_or entrants.old i d).seat.steps.now }
+    requires parts { (i : ℕ) (d : _) → i < length entrants.old
+        → 1 < (slice_index_or entrants.old i d).pass.parts }
     requires none { (i : ℕ) (d : _) → i < length entrants.old
         → (slice_index_or entrants.old i d).seat.places.items ≡ [] }
     requires room { (i : ℕ) (d : _) → i < length entrants.old
@@ -140,6 +143,7 @@ fn work_all<
         threads,
         &|number: usize, entrant: &mut Entrant<'_, Pass<T, N>>|
             requires { AllByRecursion (MayDrop N.drops) entrant.old.seat.steps.now
+                × (1 < entrant.old.pass.parts)
                 × (entrant.old.seat.places.items ≡ [])
                 × (length entrant.old.seat.steps.now ≤ vec_capacity entrant.old.seat.places) }
             ensures { HasWorked

@@ -58,7 +58,7 @@ impl<T: Forms, D: Disk + Drop, A: Address, N: Named<T::Op, T::Reply>, G: Gate, R
     G,
     R,
 > {
-    /// Lands what was prepared, and notes its place.
+    /// Lands what was prepared, together with what other clients wait to land, and notes its place.
     pub(crate) fn land(
         &self,
         pass: &mut Pass<T, N>,
@@ -67,6 +67,7 @@ impl<T: Forms, D: Disk + Drop, A: Address, N: Named<T::Op, T::Reply>, G: Gate, R
     ) -> Result<Landing, ClientRefusal>
         requires made { IsPrefix prepared.seen.history pass.old.moves
             × (prepared.seen.terms ≡ N.terms) }
+        requires parts { 1 < pass.old.parts }
         requires room { length places.old.items < vec_capacity places.old }
         ensures prefix { IsPrefix pass.old.moves pass.new.moves }
         ensures valid { IsFullyValid (fix T.meaning N.terms A.address) pass.new.moves }
@@ -80,7 +81,7 @@ impl<T: Forms, D: Disk + Drop, A: Address, N: Named<T::Op, T::Reply>, G: Gate, R
             prepared
             pass.new refusal × HasStayed pass.old pass.new places.old.items places.new.items) }
     {
-        match self.shared.land(self.rt, pass, prepared) {
+        match self.shared.land_batched(self.rt, pass, prepared) {
             Ok(landed) => {
                 note(places, landed.moves);
                 self.gate.after_land(self.rt, self.number, landed.moves);

@@ -1,5 +1,5 @@
 // A client does the steps of its script.
-ghost use Rattle.std.specs.Prelude.{◌≡◌, ◌≤◌, [], length, vec_capacity};
+ghost use Rattle.std.specs.Prelude.{◌≡◌, ◌<◌, ◌≤◌, [], length, vec_capacity};
 ghost use Rattle.std.specs.List.{AllByRecursion};
 ghost use Rattle.branch_machine.specs.Fixed.{fix};
 ghost use Rattle.parallel_clients.specs.Clients.{KeepsValid};
@@ -53,6 +53,7 @@ impl<T: Forms, D: Disk + Drop, A: Address, N: Named<T::Op, T::Reply>, G: Gate, R
         mut places: Vec<u64>,
     ) -> Outcome
         requires drops { AllByRecursion (MayDrop N.drops) steps.now }
+        requires parts { 1 < pass.old.parts }
         requires none { places.items ≡ [] }
         requires room { length steps.now ≤ vec_capacity places }
         ensures became { IsOutcome

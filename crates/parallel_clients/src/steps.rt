@@ -82,6 +82,7 @@ impl<T: Forms, D: Disk + Drop, A: Address, N: Named<T::Op, T::Reply>, G: Gate, R
         op: &PlainOp,
     ) -> Result<bool, Stop>
         requires sessions { AreSessions N.terms pass.old.moves sessions.old.entries }
+        requires parts { 1 < pass.old.parts }
         requires room { length places.old.items < vec_capacity places.old }
         ensures advances { Advances pass.old pass.new places.old.items places.new.items }
         ensures valid { KeepsValid (fix T.meaning N.terms A.address) pass.old pass.new }
@@ -122,6 +123,7 @@ impl<T: Forms, D: Disk + Drop, A: Address, N: Named<T::Op, T::Reply>, G: Gate, R
         from: &Name,
     ) -> Result<bool, Stop>
         requires sessions { AreSessions N.terms pass.old.moves sessions.old.entries }
+        requires parts { 1 < pass.old.parts }
         requires room { length places.old.items < vec_capacity places.old }
         ensures advances { Advances pass.old pass.new places.old.items places.new.items }
         ensures valid { KeepsValid (fix T.meaning N.terms A.address) pass.old pass.new }
@@ -163,6 +165,7 @@ impl<T: Forms, D: Disk + Drop, A: Address, N: Named<T::Op, T::Reply>, G: Gate, R
         from: &[Name],
     ) -> Result<bool, Stop>
         requires sessions { AreSessions N.terms pass.old.moves sessions.old.entries }
+        requires parts { 1 < pass.old.parts }
         requires room { length places.old.items < vec_capacity places.old }
         requires some { 1 ≤ length from.now }
         requires few { length from.now ≤ 8 }
@@ -362,6 +365,7 @@ impl<T: Forms, D: Disk + Drop, A: Address, N: Named<T::Op, T::Reply>, G: Gate, R
     ) -> Result<bool, Stop>
         requires drops { MayDrop N.drops step.now }
         requires sessions { AreSessions N.terms pass.old.moves sessions.old.entries }
+        requires parts { 1 < pass.old.parts }
         requires room { length places.old.items < vec_capacity places.old }
         ensures advances { Advances pass.old pass.new places.old.items places.new.items }
         ensures valid { KeepsValid (fix T.meaning N.terms A.address) pass.old pass.new }

@@ -69,6 +69,7 @@ impl<T: Forms, D: Disk + Drop, A: Address, N: Named<T::Op, T::Reply>, G: Gate, R
         op: &PlainOp,
     ) -> Result<Landing, Stop>
         requires sessions { AreSessions N.terms pass.old.moves sessions.now.entries }
+        requires parts { 1 < pass.old.parts }
         requires room { length places.old.items < vec_capacity places.old }
         ensures prefix { IsPrefix pass.old.moves pass.new.moves }
         ensures valid { KeepsValid (fix T.meaning N.terms A.address) pass.old pass.new }
@@ -116,6 +117,7 @@ impl<T: Forms, D: Disk + Drop, A: Address, N: Named<T::Op, T::Reply>, G: Gate, R
         from: &Name,
     ) -> Result<Landing, Stop>
         requires sessions { AreSessions N.terms pass.old.moves sessions.now.entries }
+        requires parts { 1 < pass.old.parts }
         requires room { length places.old.items < vec_capacity places.old }
         ensures prefix { IsPrefix pass.old.moves pass.new.moves }
         ensures valid { KeepsValid (fix T.meaning N.terms A.address) pass.old pass.new }
@@ -200,6 +202,7 @@ impl<T: Forms, D: Disk + Drop, A: Address, N: Named<T::Op, T::Reply>, G: Gate, R
         from: &[Name],
     ) -> Result<Landing, Stop>
         requires sessions { AreSessions N.terms pass.old.moves sessions.now.entries }
+        requires parts { 1 < pass.old.parts }
         requires room { length places.old.items < vec_capacity places.old }
         requires some { 1 ≤ length from.now }
         requires few { length from.now ≤ 8 }

@@ -7,7 +7,7 @@ use Rattle.parallel_clients.specs.Clients.{Ran}
 use Rattle.parallel_clients.specs.Entrants.{IsSeat, IsReady, HasRunOwn, HaveLeft}
 use Rattle.parallel_clients.specs.Outcomes.{MayDrop, setting}
 use Rattle.parallel_clients.proofs.Ended.{whole-again}
-use Rattle.parallel_clients.proofs.Started.{all-indexed, HasRoom, all-room, all-scripts, as-many, all-ran, ran-all}
+use Rattle.parallel_clients.proofs.Started.{all-indexed, HasParts, all-parts, HasRoom, all-room, all-scripts, as-many, all-ran, ran-all}
 use Rattle.parallel_clients.proofs.clients.run_clients.Goals as goal
 
 pub enter_all-entrants-requires-clause-parts : goal.enter_all-entrants-requires-clause-parts
@@ -106,3 +106,12 @@ returns-clause-ran g c =
     let many = c.requires.parts in
     let ran = ran-all on from mid moves scripts seats before after c.in_ok-seats.ensures ready same c.work_all.ensures.worked new outcomes c.enter_all-entrants.ensures.entered (omega arith) left in
     subst (Ran on from new scripts) (sym c.from_vec.ensures) ran
+
+pub work_all-requires-clause-parts : goal.work_all-requires-clause-parts
+work_all-requires-clause-parts g c κs within i d lt =
+    let from = c.args.pass.now in
+    let scripts = c.args.scripts.now in
+    let seats = c.in_ok-seats.seats.items in
+    let before = c.deref_mut.result.now in
+    let ready = subst (AllZip (IsReady from) seats) (sym c.deref_mut.ensures.value) c.enter_all-entrants.ensures.ready in
+    all-indexed HasParts before (all-parts from scripts seats before c.in_ok-seats.ensures ready) i d lt

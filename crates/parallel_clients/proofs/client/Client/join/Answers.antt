@@ -1,5 +1,5 @@
 -- One join, behind the tries before it.
-use Rattle.std.proofs.Common.{◌∙◌, sym, subst, refl}
+use Rattle.std.proofs.Common.{◌<◌, ◌∙◌, sym, ap, subst, refl}
 use Rattle.parallel_clients.specs.Sessions.{sights_of, stage_of, HasJoined, HasNothing}
 use Rattle.parallel_clients.proofs.Sessioned.{sessions_later}
 use Rattle.branch_front.proofs.Prefixes.{prefix_self}
@@ -62,3 +62,6 @@ returns-in-Same-clause-plays g c =
     subst (λ sights. HasNothing g.N.Named.terms.origin (sights session) c.args.from.now mid after places noted) wait.sights tried in
     plays-nothing g.T.Forms.forms g.N.Named.terms.origin (stage_of c.args.pass.now c.args.sessions.now.entries c.args.places.now.items) (stage_of after c.loop.sessions.entries noted)
     mid after wait.seen (prefix_self after.moves) places noted (sym wait.noted) refl c.try_join.ensures.prefix done.stayed.noted wait.sights session c.args.from.now done.branch done.sees done.brings
+
+pub try_join-requires-clause-parts : goal.try_join-requires-clause-parts
+try_join-requires-clause-parts g c κs within = subst (λ n. 1 < n) (sym (ap (λ p. p.parts) c.loop.invariant.2.rest)) c.requires.parts

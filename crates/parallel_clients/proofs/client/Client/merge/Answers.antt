@@ -1,5 +1,5 @@
 -- One merge, behind the tries before it.
-use Rattle.std.proofs.Common.{◌∙◌, sym, subst, refl}
+use Rattle.std.proofs.Common.{◌<◌, ◌∙◌, sym, ap, subst, refl}
 use Rattle.parallel_clients.specs.Sessions.{sights_of, stage_of, HasMerged, HasSame}
 use Rattle.parallel_clients.proofs.Sessioned.{sessions_later}
 use Rattle.branch_front.proofs.Prefixes.{prefix_self}
@@ -60,3 +60,6 @@ returns-in-Same-clause-plays g c =
     subst (λ sights. HasSame g.N.Named.terms.origin (sights session) c.args.from.now mid after places noted) wait.sights tried in
     plays-same g.T.Forms.forms g.N.Named.terms.origin (stage_of c.args.pass.now c.args.sessions.now.entries c.args.places.now.items) (stage_of after c.loop.sessions.entries noted)
     mid after wait.seen (prefix_self after.moves) places noted (sym wait.noted) refl c.try_merge.ensures.prefix done.stayed.noted wait.sights session c.args.from.now done.branch done.sees done.reached
+
+pub try_merge-requires-clause-parts : goal.try_merge-requires-clause-parts
+try_merge-requires-clause-parts g c κs within = subst (λ n. 1 < n) (sym (ap (λ p. p.parts) c.loop.invariant.2.rest)) c.requires.parts

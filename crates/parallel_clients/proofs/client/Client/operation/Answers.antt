@@ -1,5 +1,5 @@
 -- One operation, behind the tries before it.
-use Rattle.std.proofs.Common.{◌∙◌, sym, subst, refl}
+use Rattle.std.proofs.Common.{◌<◌, ◌∙◌, sym, ap, subst, refl}
 use Rattle.parallel_clients.specs.Sessions.{sights_of, stage_of, HasDone}
 use Rattle.parallel_clients.proofs.Sessioned.{sessions_later}
 use Rattle.parallel_clients.proofs.Single.{plays-done}
@@ -26,3 +26,6 @@ returns-in-Moved-clause-plays g c =
 pub look_again-requires-in-Stale-clause-sessions : goal.look_again-requires-in-Stale-clause-sessions
 look_again-requires-in-Stale-clause-sessions g c κs within =
     sessions_later g.N.Named.terms c.loop.pass.moves c.try_operation.new.pass.moves c.loop.sessions.entries c.try_operation.ensures.prefix c.loop.invariant.2.sessions_are
+
+pub try_operation-requires-clause-parts : goal.try_operation-requires-clause-parts
+try_operation-requires-clause-parts g c κs within = subst (λ n. 1 < n) (sym (ap (λ p. p.parts) c.loop.invariant.2.rest)) c.requires.parts

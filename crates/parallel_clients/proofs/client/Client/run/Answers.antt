@@ -1,5 +1,5 @@
 -- The outcome of a client, by what it has played.
-use Rattle.std.proofs.Common.{◌≡◌, ◌∷◌, [], ◌++◌, ◌+◌, ◌∙◌, take, refl, ap, sym, subst, Some, length, arith}
+use Rattle.std.proofs.Common.{◌≡◌, ◌∷◌, [], ◌++◌, ◌+◌, ◌<◌, ◌∙◌, take, refl, ap, sym, subst, Some, length, arith}
 use Rattle.std.specs.Prelude.{slice_get}
 use Rattle.std.proofs.lemmas.Grind.{take_at_read}
 use Rattle.std.proofs.lemmas.List.{take_all}
@@ -87,3 +87,6 @@ returns-clause-became g c =
     let all : take c.loop-number.number steps ≡ steps = take_all c.loop-number.number steps c.loop-number-test.false in
     let playing = subst (λ ss. IsPlaying g.T.Forms.forms g.N.Named.terms ss old mid sessions places) all c.loop-number.invariant.0 in
     subst (λ ps. IsOutcome on old.moves mid.moves mid.faults steps (Done ps)) (sym c.from_vec.ensures) (done-became on steps old mid sessions places playing)
+
+pub step-requires-clause-parts : goal.step-requires-clause-parts
+step-requires-clause-parts g c κs within = subst (λ n. 1 < n) (sym c.loop-number.invariant.0.advances.parts) c.requires.parts

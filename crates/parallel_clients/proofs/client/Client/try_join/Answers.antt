@@ -1,5 +1,5 @@
 -- A try to join, by what became of the group, its preparation and its landing.
-use Rattle.std.proofs.Common.{◌≡◌, sym, Some, refl}
+use Rattle.std.proofs.Common.{◌≡◌, ◌<◌, sym, ap, subst, Some, refl}
 use Rattle.branch_machine.specs.Fixed.{fix}
 use Rattle.store_seen.specs.declared.pair.PairStep.TheVariants as step
 use Rattle.branch_shared.specs.Passes.{seen_by}
@@ -111,3 +111,6 @@ returns-in-Err-land-clause-stopped g c =
       why = join-unlanded on old mid c.prepare_join.ensures.prefix c.prepare_join.ensures.rest s is (sights_of sessions) session from sees ready.group ready.grouped made work.0 work.1 work.2 c.land.new.pass c.land.ensures.prefix c.in-Err-land.refusal c.in-Err-land.ensures.refused.0;
       stayed = stayed-earlier old mid c.land.new.pass c.args.places.now.items c.land.new.places.items c.prepare_join.ensures.rest c.in-Err-land.ensures.refused.1;
     }
+
+pub land-requires-clause-parts : goal.land-requires-clause-parts
+land-requires-clause-parts g c κs within = subst (λ n. 1 < n) (sym (ap (λ p. p.parts) c.prepare_join.ensures.rest)) c.requires.parts

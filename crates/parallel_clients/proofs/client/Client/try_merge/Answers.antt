@@ -1,5 +1,5 @@
 -- A try to merge, by what became of the pair, its preparation and its landing.
-use Rattle.std.proofs.Common.{◌≡◌, sym, Some, refl}
+use Rattle.std.proofs.Common.{◌≡◌, ◌<◌, sym, ap, subst, Some, refl}
 use Rattle.branch_history.specs.Steps as machine
 use Rattle.branch_machine.specs.Fixed.{fix}
 use Rattle.parallel_clients.specs.Outcomes.{setting}
@@ -104,3 +104,6 @@ returns-clause-stopped g c =
       why = merge-unlanded (setting (fix g.T.Mrdt.meaning g.N.Named.terms g.A.Address.address) g.T.Forms.forms g.N.Named.opened) old mid c.in-Ok.ensures.prefix c.in-Ok.ensures.rest s is (sights_of sessions) session from (sight-found sessions session s found) c.in-Ok.pair c.in-Ok.ensures.paired made work.0 work.1 c.land.new.pass c.land.ensures.prefix c.in-Err.refusal c.in-Err.ensures.refused.0;
       stayed = stayed-earlier old mid c.land.new.pass c.args.places.now.items c.land.new.places.items c.in-Ok.ensures.rest c.in-Err.ensures.refused.1;
     }
+
+pub land-requires-clause-parts : goal.land-requires-clause-parts
+land-requires-clause-parts g c κs within = subst (λ n. 1 < n) (sym (ap (λ p. p.parts) c.pair.ensures.rest)) c.requires.parts
