@@ -63,20 +63,28 @@ fn none(alloc: Global) -> MemoryDisk {
     MemoryDisk::new(Vec::new(alloc))
 }
 
-// All moves are the clients'.
+// All moves are the clients', in whatever order their steps come, ten times.
 #[test]
 fn eight_clients(rt: HostRuntime) -> Result<(), Fail> {
     let alloc = rt.alloc();
-    let (made, _, disk) = ran::<Sha256Address, _, _>(&rt, alloc, "init", none(alloc), none(alloc))?;
-    let (status, text, _) = ran::<Sha256Address, _, _>(
-        &rt,
-        alloc,
-        "clients 8 200 7",
-        disk,
-        none(alloc),
-    )?;
-    assert_eq!(rt; (made, status), (Status::Done, Status::Done));
-    let _report = reported(&rt, alloc, &text, 8)?;
+    for _ in 0..10 {
+        let (made, _, disk) = ran::<Sha256Address, _, _>(
+            &rt,
+            alloc,
+            "init",
+            none(alloc),
+            none(alloc),
+        )?;
+        let (status, text, _) = ran::<Sha256Address, _, _>(
+            &rt,
+            alloc,
+            "clients 8 200 7",
+            disk,
+            none(alloc),
+        )?;
+        assert_eq!(rt; (made, status), (Status::Done, Status::Done));
+        let _report = reported(&rt, alloc, &text, 8)?;
+    }
     Ok(())
 }
 

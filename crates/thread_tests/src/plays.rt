@@ -54,7 +54,7 @@ fn share<N: Named<DocOp, DocReply> + Drop + Send + Sync, G: Gate, R: Threads + W
     scripts: &[Listing<Step>],
     gate: &G,
 ) -> (Listing<Outcome>, Documents)
-    requires name { IsNamed blank N.table N.begun N.terms N.parts N.opened }
+    requires name { IsNamed blank N.table N.queue N.begun N.terms N.parts N.opened }
     requires drops { N.drops ≡ true }
     requires parts { 2 * length scripts.now < blank.parts }
 {

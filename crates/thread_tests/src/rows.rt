@@ -21,7 +21,7 @@ fn in_two_threads<N: Named<SumOp, ()> + Send + Sync, R: Threads + Wait + Abort +
     rt: &R,
     blank: Unnamed,
 )
-    requires name { IsNamed blank N.table N.begun N.terms N.parts N.opened }
+    requires name { IsNamed blank N.table N.queue N.begun N.terms N.parts N.opened }
     requires parts { blank.parts ≡ 2 }
 {
     let (shared, mut u): (Store<N>, Pass<Sum, N>) = Shared::new(blank);
@@ -44,7 +44,7 @@ fn two_threads(rt: HostRuntime) {
 
 // The disk fails under one caller, and another goes on looking.
 fn fails<N: Named<SumOp, ()>, R: Wait + Abort>(rt: &R, blank: Unnamed)
-    requires name { IsNamed blank N.table N.begun N.terms N.parts N.opened }
+    requires name { IsNamed blank N.table N.queue N.begun N.terms N.parts N.opened }
     requires parts { blank.parts ≡ 2 }
 {
     let (shared, mut u): (Store<N>, Pass<Sum, N>) = Shared::new(blank);

@@ -3,4 +3,4 @@ use Rattle.std.proofs.Common.{true}
 use Rattle.thread_tests.proofs.plays.play.Given as goal
 
 abbrev pub ghosts-share : goal.ghosts-share
-ghosts-share g a = record { table = a.blank.table; begun = a.blank.core.history; terms = a.blank.core.terms; parts = a.blank.parts; opened = a.blank.opened; drops = true }
+ghosts-share g a = record { table = a.blank.table; queue = a.blank.queue; begun = a.blank.core.history; terms = a.blank.core.terms; parts = a.blank.parts; opened = a.blank.opened; drops = true }

@@ -3,4 +3,4 @@ use Rattle.std.proofs.Common.{false}
 use Rattle.thread_tests.proofs.rows.a_fault.Given as goal
 
 abbrev pub ghosts-fails : goal.ghosts-fails
-ghosts-fails g a = record { table = a.blank.table; begun = a.blank.core.history; terms = a.blank.core.terms; parts = a.blank.parts; opened = a.blank.opened; drops = false }
+ghosts-fails g a = record { table = a.blank.table; queue = a.blank.queue; begun = a.blank.core.history; terms = a.blank.core.terms; parts = a.blank.parts; opened = a.blank.opened; drops = false }

@@ -3,4 +3,4 @@ use Rattle.std.proofs.Common.{false}
 use Rattle.thread_tests.proofs.rows.two_threads.Given as goal
 
 abbrev pub ghosts-in_two_threads : goal.ghosts-in_two_threads
-ghosts-in_two_threads g a = record { table = a.blank.table; begun = a.blank.core.history; terms = a.blank.core.terms; parts = a.blank.parts; opened = a.blank.opened; drops = false }
+ghosts-in_two_threads g a = record { table = a.blank.table; queue = a.blank.queue; begun = a.blank.core.history; terms = a.blank.core.terms; parts = a.blank.parts; opened = a.blank.opened; drops = false }
