@@ -73,10 +73,10 @@ fn a_fault_under_many(rt: HostRuntime) -> Result<(), Fail> {
         };
         let scripts = scripts(alloc, 16)?;
         let (outcomes, core) = play(&rt, alloc, core, &scripts, &OpenGate);
-        let mut landed = 0;
+        let mut landed: u64 = 0;
         for outcome in outcomes.as_slice() {
             assert!(rt; is_done_or_failed(outcome));
-            landed += moves_of(outcome) as u64;
+            landed = landed.saturating_add(moves_of(outcome) as u64);
         }
         assert!(rt; landed <= core.moves());
         assert_eq!(rt; core.has_failed(), core.moves() < 32);
