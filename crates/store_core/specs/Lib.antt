@@ -11,4 +11,3 @@ pub mod Answers
 pub mod Bundling
 pub mod Receiving
 pub mod Batches
-pub mod Together
