@@ -6,6 +6,7 @@ use Rattle.branch_names.specs.declared.terms.Terms.{Terms}
 use Rattle.branch_history.specs.declared.moves.Move.{Move}
 use Rattle.branch_history.specs.Commits.{graph_of}
 use Rattle.branch_history.specs.History.{Store, store_of}
+use Rattle.branch_history.specs.Laws.{IsWithin}
 use Rattle.branch_history.proofs.Grown.{length-graph}
 use Rattle.branch_compact.specs.Compact.{is_live, kept_moves, compact}
 use Rattle.branch_compact.specs.Marks.{IsReadOf, is_marked, is_reached, all_made}
@@ -26,17 +27,20 @@ module _ {O R : Type 0} where
         let s : Store O R = store_of terms.origin moves in
         marked n ∙ ap (λ b. is_reached graph b n) view ∙ ap (λ g. is_reached g branches n) read.parents ∙ ap (λ b. is_reached (graph_of s.commits) b n) read.heads ∙ reached-live s n
 
-    -- where the live commits are marked, the moves that stay are the compact history
-    pub marked-compact : (slice : List Branch) (marks : List Bool) → slice ≡ branches → ((n : ℕ) → is_marked marks n ≡ is_reached graph slice n) → kept_moves (is_marked marks) moves ≡ compact terms moves
-    unfolding compact
-    marked-compact slice marks view marked =
-        let live : is_marked marks ≡ is_live (store_of terms.origin moves) = fun_ext (marked-live slice marks view marked) in
-        ap (λ (keep : ℕ → Bool). kept_moves keep moves) live
-
     -- each commit of the store has its parents in the graph
     pub graph-count : length graph ≡ length (store_of terms.origin moves).commits
     graph-count = ap length read.parents ∙ length-graph (store_of terms.origin moves).commits
 
-    -- no more commits are made than there are
-    pub made-few : length graph < 2 ^ 32 → 1 + all_made moves < 2 ^ 32
-    made-few few = omega (arith, few, length-commits terms.origin moves, ap length read.parents, length-graph (store_of terms.origin moves).commits)
+  -- where the live commits are marked, the moves that stay are the compact history
+  pub live-compact : (terms : Terms) (moves : List (Move O R)) (marks : List Bool) → ((n : ℕ) → is_marked marks n ≡ is_live (store_of terms.origin moves) n) → kept_moves (is_marked marks) moves ≡ compact terms moves
+  unfolding compact
+  live-compact terms moves marks live = ap (λ (keep : ℕ → Bool). kept_moves keep moves) (fun_ext live)
+
+  module _ (terms : Terms) (moves : List (Move O R)) (within : IsWithin terms moves) where
+    -- there are no more commits than there may be
+    pub few-commits : length (store_of terms.origin moves).commits < 2 ^ 32
+    few-commits = let most = terms.limits.in_range.commits_high in omega (arith, most, within.commits)
+
+    -- and no more are made
+    pub made-few : 1 + all_made moves < 2 ^ 32
+    made-few = omega (arith, few-commits, length-commits terms.origin moves)

@@ -10,5 +10,5 @@ mod marks;
 mod reading;
 
 pub use kept::commits_made;
-pub use making::{compact, graph_of_moves, live_commits};
+pub use making::{compact, compact_marked, graph_of_moves, live_commits};
 pub use marks::mark_reached;

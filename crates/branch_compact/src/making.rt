@@ -11,7 +11,7 @@ use crate::marks::mark_live;
 use crate::reading::read_moves;
 use branch_graph::Graph;
 use branch_history::Move;
-use branch_history::laws::keeps_order;
+use branch_history::laws::{keeps_limits, keeps_order};
 use branch_names::Terms;
 use mrdt_model::{Listing, Memory, Mrdt};
 use std::alloc::Global;
@@ -49,6 +49,25 @@ pub fn live_commits<T: Mrdt>(
     Ok(marks)
 }
 
+/// The compact history of a valid one, given marks on its live commits, as `live_commits` gives them: without the
+/// commits that have no mark, and numbered anew. It goes over the moves once.
+pub fn compact_marked<T: Mrdt>(
+    alloc: Global,
+    terms: Terms,
+    marks: Vec<bool>,
+    moves: Listing<Move<T::Op, T::Reply>>,
+) -> Result<Listing<Move<T::Op, T::Reply>>, Memory>
+    requires valid { IsValid T.meaning terms moves }
+    requires count { length marks.items ≡ length (store_of terms.origin moves).commits }
+    requires live { (n : ℕ) → is_marked marks.items n ≡ is_live (store_of terms.origin moves) n }
+    ensures { IfOk result (λ fewer. fewer ≡ compact_of terms moves) }
+{
+    keeps_limits::<T>();
+    let kept = Kept::new(alloc, marks)?;
+    let fewer = keep_moves(alloc, &kept, moves)?;
+    Ok(fewer)
+}
+
 /// The compact history of a valid one, under the same terms: without the commits that no head of a
 /// branch reaches that was not dropped, and numbered anew. It goes over the moves twice, and over the
 /// parents of each commit once.
@@ -60,10 +79,6 @@ pub fn compact<T: Mrdt>(
     requires { IsValid T.meaning terms moves }
     ensures { IfOk result (λ fewer. fewer ≡ compact_of terms moves) }
 {
-    keeps_order::<T>();
-    let read = read_moves::<T>(alloc, terms, moves.as_slice())?;
-    let marks = mark_live(alloc, &read.graph, &read.branches)?;
-    let kept = Kept::new(alloc, marks)?;
-    let fewer = keep_moves(alloc, &kept, moves)?;
-    Ok(fewer)
+    let marks = live_commits::<T>(alloc, terms, moves.as_slice())?;
+    compact_marked::<T>(alloc, terms, marks, moves)
 }

@@ -6,7 +6,7 @@ use mathlib.Core.List.{IsPrefix}
 use Rattle.branch_history.specs.declared.moves.Move.{Move}
 use Rattle.store_seen.specs.declared.answers.Landed.{Landed}
 use Rattle.store_core.specs.declared.answers.LandRefused.{LandRefused}
-use Rattle.branch_shared.specs.Batches.{TakenView, answered, answered_all, brings, bring, brought}
+use Rattle.branch_shared.specs.Batches.{TakenView, answered, answered_all, brings, brought}
 
 module _ {X : Type 0} where
   all-suc : (P : X → Type 0) (xs : List X) (i : ℕ) (x : X) → i < length xs → AllByRecursion P (take i xs) → x ≡ get_or xs i x → P x → AllByRecursion P (take (suc i) xs)

@@ -83,7 +83,8 @@ fn see_one<T: Mrdt, D: Disk + Drop, A: Address, N: Named<T::Op, T::Reply>>(
     requires history { core.now.history ≡ N.begun ++ writer.old.moves }
     requires known { writer.old.faults ≡ faults_since D.faults core.now }
     ensures writer { writer.new ≡ writer.old }
-    ensures taken { taken.new ≡ seen_to (faults_since D.faults core.now) core.now.history taken.old }
+    ensures taken { taken.new
+        ≡ seen_to (faults_since D.faults core.now) core.now.history taken.old }
     ensures behind { IsBehind (faults_since D.faults core.now) core.now.history
         taken.old.given.pass }
 {

@@ -12,7 +12,8 @@ use std::alloc::Global;
 use std::marker::{Brand, Model};
 use store_core::Core;
 
-/// A core that threads are to share, with a front and a queue of jobs of its own, under no name yet. Contracts see a `BlankView`.
+/// A core that threads are to share, with a front and a queue of jobs of its own, under no name yet. Contracts see a
+/// `BlankView`.
 #[derive(Drop)]
 pub struct Blank<T: Mrdt, D: Disk + Drop, A: Address> {
     pub(crate) alloc: Global,

@@ -44,8 +44,8 @@ type Claim<T, A, N> = Ticket<Job<T, A>, Given<T, N>, Landing<T, A, N>>;
 /// A store that threads share by reference. What it began with, its terms and the number of its parts are those that N
 /// names. Contracts see the front's `Opening`.
 ///
-/// `look`, `pair`, `group`, `land`, `fork` and `drop_branch` wait for the one lock, and do under it what one event of the store is;
-/// `land_batched` waits for it too, or for another caller who holds it and lands its move together with others. After each
+/// `look`, `pair`, `group`, `land`, `fork` and `drop_branch` wait for the one lock, and do under it what one event of the
+/// store is; `land_batched` waits for it too, or for another caller who holds it and lands its move with others. After each
 /// of them, refused or not, the pass has seen a beginning of the one history, no shorter than the one that it had seen, and
 /// the answer is the machine's there. That this is all of the history up to the call is how the code goes: no contract can
 /// say it of callers that never met.

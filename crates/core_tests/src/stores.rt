@@ -15,6 +15,16 @@ pub fn fresh<A: Address>(
     first: u32,
 ) -> Core<Sum, MemoryDisk, A> {
     let terms = Terms::new(Limits::default(), first, 0).expect(rt, "terms");
+    fresh_under(rt, alloc, failing, terms)
+}
+
+// A store of an empty disk in memory, of which listed calls fail, with these terms.
+pub fn fresh_under<A: Address>(
+    rt: &impl Abort,
+    alloc: Global,
+    failing: Vec<u64>,
+    terms: Terms,
+) -> Core<Sum, MemoryDisk, A> {
     match Core::init(alloc, MemoryDisk::new(failing), terms) {
         Ok(core) => core,
         Err(_) => panic!(rt; "no store"),

@@ -19,12 +19,10 @@ use Rattle.branch_machine.specs.Validity.{IsFullyValid}
 use Rattle.branch_machine.proofs.Pairs.{length-pairs_of, pairs_after-longer}
 use Rattle.branch_machine.proofs.Distinct.{all-sized, few-sized, valid-sound}
 use Rattle.object_store.specs.Views.{ObjectsView}
-use Rattle.store_seen.specs.Views.{CoreView, VersionsView}
+use Rattle.store_seen.specs.Views.{VersionsView}
 use Rattle.recorded_history.specs.Items.{AreSized}
-use Rattle.recorded_history.specs.Keeps.{IsRecorded}
-use Rattle.recorded_history.specs.Views.{recorded_of}
+use Rattle.recorded_history.specs.Keeps.{IsLaidOut}
 use Rattle.recorded_history.proofs.Alone.{found-alone, valid-alone}
-use Rattle.recorded_history.proofs.Kept.{core-settled, settled-valid, settled-addressed, settled-whole}
 use Rattle.recorded_history.proofs.Steps.{address-found}
 
 -- the pair of a number
@@ -111,23 +109,20 @@ module _ {S O R Q A : Type 0} (fixed : Fixed S O R Q A) where
           },
         )
 
--- The answer, where no move is pending.
-module _ {S O R Q A : Type 0} (meaning : Meaning S O R Q A) (laws : KeepsLaws meaning) (address : List ℕ → List ℕ) (size : HasSize address) (settled : CoreView (Move O R))
-    (versions : VersionsView (Move O R)) (objects : ObjectsView) (stood : List ℕ) (kept : IsRecorded meaning address (recorded_of settled versions.core) stood versions objects) (none : (recorded_of settled versions.core).pending ≡ []) where
+-- The answer, of a history that is laid out.
+module _ {S O R Q A : Type 0} (meaning : Meaning S O R Q A) (laws : KeepsLaws meaning) (address : List ℕ → List ℕ) (size : HasSize address)
+    (versions : VersionsView (Move O R)) (objects : ObjectsView) (laid : IsLaidOut meaning address versions objects) where
   abbrev known : Fixed S O R Q A
-  known = fix meaning settled.terms address
+  known = fix meaning versions.core.terms address
+
+  abbrev history : List (Move O R)
+  history = versions.core.history
 
   abbrev all : List Pair
-  all = pairs_of known (store_after known settled.history).commits
+  all = pairs_of known (store_after known history).commits
 
-  all-counted : length (store_of versions.core.terms.origin versions.core.history).commits ≡ length all
-  all-counted = ap (λ (core : CoreView (Move O R)). length (store_of core.terms.origin core.history).commits) (core-settled meaning address settled versions objects stood kept none) ∙ sym (length-pairs_of known (store_after known settled.history).commits)
-
-  whole : objects.stored ++ objects.staged ≡ objects_of known settled.history
-  whole = settled-whole meaning address settled versions objects stood kept none
-
-  valid : IsFullyValid known settled.history
-  valid = settled-valid meaning address settled versions objects stood kept
+  all-counted : length (store_of versions.core.terms.origin history).commits ≡ length all
+  all-counted = sym (length-pairs_of known (store_after known history).commits)
 
   pub item-past : (n : ℕ) → length (store_of versions.core.terms.origin versions.core.history).commits ≤ n → None ≡ slice_get all n
   item-past n past = let count = all-counted in sym (slice_get_past all n (omega (arith, past, count)))
@@ -137,9 +132,8 @@ module _ {S O R Q A : Type 0} (meaning : Meaning S O R Q A) (laws : KeepsLaws me
   item-first item n at there gives =
       let count = all-counted in
       let some : 0 < length all = omega (arith, at, there, count) in
-      let same = length-pairs_of known (store_after known settled.history).commits in
-      let first = first-objects known settled.history (omega (arith, some, same)) in
-      gives (value_text all 0) (commit_text all 0) first.0 (whole ∙ first.1) ∙ pair-there all 0 some ∙ ap (slice_get all) (sym at)
+      let first = first-objects known history (omega (arith, some, count)) in
+      gives (value_text all 0) (commit_text all 0) first.0 (laid.whole ∙ first.1) ∙ pair-there all 0 some ∙ ap (slice_get all) (sym at)
 
   pub item-behind : (item : Option Pair) (n : ℕ) (a : List ℕ) → 0 < n → n < length (store_of versions.core.terms.origin versions.core.history).commits → slice_get versions.addresses n ≡ Some a
       → ((value : List ℕ) (c : CommitFields) → AreSized c → c.value ≡ address value → first_with address a (objects.stored ++ objects.staged) ≡ Some (commit_object c) → first_with address c.value (objects.stored ++ objects.staged) ≡ Some value
@@ -147,13 +141,12 @@ module _ {S O R Q A : Type 0} (meaning : Meaning S O R Q A) (laws : KeepsLaws me
   item-behind item n a low there at gives =
       let count = all-counted in
       let lt : n < length all = omega (arith, there, count) in
-      let same = length-pairs_of known (store_after known settled.history).commits in
-      let found = found-by known laws size settled.history valid n low (omega (arith, lt, same)) in
+      let found = found-by known laws size history laid.valid n low there in
       let c : CommitFields = found.0 in
       let is = found.1 in
-      let own : address (commit_text all n) ≡ a = address-found address all n a (sym (ap (λ (l : List (List ℕ)). slice_get l n) (settled-addressed meaning address settled versions objects stood kept none)) ∙ at) in
+      let own : address (commit_text all n) ≡ a = address-found address all n a (sym (ap (λ (l : List (List ℕ)). slice_get l n) laid.addressed) ∙ at) in
       let here : first_with address a (objects.stored ++ objects.staged) ≡ Some (commit_object c) =
-      ap (λ (s : Stored). first_with address a s) whole ∙ ap (λ (b : List ℕ). first_with address b (objects_of known settled.history)) (sym own ∙ ap address is.text) ∙ is.own in
-      gives (value_text all n) c is.sized is.value here (ap (λ (s : Stored). first_with address c.value s) whole ∙ is.its)
+      ap (λ (s : Stored). first_with address a s) laid.whole ∙ ap (λ (b : List ℕ). first_with address b (objects_of known history)) (sym own ∙ ap address is.text) ∙ is.own in
+      gives (value_text all n) c is.sized is.value here (ap (λ (s : Stored). first_with address c.value s) laid.whole ∙ is.its)
       ∙ ap (λ (t : List ℕ). let p : Pair = record { value = value_text all n; commit = t } in Some p) (sym is.text)
       ∙ pair-there all n lt

@@ -1,6 +1,6 @@
 -- What a recorded history answers to an item.
-use Rattle.std.proofs.Common.{◌≡◌, inl, inr, ℕ, ◌≤◌, ◌^◌, List, [], ◌∷◌, ◌++◌, length, refl, ap, sym, ◌∙◌, subst, Option, Some, None}
-use Rattle.std.specs.Prelude.{option_and_then}
+use Rattle.std.proofs.Common.{◌≡◌, inl, inr, ℕ, ◌≤◌, ◌^◌, List, [], ◌∷◌, ◌++◌, length, refl, ap, sym, ◌∙◌, subst, append-nil, append_assoc, Option, Some, None, Ok, Err}
+use Rattle.std.specs.Prelude.{option_and_then, IsErrOf, Result}
 use Rattle.mrdt_model.specs.Laws.{Meaning}
 use Rattle.branch_wire.specs.StoredObjects.{Stored, collision, fresh, file_of}
 use Rattle.branch_history.specs.declared.moves.Move.{Move}
@@ -18,9 +18,9 @@ use Rattle.branch_machine.specs.Machine.{collision_refusal, commit_received, pai
 use Rattle.branch_machine.specs.Laws.{IsNew}
 use Rattle.branch_machine.specs.Validity.{IsItem, Receives}
 use Rattle.branch_machine.proofs.Valid.{full_move-is}
-use Rattle.branch_files.specs.Records.{record_with, new_address}
+use Rattle.branch_files.specs.Records.{record_of, record_with, new_address}
 use Rattle.heads_journal.specs.declared.record.Record.TheVariants as journal
-use Rattle.machine_answers.specs.Answers.{Answer, Made, Still, Refused, TurnsAs, CountsAs}
+use Rattle.machine_answers.specs.Answers.{Answer, Made, Still, Refused, Short, TurnsAs, CountsAs}
 use Rattle.mrdt_model.specs.declared.errors.Unread.{Unread}
 use Rattle.mrdt_model.specs.declared.errors.Unread.TheVariants as unread
 use Rattle.object_store.specs.declared.errors.StageRefused.{StageRefused}
@@ -35,12 +35,15 @@ use Rattle.store_seen.specs.Turns as turns
 use Rattle.store_seen.specs.Views.{CoreView, VersionsView}
 use Rattle.recorded_history.specs.Asks.{IsAddressed}
 use Rattle.recorded_history.specs.Keeps.{IsRecorded}
-use Rattle.recorded_history.specs.Machine.{FullyRefuses, IsRecordOf, addresses_of}
-use Rattle.recorded_history.specs.Receives.{HasTurn, AnswersItem, ReceivesItem, item_refused, refused_item, unstaged_item, unread_item}
+use Rattle.recorded_history.specs.Machine.{FullyRefuses, addresses_of}
+use Rattle.recorded_history.specs.Receives.{HasTurn, AnswersItem, PendsBehind, ReceivesItem, ReceivesMore, HasItsRecord, HasLastRecord, item_answer, item_refused, refused_item, unstaged_item, unread_item}
 use Rattle.recorded_history.specs.Views.{RecordedView, recorded_of}
+use Rattle.recorded_history.specs.declared.arrivals.Arrived.{Arrived}
+use Rattle.recorded_history.specs.declared.arrivals.Arrived.TheVariants as arrived
 use Rattle.recorded_history.specs.declared.arrivals.ReceiveRefused.{ReceiveRefused}
 use Rattle.recorded_history.specs.declared.arrivals.ReceiveRefused.TheVariants as refusal
-use Rattle.recorded_history.proofs.Kept.{core-settled, laid-out, core-more, settled-valid, settled-addressed, pending-one, recorded-more}
+use Rattle.recorded_history.proofs.Kept.{laid-out, core-on, pending-on, recorded-on}
+use Rattle.recorded_history.proofs.Pending.{written-alone}
 use Rattle.recorded_history.proofs.Steps.{full-makes, full-collides, full-refuses, one-refused, one-stored, one-addresses, one-address, refusal_for, new_pair}
 
 -- a move that receives a commit
@@ -211,33 +214,54 @@ refused-counts A R (refusal.FullMoves count) history = tt
 refused-counts A R (refusal.Collision address stored new) history = tt
 refused-counts A R refusal.Memory history = tt
 
+-- nothing comes behind what is pending where an item is refused
+refused-pends : {M : Type 0} (A R : Type 0) (why : ReceiveRefused) (pending : List M) → PendsBehind (let answer : Answer A R = item_refused why in answer) pending [] pending
+refused-pends A R refusal.BadBundle pending = sym (append-nil pending)
+refused-pends A R refusal.OwnOrigin pending = sym (append-nil pending)
+refused-pends A R (refusal.TimeClash number) pending = sym (append-nil pending)
+refused-pends A R (refusal.Exhausted clock) pending = sym (append-nil pending)
+refused-pends A R (refusal.ValueTooLarge size) pending = sym (append-nil pending)
+refused-pends A R (refusal.FullCommits count) pending = sym (append-nil pending)
+refused-pends A R (refusal.FullMoves count) pending = sym (append-nil pending)
+refused-pends A R (refusal.Collision address stored new) pending = sym (append-nil pending)
+refused-pends A R refusal.Memory pending = tt
+
 -- a refusal where nothing has changed
-pub item-stays : {S O R Q A : Type 0} (fixed : Fixed S O R Q A) (item : Pair) (r new : RecordedView (Move O R)) (why : ReceiveRefused) → r.pending ≡ [] → new ≡ r → AnswersItem fixed r.written item [] (let answer : Answer A R = item_refused why in answer)
-    → ReceivesItem fixed item r new (item_refused why)
-item-stays {S} {O} {R} {Q} {A} fixed item r new why none same is =
-    subst (λ (x : RecordedView (Move O R)). ReceivesItem fixed item r x (item_refused why)) (sym same)
-    (record {
-      answers = subst (λ (l : List (Move O R)). AnswersItem fixed r.written item l (item_refused why)) (sym none) is;
-      rest = refl;
-      counted = refused-counts A R why (r.written ++ r.pending);
-    })
+pub item-stays : {S O R Q A : Type 0} (fixed : Fixed S O R Q A) (item : Pair) (r new : RecordedView (Move O R)) (why : ReceiveRefused) → new ≡ r → AnswersItem fixed (r.written ++ r.pending) item [] (let answer : Answer A R = item_refused why in answer)
+    → ReceivesMore fixed item r new (item_refused why)
+item-stays {S} {O} {R} {Q} {A} fixed item r new why same is =
+    subst (λ (x : RecordedView (Move O R)). ReceivesMore fixed item r x (item_refused why)) (sym same)
+    (record { made = []; answers = is; pending = refused-pends A R why r.pending; rest = refl; counted = refused-counts A R why (r.written ++ r.pending) })
 
 -- what is here already
-pub item-here : {S O R Q A : Type 0} (fixed : Fixed S O R Q A) (item : Pair) (r : RecordedView (Move O R)) (n : ℕ) → r.pending ≡ [] → commit_at fixed r.written item ≡ Some n → ReceivesItem fixed item r r (Still (machine.Here n))
-item-here fixed item r n none is = record { answers = (answers (machine.Here n), inl (n, is, refl), refl, none); rest = refl; counted = tt }
+pub item-here : {S O R Q A : Type 0} (fixed : Fixed S O R Q A) (item : Pair) (r : RecordedView (Move O R)) (n : ℕ) → commit_at fixed (r.written ++ r.pending) item ≡ Some n → ReceivesMore fixed item r r (Still (machine.Here n))
+item-here fixed item r n is = record { made = []; answers = (answers (machine.Here n), inl (n, is, refl), refl, refl); pending = sym (append-nil r.pending); rest = refl; counted = tt }
 
-module _ {S O R Q A : Type 0} (meaning : Meaning S O R Q A) (address : List ℕ → List ℕ) (settled : CoreView (Move O R)) (old : VersionsView (Move O R)) (objects : ObjectsView) (stood : List ℕ) (kept : IsRecorded meaning address (recorded_of settled old.core) stood old objects) (none : (recorded_of settled old.core).pending ≡ []) where
+-- where memory is short, no move is made
+pub item-short : {S O R Q A : Type 0} (fixed : Fixed S O R Q A) (item : Pair) (r new : RecordedView (Move O R)) → new ≡ record r { pending = new.pending } → ReceivesMore fixed item r new (let answer : Answer A R = Short in answer)
+item-short fixed item r new rest = record { made = []; answers = refl; pending = tt; rest = rest; counted = tt }
+
+-- and what was pending is undone
+pub item-undone : {S O R Q A : Type 0} (fixed : Fixed S O R Q A) (item : Pair) (r mid new : RecordedView (Move O R)) → mid ≡ record r { pending = mid.pending } → new ≡ record mid { pending = [] } → ReceivesMore fixed item r new (let answer : Answer A R = Short in answer)
+item-undone {S} {O} {R} fixed item r mid new rest undone =
+    let back : new ≡ record r { pending = [] } = undone ∙ ap (λ (x : RecordedView (Move O R)). record x { pending = [] }) rest in
+    item-short fixed item r new (back ∙ ap (λ (l : List (Move O R)). record r { pending = l }) (sym (ap (λ (x : RecordedView (Move O R)). x.pending) back)))
+
+module _ {S O R Q A : Type 0} (meaning : Meaning S O R Q A) (address : List ℕ → List ℕ) (settled : CoreView (Move O R)) (old : VersionsView (Move O R)) (objects : ObjectsView) (stood : List ℕ) (kept : IsRecorded meaning address (recorded_of settled old.core) stood old objects) where
   abbrev own : Fixed S O R Q A
   own = fix meaning settled.terms address
 
-  core_is : old.core ≡ settled
-  core_is = core-settled meaning address settled old objects stood kept none
+  abbrev waiting : List (Move O R)
+  waiting = (recorded_of settled old.core).pending
+
+  abbrev history : List (Move O R)
+  history = settled.history ++ waiting
 
   -- each commit has its address
   pub addressed : IsAddressed meaning address old
   addressed = let k = laid-out meaning address settled old objects stood kept in record { valid = k.valid; addressed = k.addressed }
 
-  module _ (item : Pair) (unseen : commit_at own settled.history item ≡ None) (step : machine.Step O Q) (of : IsItem own settled.history step item) (staged : ObjectsView) (free : collision address objects.stored (both item) ≡ None) (stored_is : staged.stored ≡ objects.stored) (staged_is : staged.staged ≡ fresh objects.stored (both item))
+  module _ (item : Pair) (unseen : commit_at own history item ≡ None) (step : machine.Step O Q) (of : IsItem own history step item) (staged : ObjectsView) (free : collision address (objects.stored ++ objects.staged) (both item) ≡ None) (stored_is : staged.stored ≡ objects.stored) (staged_is : staged.staged ≡ objects.staged ++ fresh (objects.stored ++ objects.staged) (both item))
       (new : VersionsView (Move O R)) (commit moves : ℕ) (given : List ℕ) (given_is : given ≡ address item.commit) (steps : turns.Steps meaning step old new (old.addresses ++ given ∷ []) (Made (machine.New commit) moves)) where
     abbrev made : Move O R
     made = steps.takes.turns.0
@@ -245,52 +269,89 @@ module _ {S O R Q A : Type 0} (meaning : Meaning S O R Q A) (address : List ℕ 
     abbrev outcome : machine.Outcome A R
     outcome = machine.New commit
 
-    turned : turn meaning settled.terms settled.history step ≡ makes made outcome
-    turned = subst (λ (k : CoreView (Move O R)). turn meaning k.terms k.history step ≡ makes made outcome) core_is steps.takes.turns.1
+    turned : turn meaning settled.terms history step ≡ makes made outcome
+    turned = subst (λ (k : CoreView (Move O R)). turn meaning k.terms k.history step ≡ makes made outcome) kept.moves steps.takes.turns.1
 
-    no_clash : collision address (objects_of own settled.history) (both item) ≡ None
-    no_clash = ap (λ (s : Stored). collision address s (both item)) (sym kept.stored) ∙ free
+    no_clash : collision address (objects_of own history) (both item) ≡ None
+    no_clash = ap (λ (s : Stored). collision address s (both item)) (sym kept.staged) ∙ free
 
     grown : new.core ≡ record old.core { history = old.core.history ++ made ∷ [] }
     grown =
         ap (λ (v : VersionsView (Move O R)). v.core) steps.rest
         ∙ ap (λ (l : List (Move O R)). let k : CoreView (Move O R) = record { history = l; terms = old.core.terms } in k) (steps.takes.history ∙ ap (λ (t : machine.Turn O R A). old.core.history ++ t.made) steps.takes.turns.1)
 
-    longer : new.core ≡ record { history = settled.history ++ made ∷ []; terms = settled.terms }
-    longer = core-more meaning address settled old objects stood kept none made new.core grown
+    longer : new.core ≡ record { history = history ++ made ∷ []; terms = settled.terms }
+    longer = core-on meaning address settled old objects stood kept made new.core grown
 
-    one : recorded_of settled new.core ≡ record { written = settled.history; pending = made ∷ []; terms = settled.terms }
-    one = pending-one meaning address settled made new longer
+    one : recorded_of settled new.core ≡ record { written = settled.history; pending = waiting ++ made ∷ []; terms = settled.terms }
+    one = pending-on meaning address settled waiting made new longer
 
-    whole : staged.stored ++ staged.staged ≡ objects_of own (settled.history ++ made ∷ [])
+    whole : staged.stored ++ staged.staged ≡ objects_of own (history ++ made ∷ [])
     whole =
-        ap (λ (s : Stored). s ++ staged.staged) stored_is ∙ ap (λ (s : Stored). objects.stored ++ s) staged_is ∙ ap (λ (s : Stored). s ++ fresh s (both item)) kept.stored
-        ∙ sym (stored-is own settled.history item unseen step of made outcome turned no_clash)
+        ap (λ (s : Stored). s ++ staged.staged) stored_is ∙ ap (λ (s : Stored). objects.stored ++ s) staged_is
+        ∙ sym (append_assoc objects.stored objects.staged (fresh (objects.stored ++ objects.staged) (both item))) ∙ ap (λ (s : Stored). s ++ fresh s (both item)) kept.staged
+        ∙ sym (stored-is own history item unseen step of made outcome turned no_clash)
 
-    stood_at : StoodAt settled.terms settled.history made 0
-    stood_at = subst (λ (m : Move O R). StoodAt settled.terms settled.history m 0) (sym (arrival own settled.history item unseen step of made outcome turned).is) tt
+    stood_at : StoodAt settled.terms history made 0
+    stood_at = subst (λ (m : Move O R). StoodAt settled.terms history m 0) (sym (arrival own history item unseen step of made outcome turned).is) tt
 
-    -- the move is pending
-    pub item-kept : IsValid meaning new.core.terms new.core.history → IsRecorded meaning address (recorded_of settled new.core) (0 ∷ []) new staged
+    -- the move is pending behind those that were
+    pub item-kept : IsValid meaning new.core.terms new.core.history → IsRecorded meaning address (recorded_of settled new.core) (stood ++ 0 ∷ []) new staged
     item-kept valid =
-        recorded-more meaning address settled made new longer staged 0 (settled-valid meaning address settled old objects stood kept) valid (new-is own settled.history item unseen step of made outcome turned no_clash) (free-is own settled.history item unseen step of made outcome turned no_clash) stood_at
-        (ap (λ (v : VersionsView (Move O R)). v.addresses) steps.rest ∙ ap (λ (l : List (List ℕ)). l ++ given ∷ []) (settled-addressed meaning address settled old objects stood kept none) ∙ ap (λ (a : List ℕ). addresses_of own settled.history ++ a ∷ []) given_is
-        ∙ sym (addresses-are own settled.history item unseen step of made outcome turned no_clash))
+        recorded-on meaning address settled waiting made new longer staged stood 0 kept.valid valid (new-is own history item unseen step of made outcome turned no_clash) (free-is own history item unseen step of made outcome turned no_clash) kept.came stood_at
+        (ap (λ (v : VersionsView (Move O R)). v.addresses) steps.rest ∙ ap (λ (l : List (List ℕ)). l ++ given ∷ []) kept.addressed ∙ ap (λ (a : List ℕ). addresses_of own history ++ a ∷ []) given_is
+        ∙ sym (addresses-are own history item unseen step of made outcome turned no_clash))
         (stored_is ∙ kept.stored) whole
 
     -- as the machine makes it of the item
-    pub item-taken : ReceivesItem own item (recorded_of settled old.core) (recorded_of settled new.core) (Made outcome moves)
+    pub item-taken : ReceivesMore own item (recorded_of settled old.core) (recorded_of settled new.core) (Made outcome moves)
     item-taken =
-        let full = full-is own settled.history item unseen step of made outcome turned no_clash in
+        let full = full-is own history item unseen step of made outcome turned no_clash in
         let all : new.core.history ≡ settled.history ++ (recorded_of settled new.core).pending =
-        ap (λ (k : CoreView (Move O R)). k.history) longer ∙ ap (λ (r : RecordedView (Move O R)). settled.history ++ r.pending) (sym one) in
+        ap (λ (k : CoreView (Move O R)). k.history) longer ∙ append_assoc settled.history waiting (made ∷ []) ∙ ap (λ (r : RecordedView (Move O R)). settled.history ++ r.pending) (sym one) in
         record {
-          answers = (full_turn own settled.history step, received own settled.history item unseen step of, (made, full), ap (λ (r : RecordedView (Move O R)). r.pending) one ∙ ap (λ (t : machine.Turn O R A). t.made) (sym full));
+          made = made ∷ [];
+          answers = (full_turn own history step, received own history item unseen step of, (made, full), ap (λ (t : machine.Turn O R A). t.made) (sym full));
+          pending = ap (λ (r : RecordedView (Move O R)). r.pending) one;
           rest = refl;
           counted = subst (λ (l : List (Move O R)). (moves ≡ length l) × (length l ≤ 2 ^ 48)) all steps.takes.counted;
         }
 
     -- with its record
-    pub item-record : (end : ℕ) → end ≡ length (file_of (staged.stored ++ staged.staged)) → IsRecordOf own (recorded_of settled new.core) (journal.Received given end)
+    pub item-record : (end : ℕ) → end ≡ length (file_of (staged.stored ++ staged.staged)) → HasLastRecord own (recorded_of settled old.core) (recorded_of settled new.core) (arrived.New commit moves (journal.Received given end))
     item-record end is =
-        (made, ap (λ (r : RecordedView (Move O R)). r.pending) one, record-is own settled.history item unseen step of made outcome turned no_clash given end given_is (is ∙ ap (λ (s : Stored). length (file_of s)) whole))
+        (made, ap (λ (r : RecordedView (Move O R)). r.pending) one, record-is own history item unseen step of made outcome turned no_clash given end given_is (is ∙ ap (λ (s : Stored). length (file_of s)) whole))
+
+-- the same where no move was pending
+module _ {S O R Q A : Type 0} (fixed : Fixed S O R Q A) (item : Pair) (old new : RecordedView (Move O R)) (none : old.pending ≡ []) where
+  alone-by : (answer : Answer A R) → (more : ReceivesMore fixed item old new answer) → new.pending ≡ more.made → ReceivesItem fixed item old new answer
+  alone-by answer more is = record {
+    answers = subst (λ (l : List (Move O R)). AnswersItem fixed l item new.pending answer) (written-alone old none)
+        (subst (λ (l : List (Move O R)). AnswersItem fixed (old.written ++ old.pending) item l answer) (sym is) more.answers);
+    rest = more.rest;
+    counted = more.counted;
+  }
+
+  behind-none : (made : List (Move O R)) → new.pending ≡ old.pending ++ made → new.pending ≡ made
+  behind-none made is = is ∙ ap (λ (l : List (Move O R)). l ++ made) none
+
+  pub received-alone : (result : Result Arrived ReceiveRefused) → ReceivesMore fixed item old new (item_answer result) → (IsErrOf result refusal.Memory → new.pending ≡ []) → ReceivesItem fixed item old new (item_answer result)
+  received-alone (Ok (arrived.Here commit)) more short = alone-by (Still (machine.Here commit)) more (behind-none more.made more.pending)
+  received-alone (Ok (arrived.New commit moves record_of_it)) more short = alone-by (Made (machine.New commit) moves) more (behind-none more.made more.pending)
+  received-alone (Err refusal.BadBundle) more short = alone-by (Refused machine.BadBundle) more (behind-none more.made more.pending)
+  received-alone (Err refusal.OwnOrigin) more short = alone-by (Refused machine.OwnOrigin) more (behind-none more.made more.pending)
+  received-alone (Err (refusal.TimeClash number)) more short = alone-by (Refused (machine.TimeClash number)) more (behind-none more.made more.pending)
+  received-alone (Err (refusal.Exhausted clock)) more short = alone-by (Refused (machine.Exhausted clock)) more (behind-none more.made more.pending)
+  received-alone (Err (refusal.ValueTooLarge size)) more short = alone-by (Refused (machine.ValueTooLarge size)) more (behind-none more.made more.pending)
+  received-alone (Err (refusal.FullCommits count)) more short = alone-by (Refused (machine.FullCommits count)) more (behind-none more.made more.pending)
+  received-alone (Err (refusal.FullMoves count)) more short = alone-by (Refused (machine.FullMoves count)) more (behind-none more.made more.pending)
+  received-alone (Err (refusal.Collision address stored fresh)) more short = alone-by (Refused (machine.Collision address stored fresh)) more (behind-none more.made more.pending)
+  received-alone (Err refusal.Memory) more short = alone-by Short more (short refl ∙ sym more.answers)
+
+  pub record-alone : new.written ≡ old.written → (got : Arrived) → HasLastRecord fixed old new got → HasItsRecord fixed new got
+  record-alone same (arrived.Here commit) is = tt
+  record-alone same (arrived.New commit moves r) (made, pending, is) = (
+    made,
+    behind-none (made ∷ []) pending,
+    is ∙ ap (λ (l : List (Move O R)). record_of fixed l made) (written-alone old none ∙ sym same),
+  )

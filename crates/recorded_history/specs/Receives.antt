@@ -1,10 +1,11 @@
 -- What a recorded history answers to an item of a bundle.
-use Rattle.std.specs.Prelude.{◌≡◌, ℕ, List, [], ◌++◌, Result, Ok, Err}
+use Rattle.std.specs.Prelude.{◌≡◌, ℕ, List, [], ◌∷◌, ◌++◌, Result, Ok, Err}
 use Rattle.branch_history.specs.declared.moves.Move.{Move}
 use Rattle.branch_history.specs.Steps as machine
 use Rattle.branch_machine.specs.Fixed.{Fixed}
 use Rattle.branch_machine.specs.Objects.{Pair}
 use Rattle.branch_machine.specs.Validity.{Receives}
+use Rattle.branch_files.specs.Records.{record_of}
 use Rattle.machine_answers.specs.Answers.{Answer, Made, Still, Refused, Failed, Short, TurnsAs, CountsAs, behind}
 use Rattle.mrdt_model.specs.declared.errors.Unread.{Unread}
 use Rattle.mrdt_model.specs.declared.errors.Unread.TheVariants as unread
@@ -37,6 +38,20 @@ pub record ReceivesItem {S O R Q A : Type 0} (fixed : Fixed S O R Q A) (item : P
   pub rest : new ≡ record old { pending = new.pending }
   pub counted : CountsAs answer (new.written ++ new.pending)
 
+-- what is pending behind an answer: what was, and behind it the moves that were made. Nothing is said where memory was short
+abbrev pub PendsBehind : {M A R : Type 0} → Answer A R → List M → List M → List M → Type 0
+PendsBehind Short old made new = Unit {0}
+PendsBehind answer old made new = new ≡ old ++ made
+
+-- An item is answered as the machine receives it behind the moves that are pending already: the move that it makes is pending behind them then.
+pub record ReceivesMore {S O R Q A : Type 0} (fixed : Fixed S O R Q A) (item : Pair)
+    (old new : RecordedView (Move O R)) (answer : Answer A R) : Type 0 where
+  pub made : List (Move O R)
+  pub answers : AnswersItem fixed (old.written ++ old.pending) item made answer
+  pub pending : PendsBehind answer old.pending made new.pending
+  pub rest : new ≡ record old { pending = new.pending }
+  pub counted : CountsAs answer (new.written ++ new.pending)
+
 -- what was received, or is here, as an answer
 abbrev pub item_arrived : {A R : Type 0} → Arrived → Answer A R
 item_arrived (arrived.Here commit) = Still (machine.Here commit)
@@ -62,6 +77,12 @@ item_answer (Err refused) = item_refused refused
 abbrev pub HasItsRecord : {S O R Q A : Type 0} → Fixed S O R Q A → RecordedView (Move O R) → Arrived → Type 0
 HasItsRecord fixed r (arrived.Here commit) = Unit {0}
 HasItsRecord fixed r (arrived.New commit moves record_of_it) = IsRecordOf fixed r record_of_it
+
+-- the record of what is new is that of the move that came behind those that were pending
+abbrev pub HasLastRecord : {S O R Q A : Type 0} → Fixed S O R Q A → RecordedView (Move O R) → RecordedView (Move O R) → Arrived → Type 0
+HasLastRecord fixed old new (arrived.Here commit) = Unit {0}
+HasLastRecord {S} {O} {R} fixed old new (arrived.New commit moves record_of_it) =
+    (made : Move O R) × (new.pending ≡ old.pending ++ made ∷ []) × (record_of_it ≡ record_of fixed (old.written ++ old.pending) made)
 
 -- what it means that no commit was read of an item
 abbrev pub unread_item : Unread → ReceiveRefused

@@ -1,5 +1,5 @@
 // The commit of an item, made anew on commits that are here.
-ghost use Rattle.std.specs.Prelude.{◌≡◌, ◌↔◌, ◌∷◌, [], None, IfOk, IfErr, IfSome, IsErrOf, IsTrue, List, OnErr, OnOk, ℕ};
+ghost use Rattle.std.specs.Prelude.{◌≡◌, ◌↔◌, ◌++◌, None, IfOk, IfErr, IfSome, IsErrOf, IsTrue, List, OnErr, OnOk, ℕ};
 ghost use Rattle.branch_wire.specs.Objects.{CommitFields, commit_object, value_object};
 ghost use Rattle.branch_wire.specs.Reading.{HasLength64};
 ghost use Rattle.branch_wire.specs.StoredObjects.{collision, fresh};
@@ -214,26 +214,27 @@ fn value_of(made: WrittenArrival<'_>) -> &[u8]
     }
 }
 
-/// Stages the two objects of an item, and says the address of its commit's.
+/// Stages the two objects of an item behind what is staged already, and says the address of its commit's.
 pub(crate) fn stage_item<T: Mrdt, A: Address>(
     objects: &mut Objects<A>,
     made: &Arrival<T>,
     value: &[u8],
     fields: Fields,
 ) -> Result<[u8; 32], StageRefused>
-    requires staged { objects.old.staged ≡ [] }
     requires known { IsCommit (fields_in fields) }
     requires valid { IsFullyValid (fix T.meaning made.now.terms A.address) made.now.history }
     requires item { IsItem (fix T.meaning made.now.terms A.address) made.now.history made.now.step
         (item_with value.now (fields_in fields)) }
     ensures stored { OnOk result (objects.new.stored ≡ objects.old.stored) }
-    ensures added { OnOk result (objects.new.staged ≡ fresh objects.old.stored
+    ensures added { OnOk result (objects.new.staged ≡ objects.old.staged
+        ++ fresh (objects.old.stored ++ objects.old.staged)
         (both (item_with value.now (fields_in fields)))) }
     ensures address { IfOk result (λ address.
         address ≡ A.address (commit_object (fields_in fields))) }
-    ensures free { OnOk result (collision A.address objects.old.stored
+    ensures free { OnOk result (collision A.address (objects.old.stored ++ objects.old.staged)
         (both (item_with value.now (fields_in fields))) ≡ None) }
-    ensures collides { IfErr result (RefusesToStage A.address objects.old.stored
+    ensures collides { IfErr result (RefusesToStage A.address
+        (objects.old.stored ++ objects.old.staged)
         (both (item_with value.now (fields_in fields)))) }
     ensures held { OnErr result (objects.new ≡ objects.old) }
 {

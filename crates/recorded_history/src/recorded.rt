@@ -52,7 +52,7 @@ pub struct Recorded<T: Mrdt, A: Address> {
     pub(crate) versions: Versions<T>,
     pub(crate) objects: Objects<A>,
     // What was there when no move was pending last.
-    settled: Snapshot<Versions<T>>,
+    pub(crate) settled: Snapshot<Versions<T>>,
     // For each pending move, where its branch stood before it.
     pub(crate) stood: Vec<u32>,
 }
@@ -291,6 +291,16 @@ impl<T: Mrdt, A: Address> Recorded<T, A> {
         ensures { lent_item result
             ≡ slice_get (pairs_of (fix T.meaning self.now.terms A.address)
             (store_of self.now.terms.origin self.now.written).commits) commit }
+    {
+        self.item_of(commit)
+    }
+
+    /// The bytes of the two objects of a commit, as `item` lends them, those of pending moves counted.
+    pub(crate) fn item_of(&self, commit: u32) -> Option<(&[u8], &[u8])>
+        ensures { lent_item result
+            ≡ slice_get (pairs_of (fix T.meaning self.now.terms A.address)
+            (store_of self.now.terms.origin (self.now.written ++ self.now.pending)).commits)
+            commit }
     {
         if commit >= self.versions.commits() {
             return None;
@@ -614,7 +624,7 @@ impl<T: Mrdt, A: Address> Recorded<T, A> {
 }
 
 // Takes moves off again, the last one first, until those are left that were settled.
-fn take_back<T: Mrdt>(
+pub(crate) fn take_back<T: Mrdt>(
     settled: &Snapshot<Versions<T>>,
     versions: &mut Versions<T>,
     stood: &mut Vec<u32>,

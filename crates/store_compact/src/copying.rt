@@ -11,6 +11,7 @@ ghost use Rattle.branch_compact.specs.Marks.{is_marked};
 ghost use Rattle.store_compact.specs.Copied.{added, objects_in, pair_of, placed_of, unless_known};
 
 use crate::values::address_of_value;
+use address_keys::AddressKey;
 use branch_address::Address;
 use branch_wire::{VERSION, put_u32};
 use indexmap::IndexSet;
@@ -47,8 +48,8 @@ fn header_text(alloc: Global) -> Result<Vec<u8>, Memory>
 // Copies the object of a value behind those of the file, if its address is not known yet.
 fn copy_value(
     value: &[u8],
-    address: [u8; 32],
-    known: &mut IndexSet<[u8; 32]>,
+    address: AddressKey,
+    known: &mut IndexSet<AddressKey>,
     text: &mut Vec<u8>,
 ) -> Result<(), Memory>
     ensures known { OnOk result (known.new.keys
@@ -66,7 +67,7 @@ fn copy_value(
 fn copy_commit<T: Mrdt, A: Address>(
     recorded: &Recorded<T, A>,
     number: u32,
-    known: &mut IndexSet<[u8; 32]>,
+    known: &mut IndexSet<AddressKey>,
     copies: &mut Copies,
 ) -> Result<(), Memory>
     requires settled { recorded.now.pending ≡ [] }
@@ -101,7 +102,8 @@ fn copy_commit<T: Mrdt, A: Address>(
     let Ok(its_value) = address_of_value(commit) else {
         unreachable!()
     };
-    copy_value(value, its_value, known, &mut copies.text)?;
+    let key = AddressKey::new(its_value);
+    copy_value(value, key, known, &mut copies.text)?;
     copies.text.extend_from_slice(commit)?;
     let end = copies.text.len() as u64;
     copies.placed.push(Placed { address, end })?;

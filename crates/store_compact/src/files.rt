@@ -9,7 +9,7 @@ use crate::copying::copy_marked;
 use crate::spelling::spell_heads;
 use branch_address::Address;
 use branch_compact::laws::{compacts_valid, keeps_objects};
-use branch_compact::{compact, live_commits};
+use branch_compact::{compact_marked, live_commits};
 use branch_machine::laws::makes_fewer_moves;
 use mrdt_model::{Memory, Mrdt};
 use recorded_history::Recorded;
@@ -48,7 +48,7 @@ pub fn compact_files<T: Mrdt, A: Address>(
     let terms = recorded.terms();
     let marks = live_commits::<T>(alloc, terms, recorded.history())?;
     let copies = copy_marked(alloc, &recorded, &marks)?;
-    let moves = compact::<T>(alloc, terms, recorded.into_moves())?;
+    let moves = compact_marked::<T>(alloc, terms, marks, recorded.into_moves())?;
     let heads = spell_heads::<T, A>(alloc, terms, moves.as_slice(), &copies.placed)?;
     Ok(CompactFiles {
         objects: copies.text,

@@ -64,7 +64,7 @@ module _ {S O R Q A : Type 0} (fixed : Fixed S O R Q A) where
   answers-long history (j ∷ jobs) [] all = absurd all
   answers-long history (j ∷ jobs) (a ∷ answers) all = ap suc (answers-long (history ++ job_made fixed history j) jobs answers all.1)
 
-  after-both : (history first second : List (Move O R)) → records_after fixed history (first ++ second) ≡ records_after fixed history first ++ records_after fixed (history ++ first) second
+  pub after-both : (history first second : List (Move O R)) → records_after fixed history (first ++ second) ≡ records_after fixed history first ++ records_after fixed (history ++ first) second
   after-both history [] second = ap (λ (h : List (Move O R)). records_after fixed h second) (sym (append-nil history))
   after-both history (m ∷ first) second =
       ap (λ (l : List Record). record_of fixed history m ∷ l)

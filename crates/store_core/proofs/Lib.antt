@@ -7,7 +7,11 @@ pub mod Starts
 pub mod Kept
 pub mod Landings
 pub mod Branchings
+pub mod Turns
 pub mod Batched
+pub mod Arrived
+pub mod Waited
+pub mod Taken
 pub mod Batches
 pub mod Answered
 pub mod Arrivals

@@ -11,3 +11,4 @@ pub mod Answers
 pub mod Bundling
 pub mod Receiving
 pub mod Batches
+pub mod Together

@@ -13,7 +13,7 @@ use mrdt_model::Mrdt;
 use recorded_history::Arrived;
 
 // A refusal of the item with a number.
-fn refused_at(item: u64, refused: recorded_history::ReceiveRefused) -> ReceiveRefused
+pub(crate) fn refused_at(item: u64, refused: recorded_history::ReceiveRefused) -> ReceiveRefused
     ensures { result ≡ item_refused item refused }
 {
     match refused {

@@ -1,4 +1,3 @@
-pub mod Turns
 pub mod Loops
 pub mod Ends
 pub mod Places

@@ -1,5 +1,5 @@
 -- What receiving a bundle answers, and what it leaves of a store and its disk.
-use Rattle.std.specs.Prelude.{◌≡◌, ◌⊎◌, ℕ, ◌≤◌, List, [], ◌++◌, length, Some, None, true}
+use Rattle.std.specs.Prelude.{◌≡◌, ◌⊎◌, ℕ, ◌+◌, List, [], ◌++◌, length, map, slice_get, Some, None, true}
 use Rattle.std.specs.List.{AllByRecursion}
 use Rattle.branch_disk.specs.Disk.{Files}
 use Rattle.branch_history.specs.declared.moves.Move.{Move}
@@ -7,14 +7,14 @@ use Rattle.branch_history.specs.Steps.{Refusal, Refused, Forked, Turn}
 use Rattle.branch_history.specs.Steps as machine
 use Rattle.branch_machine.specs.Fixed.{Fixed}
 use Rattle.branch_machine.specs.Objects.{Pair}
-use Rattle.branch_machine.specs.Validity.{IsFullyValid, Receives}
+use Rattle.branch_machine.specs.Validity.{IsFullyValid}
 use Rattle.branch_files.specs.Stands.{Stands}
 use Rattle.branch_bundle_laws.specs.Bundles.{Bundle}
 use Rattle.branch_bundle_laws.specs.Text.{bundle_text, IsBundle}
 use Rattle.branch_bundle_laws.specs.Receiving.{IsTaken, made_by, ReceivesAll, ReceivesBundle, ReceivesItems, ReceivesFree, Receipt, EndsRefused, addressed, placing}
 use Rattle.branch_bundle_laws.specs.Receiving as receipt
-use Rattle.store_core.specs.declared.answers.Got.{Got}
-use Rattle.store_core.specs.declared.answers.Got.TheVariants as got
+use Rattle.branch_bundle.specs.declared.bundle.Item.{Item}
+use Rattle.branch_bundle.specs.Held.{pair_of}
 use Rattle.store_core.specs.declared.answers.ReceiveRefused.{ReceiveRefused}
 use Rattle.store_core.specs.declared.answers.ReceiveRefused.TheVariants as refusal
 use Rattle.store_core.specs.declared.answers.PlaceRefused.{PlaceRefused}
@@ -152,39 +152,6 @@ abbrev pub StandsOnTheirWay : {S O R Q A : Type 0} → Fixed S O R Q A → List 
 StandsOnTheirWay fixed moves bytes name c = Stands fixed moves c
     ⊎ ((b : Bundle) × IsBundle b × (bytes ≡ bundle_text b) × StandsOnTheWay fixed moves b name c)
 
--- One item: it was taken by this turn, and the history goes on by what the turn makes, so many moves.
-pub record TakesItem {D S O R Q A : Type 0} (fixed : Fixed S O R Q A) (item : Pair)
-    (old new : StoreView (Move O R) D) (count : ℕ) : Type 0 where
-  pub turn : Turn O R A
-  pub receives : Receives fixed old.history item turn
-  pub taken : IsTaken turn
-  pub counted : count ≡ length turn.made
-  pub few : count ≤ 1
-  pub now : HasMade turn.made old new
-
--- the machine refuses it so, and nothing changes
-pub record RefusesItem {D S O R Q A : Type 0} (fixed : Fixed S O R Q A) (item : Pair)
-    (old new : StoreView (Move O R) D) (r : Refusal) : Type 0 where
-  pub turn : Turn O R A
-  pub receives : Receives fixed old.history item turn
-  pub refused : turn.outcome ≡ Refused r
-  pub unmade : turn.made ≡ []
-  pub same : new ≡ old
-
--- why an item of a number was not taken
-abbrev pub NotTakesItem : {D S O R Q A : Type 0} → Fixed S O R Q A → Pair → ℕ
-    → StoreView (Move O R) D → StoreView (Move O R) D → NotReceived → Type 0
-NotTakesItem fixed item number old new e =
-    ((r : Refusal) × TellsItem e number r × RefusesItem fixed item old new r)
-    ⊎ MakesNothing old new e
-
--- files stand for a history, or for it with the move of an item that is taken
-abbrev pub StandsAfterItem : {S O R Q A : Type 0} → Fixed S O R Q A → List (Move O R) → Pair
-    → Files → Type 0
-StandsAfterItem {S} {O} {R} {Q} {A} fixed moves item c = Stands fixed moves c
-    ⊎ ((turn : Turn O R A) × Receives fixed moves item turn × IsTaken turn
-    × Stands fixed (moves ++ turn.made) c)
-
 -- all items were taken, of which so many were new
 pub record TakesAll {D S O R Q A : Type 0} (fixed : Fixed S O R Q A) (items : List Pair)
     (old new : StoreView (Move O R) D) (count : ℕ) : Type 0 where
@@ -201,6 +168,20 @@ pub record StopsAt {D S O R Q A : Type 0} (fixed : Fixed S O R Q A) (items : Lis
   pub refusal : Refusal
   pub ends : EndsRefused turns refusal
   pub tells : TellsItem e (length turns) refusal
+  pub now : HasMade (made_by turns) old new
+
+-- the same of items with any numbers: this is told of it by its own number
+pub record StopsIn {D S O R Q A : Type 0} (fixed : Fixed S O R Q A) (items : List Item)
+    (old new : StoreView (Move O R) D) (e : NotReceived) : Type 0 where
+  pub turns : List (Turn O R A)
+  pub received : ReceivesAll fixed old.history (map pair_of items) turns
+  pub refusal : Refusal
+  pub ends : EndsRefused turns refusal
+  pub before : ℕ
+  pub counted : length turns ≡ before + 1
+  pub item : Item
+  pub last : slice_get items before ≡ Some item
+  pub tells : TellsItem e item.number refusal
   pub now : HasMade (made_by turns) old new
 
 -- files stand for a history after some first ones of the items, which are valid there
@@ -283,8 +264,3 @@ item_stopped (refusal.FullMoves count) = unreceived.FullMoves count
 item_stopped (refusal.Collision address stored fresh) = unreceived.Collision address stored fresh
 item_stopped refusal.DiskFault = unreceived.DiskFault
 item_stopped refusal.Memory = unreceived.Memory
-
--- how many commits are new of an item that was taken
-abbrev pub new_commits : Got → ℕ
-new_commits (got.Here commit) = 0
-new_commits (got.New commit moves) = 1

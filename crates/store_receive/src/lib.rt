@@ -1,5 +1,5 @@
-//! Receiving a bundle: the commits that another store sent are taken one after the other, and then a branch is placed at
-//! the bundle's tip.
+//! Receiving a bundle: the commits that another store sent are taken one behind another, up to 64 together, and then a
+//! branch is placed at the bundle's tip.
 #![tactic(auto)]
 
 pub mod answers;

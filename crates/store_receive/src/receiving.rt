@@ -1,12 +1,12 @@
 // A bundle received into a core.
-ghost use Rattle.std.specs.Prelude.{◌≡◌, ◌<◌, ◌⊎◌, length, map, false, IfOk, IfErr};
+ghost use Rattle.std.specs.Prelude.{◌≡◌, ◌<◌, ◌≤◌, ◌⊎◌, length, map, false, IfOk, IfErr};
 ghost use Rattle.branch_io.specs.Causes.{HasCauseOf};
 ghost use Rattle.branch_disk.specs.Disk.{LeavesOnly};
 ghost use Rattle.branch_history.specs.History.{store_of};
 ghost use Rattle.branch_machine.specs.Fixed.{fix};
 ghost use Rattle.branch_bundle_laws.specs.Receiving.{Placed as PlacedAs};
 ghost use Rattle.branch_bundle.specs.Held.{pair_of, plain, numbered};
-ghost use Rattle.store_receive.specs.Received.{new_commits, TakesItem, NotTakesItem, StandsAfterItem, TakesAll, StopsAt, IsInterrupted, StandsAfterSome, IsPlaced, IsNotPlaced, StandsAfterPlace, PlacesAtTip, NotPlacedAtTip, StandsAtTip, IsReceived, IsNotReceived, StandsOnTheWay, AreReceived, AreNotReceived, StandsOnTheirWay};
+ghost use Rattle.store_receive.specs.Received.{MakesNothing, TakesAll, StopsAt, StopsIn, IsInterrupted, StandsAfterSome, IsPlaced, IsNotPlaced, StandsAfterPlace, PlacesAtTip, NotPlacedAtTip, StandsAtTip, IsReceived, IsNotReceived, StandsOnTheWay, AreReceived, AreNotReceived, StandsOnTheirWay};
 
 use crate::answers::{NotReceived, Placed};
 use branch_address::Address;
@@ -15,41 +15,41 @@ use branch_disk::Disk;
 use branch_names::Name;
 use mrdt_model::Mrdt;
 use std::alloc::Global;
-use store_core::{Core, Got};
+use store_core::Core;
 
-// How many commits are new of an item that was taken.
-fn new_commits(got: Got) -> u64
-    ensures { result ≡ new_commits got }
-{
-    match got {
-        Got::Here { .. } => 0,
-        Got::New { .. } => 1,
-    }
-}
+// How many items are received together at the most.
+const TOGETHER: usize = 64;
 
-// Takes one item, and says how many commits are new: one or none.
-fn receive_item<T: Mrdt, D: Disk + Drop, A: Address>(
+// Takes items together, up to the first that is refused, and says how many of their commits are new.
+fn receive_batch<T: Mrdt, D: Disk + Drop, A: Address>(
     core: &mut Core<T, D, A>,
-    item: &Item,
+    items: &[Item],
 ) -> Result<u64, NotReceived>
     requires working { core.old.failed ≡ false }
-    ensures taken { IfOk result (TakesItem (fix T.meaning core.old.terms A.address)
-        (pair_of item.now) core.old core.new) }
-    ensures refused { IfErr result (NotTakesItem (fix T.meaning core.old.terms A.address)
-        (pair_of item.now) item.now.number core.old core.new) }
+    requires few { length items.now ≤ 64 }
+    ensures taken { IfOk result (TakesAll (fix T.meaning core.old.terms A.address)
+        (map pair_of items.now) core.old core.new) }
+    ensures refused { IfErr result (λ e.
+        StopsIn (fix T.meaning core.old.terms A.address) items.now core.old core.new e
+        ⊎ MakesNothing core.old core.new e) }
     ensures moments { LeavesOnly D.moment D.left_since core.old.disk core.new.disk
-        (StandsAfterItem (fix T.meaning core.old.terms A.address) core.old.history
-        (pair_of item.now)) }
+        (StandsAfterSome (fix T.meaning core.old.terms A.address) core.old.history
+        (map pair_of items.now)) }
     ensures cause { HasCauseOf NotReceived.DiskFault (D.faults core.old.disk)
         (D.faults core.new.disk) result }
 {
-    match core.receive(item) {
-        Ok(got) => Ok(new_commits(got)),
+    // It is a valid history: its count tells the proof so.
+    let _moves = core.moves();
+    match core.receive_all(items) {
+        Ok(all) => match all.refused {
+            None => Ok(all.made),
+            Some(refused) => Err(NotReceived::from(refused)),
+        },
         Err(refused) => Err(NotReceived::from(refused)),
     }
 }
 
-// Takes items one after the other, and says how many of their commits are new.
+// Takes items, some together and then the next ones, and says how many of their commits are new.
 fn receive_items<T: Mrdt, D: Disk + Drop, A: Address>(
     core: &mut Core<T, D, A>,
     items: &[Item],
@@ -70,11 +70,14 @@ fn receive_items<T: Mrdt, D: Disk + Drop, A: Address>(
 {
     let _moves = core.moves();
     let mut count: u64 = 0;
-    for item in items {
-        match receive_item(core, item) {
+    let mut start: usize = 0;
+    while start < items.len() {
+        let end = items.len().min(start + TOGETHER);
+        match receive_batch(core, &items[start..end]) {
             Ok(new) => count += new,
             Err(refused) => return Err(refused),
         }
+        start = end;
         let _moves = core.moves();
     }
     Ok(count)

@@ -1,5 +1,5 @@
 -- One job more.
-use Rattle.std.proofs.Common.{◌≡◌, ◌<◌, length, set, get_or, ap, sym, ◌∙◌}
+use Rattle.std.proofs.Common.{◌<◌, length, set, get_or, ap, sym, ◌∙◌}
 use Rattle.std.proofs.lemmas.List.Edits.{map_over_more}
 use Rattle.store_core.specs.declared.answers.LandRefused.{LandRefused}
 use Rattle.branch_shared.specs.Batches.{TakenView, shortage, with_refusal}

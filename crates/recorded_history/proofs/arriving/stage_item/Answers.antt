@@ -1,10 +1,9 @@
 -- What is staged are the two objects of the item.
-use Rattle.std.proofs.Common.{◌≡◌, List, [], ◌∷◌, ◌++◌, ℕ, None, ap, sym, ◌∙◌, subst, append-nil}
+use Rattle.std.proofs.Common.{◌++◌, ap, sym, ◌∙◌, subst}
 use Rattle.std.proofs.lemmas.Result.{IfOk-weaker, IfErr-weaker, on_ok_weaker}
 use Rattle.branch_wire.specs.Objects.{value_object}
 use Rattle.branch_wire.specs.StoredObjects.{collision, fresh}
 use Rattle.branch_machine.specs.Fixed.{fix}
-use Rattle.object_store.specs.Commits.{commit_pair}
 use Rattle.object_store.specs.Refusals.{RefusesToStage}
 use Rattle.recorded_history.specs.Asks.{fields_in}
 use Rattle.recorded_history.proofs.Told.{item-value, item-address, staged-pair, staged-address}
@@ -31,9 +30,7 @@ returns-clause-added g c =
     let addressed = item-address fixed laws size a.history c.requires.valid c.args.value.now f c.requires.known a.step c.written.result c.requires.item c.written.ensures in
     let pair = staged-pair fixed.address c.args.value.now c.value_of-spelling.result.now f valued addressed in
     let o = c.args.objects.now in
-    let both_objects = commit_pair fixed.address c.value_of-spelling.result.now f.parents f.branch f.clock f.action in
-    let whole = ap (λ s. o.stored ++ s) c.requires.staged ∙ append-nil o.stored in
-    on_ok_weaker c.stage.result (λ is. is ∙ ap (λ s. s ++ fresh (o.stored ++ o.staged) both_objects) c.requires.staged ∙ ap (λ s. fresh s both_objects) whole ∙ ap (fresh o.stored) pair) c.stage.ensures.added
+    on_ok_weaker c.stage.result (λ is. is ∙ ap (λ p. o.staged ++ fresh (o.stored ++ o.staged) p) pair) c.stage.ensures.added
 
 pub returns-clause-address : goal.returns-clause-address
 returns-clause-address g c =
@@ -57,9 +54,7 @@ returns-clause-free g c =
     let addressed = item-address fixed laws size a.history c.requires.valid c.args.value.now f c.requires.known a.step c.written.result c.requires.item c.written.ensures in
     let pair = staged-pair fixed.address c.args.value.now c.value_of-spelling.result.now f valued addressed in
     let o = c.args.objects.now in
-    let both_objects = commit_pair fixed.address c.value_of-spelling.result.now f.parents f.branch f.clock f.action in
-    let whole = ap (λ s. o.stored ++ s) c.requires.staged ∙ append-nil o.stored in
-    on_ok_weaker c.stage.result (λ is. sym (ap (λ s. collision fixed.address s both_objects) whole ∙ ap (collision fixed.address o.stored) pair) ∙ is) c.stage.ensures.free
+    on_ok_weaker c.stage.result (λ is. sym (ap (collision fixed.address (o.stored ++ o.staged)) pair) ∙ is) c.stage.ensures.free
 
 pub returns-clause-collides : goal.returns-clause-collides
 returns-clause-collides g c =
@@ -72,6 +67,4 @@ returns-clause-collides g c =
     let addressed = item-address fixed laws size a.history c.requires.valid c.args.value.now f c.requires.known a.step c.written.result c.requires.item c.written.ensures in
     let pair = staged-pair fixed.address c.args.value.now c.value_of-spelling.result.now f valued addressed in
     let o = c.args.objects.now in
-    let both_objects = commit_pair fixed.address c.value_of-spelling.result.now f.parents f.branch f.clock f.action in
-    let whole = ap (λ s. o.stored ++ s) c.requires.staged ∙ append-nil o.stored in
-    IfErr-weaker c.stage.result _ _ (λ e is. subst (λ p. RefusesToStage fixed.address o.stored p e) pair (subst (λ s. RefusesToStage fixed.address s both_objects e) whole is)) c.stage.ensures.collides
+    IfErr-weaker c.stage.result _ _ (λ e is. subst (λ p. RefusesToStage fixed.address (o.stored ++ o.staged) p e) pair is) c.stage.ensures.collides

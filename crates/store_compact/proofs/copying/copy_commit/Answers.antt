@@ -43,7 +43,7 @@ returns-clause-known g c =
     let pairs = pairs_of fixed (store_of r.terms.origin r.written).commits in
     let laws = (g.met.T.Mrdt g.world.𝓛 g.world.𝓜 g.world.𝓡 ((λ s x. x), (λ x. x), (λ x. x), λ x. x)).laws in
     let fields = spelled-fields fixed laws g.met.A.Address.size r.written c.requires.valid c.args.number c.requires.there in
-    let address = c.in-Ok.ensures fields.0 fields.1 (commit-found pairs c.args.number _ c.in-Some.ensures ∙ fields.3) ∙ fields.2 in
+    let address = c.new-key.ensures ∙ c.in-Ok.ensures fields.0 fields.1 (commit-found pairs c.args.number _ c.in-Some.ensures ∙ fields.3) ∙ fields.2 in
     let known = c.args.known.now.keys in
     c.in_ok-copy_value.ensures.known ∙ ap (λ (a : List ℕ). known ++ fresh known (a ∷ [])) address
 
@@ -56,8 +56,8 @@ returns-clause-copied g c =
     let fields = spelled-fields fixed laws g.met.A.Address.size r.written c.requires.valid c.args.number c.requires.there in
     let value = value-found pairs c.args.number _ c.in-Some.ensures in
     let commit = commit-found pairs c.args.number _ c.in-Some.ensures in
-    let address = c.in-Ok.ensures fields.0 fields.1 (commit ∙ fields.3) ∙ fields.2 in
-    added-same g.A.Address.address c.args.known.now.keys c.in-Ok.its_value c.in-Some.value.now c.in-Some.commit.now (pair_of pairs c.args.number) address value commit
+    let address = c.new-key.ensures ∙ c.in-Ok.ensures fields.0 fields.1 (commit ∙ fields.3) ∙ fields.2 in
+    added-same g.A.Address.address c.args.known.now.keys c.new-key.result c.in-Some.value.now c.in-Some.commit.now (pair_of pairs c.args.number) address value commit
     c.args.copies.now.text.items c.copy_value.new.text.items c.extend_from_slice.new.self.items c.in_ok-copy_value.ensures.copied c.in_ok-extend_from_slice.ensures.items
 
 pub returns-clause-placed : goal.returns-clause-placed

@@ -1,12 +1,12 @@
 -- The live commits are those of the compact history.
-use Rattle.std.proofs.Common.{◌≡◌, ◌∙◌, List, ap, sym, subst}
+use Rattle.std.proofs.Common.{◌≡◌, ◌∙◌, List, length, ap, sym, subst}
 use Rattle.branch_history.specs.declared.moves.Move.{Move}
 use Rattle.branch_history.specs.History.{store_of}
 use Rattle.branch_history.specs.Validity.{IsValid}
 use Rattle.branch_names.specs.declared.terms.Terms.{Terms}
 use Rattle.branch_machine.specs.Fixed.{fix}
 use Rattle.branch_machine.specs.Objects.{pairs_of}
-use Rattle.branch_compact.specs.Compact.{compact}
+use Rattle.branch_compact.specs.Compact.{compact, is_live}
 use Rattle.branch_compact.specs.Marks.{is_marked}
 use Rattle.store_compact.specs.Copied.{placed_of}
 use Rattle.store_compact.proofs.Gathered.{settled-valid, marked-live, gathered-objects, gathered-placed}
@@ -16,6 +16,18 @@ pub copy_marked-requires-clause-valid : goal.copy_marked-requires-clause-valid
 copy_marked-requires-clause-valid g c κs within =
     let r = c.args.recorded in
     settled-valid (fix g.T.Mrdt.meaning r.terms g.A.Address.address) r.written r.pending c.requires.settled c.moves.ensures.valid
+
+pub compact_marked-requires-clause-count : goal.compact_marked-requires-clause-count
+compact_marked-requires-clause-count g c κs within =
+    let origin = c.terms-terms.result.origin in
+    c.in_ok-marks.ensures.count
+    ∙ ap (λ (ms : List (Move g.row.T-Op.Denot g.row.T-Reply.Denot)). length (store_of origin ms).commits) (c.history.ensures ∙ sym c.into_moves.ensures)
+
+pub compact_marked-requires-clause-live : goal.compact_marked-requires-clause-live
+compact_marked-requires-clause-live g c κs within n =
+    let origin = c.terms-terms.result.origin in
+    c.in_ok-marks.ensures.live n
+    ∙ ap (λ (ms : List (Move g.row.T-Op.Denot g.row.T-Reply.Denot)). is_live (store_of origin ms) n) (c.history.ensures ∙ sym c.into_moves.ensures)
 
 pub spell_heads-requires-clause-valid : goal.spell_heads-requires-clause-valid
 spell_heads-requires-clause-valid g c κs within =

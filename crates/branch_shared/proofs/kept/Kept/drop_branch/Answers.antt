@@ -1,5 +1,5 @@
 -- A drop that was made lengthens what the pass has seen.
-use Rattle.std.proofs.Common.{◌≡◌, ◌∷◌, [], ap, sym, ◌∙◌}
+use Rattle.std.proofs.Common.{◌∷◌, [], ap, sym, ◌∙◌}
 use mathlib.Core.List.{IsPrefix}
 use Rattle.branch_front.proofs.Prefixes.{prefix_trans}
 use Rattle.branch_shared.proofs.Dropping.{drop-made}

@@ -11,7 +11,6 @@ use Rattle.branch_names.specs.declared.terms.Terms.{Terms}
 use Rattle.store_core.specs.Batches.{AnswersBatch}
 use Rattle.store_core.specs.Views.{StoreView}
 use Rattle.store_seen.specs.Views.{PreparedView}
-use Rattle.branch_front.specs.Views.{View}
 use Rattle.branch_shared.specs.Keeps.{faults_since}
 use Rattle.branch_shared.specs.Batches.{TakenView, Serves, answered_all, bring, seen_to, shortage, with_refusal}
 use Rattle.branch_shared.proofs.Together.{grows, served, short-served, kept-grown, may-begin, may-terms}

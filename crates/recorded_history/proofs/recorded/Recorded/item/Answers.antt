@@ -1,45 +1,13 @@
--- The first objects, or those that the index finds.
-use Rattle.std.proofs.Common.{◌≡◌, ap, ◌∙◌, arith, subst, None, slice_get}
+-- Where no move is pending, the history is what is written.
+use Rattle.std.proofs.Common.{◌≡◌, subst, slice_get}
 use Rattle.branch_history.specs.History.{store_of}
 use Rattle.branch_machine.specs.Fixed.{fix}
 use Rattle.branch_machine.specs.Objects.{pairs_of}
 use Rattle.recorded_history.specs.Items.{lent_item}
-use Rattle.recorded_history.proofs.Found.{item-past, item-first, item-behind}
+use Rattle.recorded_history.proofs.Pending.{written-alone}
 use Rattle.recorded_history.proofs.recorded.Recorded.item.Goals as goal
 
-pub returns-then-commit-commits : goal.returns-then-commit-commits
-returns-then-commit-commits g c =
-    let meaning = g.T.Mrdt.meaning in
-    let address = g.A.Address.address in
-    let laws = (g.met.T.Mrdt g.world.𝓛 g.world.𝓜 g.world.𝓡 ((λ s x. x), (λ x. x), (λ x. x), λ x. x)).laws in
-    let self = c.self.inside in
-    let none = ap (λ r. r.pending) c.self.view_is ∙ c.requires.settled in
-    let count = c.commits.ensures.count in
-    let past = c.if-commit-commits.true in
-    subst (λ r. None ≡ slice_get (pairs_of (fix meaning r.terms address) (store_of r.terms.origin r.written).commits) c.args.commit) c.self.view_is
-    (item-past meaning laws address g.met.A.Address.size self.settled.value.core self.versions self.objects self.stood.items c.self.invariant none c.args.commit (omega (arith, count, past)))
-
-pub returns-in-0 : goal.returns-in-0
-returns-in-0 g c =
-    let meaning = g.T.Mrdt.meaning in
-    let address = g.A.Address.address in
-    let laws = (g.met.T.Mrdt g.world.𝓛 g.world.𝓜 g.world.𝓡 ((λ s x. x), (λ x. x), (λ x. x), λ x. x)).laws in
-    let self = c.self.inside in
-    let none = ap (λ r. r.pending) c.self.view_is ∙ c.requires.settled in
-    let count = c.commits.ensures.count in
-    let less = c.if-commit-commits.false in
-    subst (λ r. lent_item c.first_item.result ≡ slice_get (pairs_of (fix meaning r.terms address) (store_of r.terms.origin r.written).commits) c.args.commit) c.self.view_is
-    (item-first meaning laws address g.met.A.Address.size self.settled.value.core self.versions self.objects self.stood.items c.self.invariant none (lent_item c.first_item.result) c.args.commit c.in-0.is (omega (arith, count, less)) c.first_item.ensures)
-
-pub returns-in_default : goal.returns-in_default
-returns-in_default g c =
-    let meaning = g.T.Mrdt.meaning in
-    let address = g.A.Address.address in
-    let laws = (g.met.T.Mrdt g.world.𝓛 g.world.𝓜 g.world.𝓡 ((λ s x. x), (λ x. x), (λ x. x), λ x. x)).laws in
-    let self = c.self.inside in
-    let none = ap (λ r. r.pending) c.self.view_is ∙ c.requires.settled in
-    let count = c.commits.ensures.count in
-    let less = c.if-commit-commits.false in
-    let some = c.in_default in
-    subst (λ r. lent_item c.item_at.result ≡ slice_get (pairs_of (fix meaning r.terms address) (store_of r.terms.origin r.written).commits) c.args.commit) c.self.view_is
-    (item-behind meaning laws address g.met.A.Address.size self.settled.value.core self.versions self.objects self.stood.items c.self.invariant none (lent_item c.item_at.result) c.args.commit c.address.result.now (omega (arith, some)) (omega (arith, count, less)) c.address.ensures.address c.item_at.ensures)
+pub returns : goal.returns
+returns g c =
+    let r = c.args.self.now in
+    subst (λ l. lent_item c.item_of.result ≡ slice_get (pairs_of (fix g.T.Mrdt.meaning r.terms g.A.Address.address) (store_of r.terms.origin l).commits) c.args.commit) (written-alone r c.requires.settled) c.item_of.ensures

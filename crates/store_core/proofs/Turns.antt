@@ -1,5 +1,6 @@
 -- Turns of items, one after the other.
-use Rattle.std.proofs.Common.{◌≡◌, ◌⊎◌, inl, inr, ℕ, ◌+◌, ◌<◌, suc, arith, zero, List, [], ◌∷◌, ◌++◌, length, get_or, map, refl, ap, sym, ◌∙◌, subst, append_assoc, append-nil}
+use Rattle.std.proofs.Common.{◌≡◌, ◌⊎◌, inl, inr, ℕ, ◌+◌, ◌<◌, ◌≤◌, suc, arith, zero, List, [], ◌∷◌, ◌++◌, length, map, refl, ap, sym, ◌∙◌, subst, append_assoc, append-nil, length-append, Some}
+use Rattle.std.specs.Prelude.{slice_get}
 use Rattle.std.specs.List.{AllByRecursion}
 use Rattle.std.proofs.lemmas.Grind.{flat_map-append}
 use Rattle.branch_history.specs.declared.moves.Move.{Move}
@@ -8,7 +9,7 @@ use Rattle.branch_machine.specs.Fixed.{Fixed}
 use Rattle.branch_machine.specs.Objects.{Pair}
 use Rattle.branch_machine.specs.Validity.{IsFullyValid, Receives}
 use Rattle.branch_bundle_laws.specs.Receiving.{IsTaken, made_by, ReceivesAll, EndsRefused}
-use Rattle.branch_bundle_laws.proofs.Turns.{received-as}
+use Rattle.branch_bundle_laws.proofs.Turns.{IsReceivedAs, WasHere, WasNew, WasRefused, WasBad, received-as}
 use Rattle.branch_bundle_laws.proofs.Folds.{turn-old}
 use Rattle.branch_bundle.specs.declared.bundle.Item.{Item}
 use Rattle.branch_bundle.specs.Held.{pair_of, numbered}
@@ -71,6 +72,22 @@ module _ {S O R Q A : Type 0} (fixed : Fixed S O R Q A) where
       by-outcome (Answered a) is = other (Answered a) is (λ n e. cc e)
       by-outcome (Refused r) is = other (Refused r) is (λ n e. cc e)
 
+  -- an item makes one move at most
+  one-most : (moves : List (Move O R)) (item : Pair) (t : Turn O R A) → IsReceivedAs fixed moves item t → length t.made ≤ 1
+  one-most moves item t (WasHere n there is) = omega (arith, ap (λ (u : Turn O R A). length u.made) is)
+  one-most moves item t (WasNew m is full pairs branches how) = omega (arith, ap (λ (u : Turn O R A). length u.made) is)
+  one-most moves item t (WasRefused r may is) = omega (arith, ap (λ (u : Turn O R A). length u.made) is)
+  one-most moves item t (WasBad nowhere is) = omega (arith, ap (λ (u : Turn O R A). length u.made) is)
+
+  -- so there are not more moves than items
+  pub made-few : (moves : List (Move O R)) (items : List Pair) (turns : List (Turn O R A)) → ReceivesAll fixed moves items turns → length (made_by turns) ≤ length items
+  made-few moves [] turns none = omega (arith, ap (λ (l : List (Turn O R A)). length (made_by l)) none)
+  made-few moves (i ∷ items) [] none = absurd none
+  made-few moves (i ∷ items) (t ∷ ts) (one, inl (is, more)) =
+      omega (arith, one-most moves i t (received-as fixed moves i t one), made-few (moves ++ t.made) items ts more, length-append t.made (made_by ts))
+  made-few moves (i ∷ items) (t ∷ ts) (one, inr (not, none)) =
+      omega (arith, one-most moves i t (received-as fixed moves i t one), ap (λ (l : List (Turn O R A)). length (made_by l)) none, length-append t.made (made_by ts))
+
 module _ {O R A : Type 0} where
   pub taken-more : (turns : List (Turn O R A)) (t : Turn O R A) → AllByRecursion IsTaken turns → IsTaken t → AllByRecursion IsTaken (turns ++ t ∷ [])
   taken-more [] t all is = (is, tt)
@@ -90,11 +107,12 @@ module _ {O R A : Type 0} where
   refused-not-taken t r is (n, inr new) = let clash : Refused r ≡ New n = sym is ∙ new in cc clash
 
 -- the number of an item of a list that is numbered
-pub number-at : (items : List Item) (n k : ℕ) (other : Item) → items ≡ numbered n (map pair_of items) → k < length items → (get_or items k other).number ≡ n + k
-number-at [] n k other is inside = absurd (omega (arith, inside))
-number-at (x ∷ xs) n zero other is inside =
+pub numbered-at : (items : List Item) (n k : ℕ) (item : Item) → items ≡ numbered n (map pair_of items) → slice_get items k ≡ Some item → item.number ≡ n + k
+numbered-at [] n k item is found = absurd (cc found)
+numbered-at (x ∷ xs) n zero item is found =
     let first : x ≡ record { number = n; value = x.value; commit = x.commit } = cc is in
-    ap (λ (i : Item). i.number) first ∙ omega arith
-number-at (x ∷ xs) n (suc k) other is inside =
+    let same : item ≡ x = cc found in
+    ap (λ (i : Item). i.number) (same ∙ first) ∙ omega arith
+numbered-at (x ∷ xs) n (suc k) item is found =
     let rest : xs ≡ numbered (n + 1) (map pair_of xs) = cc is in
-    number-at xs (n + 1) k other rest (omega (arith, inside)) ∙ omega arith
+    numbered-at xs (n + 1) k item rest found ∙ omega arith

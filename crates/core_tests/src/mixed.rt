@@ -1,0 +1,151 @@
+// Batches of unlike jobs, each of which is answered behind the jobs before it.
+ghost use Rattle.std.specs.Prelude.{◌≡◌, All, length, IfOk};
+ghost use mathlib.Core.List.{IsPrefix};
+
+use crate::batches::{Answers, addition, fork_all, named};
+use crate::stores::{fresh, fresh_under};
+use branch_address::{Sha256Address, WeakAddress};
+use branch_disk::MemoryDisk;
+use branch_names::{Limits, Terms};
+use mrdt_counter::Sum;
+use std::alloc::Global;
+use std::process::Abort;
+use std::test::Fail;
+use store_core::{Core, Kind, LandRefused, Landed, PairStep, Prepared};
+
+type Store = Core<Sum, MemoryDisk, Sha256Address>;
+
+// Terms for 5 commits, with commit 0, and 10 moves.
+fn small(rt: &impl Abort) -> Terms {
+    let limits = Limits::new(100, 5, 10, 100, 10).expect(rt, "limits");
+    Terms::new(limits, 0, 0).expect(rt, "terms")
+}
+
+// Lands an addition to what a branch has now.
+fn land_addition(rt: &impl Abort, core: &mut Store, letter: u8)
+    ensures history { IsPrefix core.old.history core.new.history }
+    ensures terms { core.new.terms ≡ core.old.terms }
+{
+    let job = addition(rt, core, letter, 5);
+    assert!(rt; core.land(job).is_ok());
+}
+
+// A merge of what `q` has now into a branch, or its move up to that.
+fn merge(rt: &impl Abort, core: &Store, letter: u8) -> Prepared<Sum>
+    ensures history { IsPrefix result.seen.history core.now.history }
+    ensures terms { result.seen.terms ≡ core.now.terms }
+{
+    let seen = core.look(&named(rt, letter)).expect(rt, "a branch");
+    let pair = core.pair(&seen, &named(rt, b'q')).expect(rt, "a branch");
+    match pair.prepare() {
+        Ok(PairStep::Land(job)) => job,
+        _ => panic!(rt; "nothing to merge"),
+    }
+}
+
+// Two additions to what `p` has, prepared before `q` and `r` had theirs; then a merge of `q` into `r`, an addition to what
+// `t` has, and moves of `s` and `t` up to `q`.
+fn unlike_jobs(rt: &impl Abort, alloc: Global, core: &mut Store) -> Result<Vec<Prepared<Sum>>, Fail>
+    ensures many { IfOk result (λ jobs. length jobs.items ≡ 6) }
+    ensures history { IfOk result (λ jobs.
+        All (λ job. IsPrefix job.seen.history core.new.history) jobs.items) }
+    ensures terms { IfOk result (λ jobs. All (λ job. job.seen.terms ≡ core.new.terms) jobs.items) }
+{
+    let first = addition(rt, core, b'p', 5);
+    let second = addition(rt, core, b'p', 7);
+    land_addition(rt, core, b'q');
+    land_addition(rt, core, b'r');
+    let merged = merge(rt, core, b'r');
+    let beyond = addition(rt, core, b't', 5);
+    let up = merge(rt, core, b's');
+    let last = merge(rt, core, b't');
+    Ok(vec![in alloc; first, second, merged, beyond, up, last]?)
+}
+
+// Whether six jobs were answered so.
+fn are_unlike(answers: &Answers) -> bool {
+    matches!(
+        answers.as_slice(),
+        [
+            Ok(Landed {
+                moves: 8,
+                kind: Kind::Operation { commit: 3, .. },
+            }),
+            Err(LandRefused::Stale { newest: 3 }),
+            Ok(Landed {
+                moves: 9,
+                kind: Kind::Merged { commit: 4 },
+            }),
+            Err(LandRefused::FullCommits { count: 5 }),
+            Ok(Landed {
+                moves: 10,
+                kind: Kind::Forward { commit: 1 },
+            }),
+            Err(LandRefused::FullMoves { count: 10 }),
+        ]
+    )
+}
+
+// The second addition finds the first one's commit, the third operation finds no room for its commit, and the last move
+// up none for a move.
+#[test]
+fn a_mixed_batch(rt: HostRuntime) -> Result<(), Fail> {
+    let alloc = rt.alloc();
+    let mut core = fresh_under::<Sha256Address>(&rt, alloc, Vec::new(alloc), small(&rt));
+    fork_all(&rt, &mut core, b"pqrst");
+    let jobs = unlike_jobs(&rt, alloc, &mut core)?;
+    let answers = core.land_all(jobs)?;
+    assert!(rt; are_unlike(&answers));
+    assert_eq!(rt; core.moves(), 10);
+    assert_eq!(rt; core.commits(), 5);
+    Ok(())
+}
+
+// Additions of 0, 1 and 0 to what `p`, `q` and `r` have.
+fn weak_jobs(
+    rt: &impl Abort,
+    alloc: Global,
+    core: &Core<Sum, MemoryDisk, WeakAddress>,
+) -> Result<Vec<Prepared<Sum>>, Fail>
+    ensures many { IfOk result (λ jobs. length jobs.items ≡ 3) }
+    ensures history { IfOk result (λ jobs.
+        All (λ job. IsPrefix job.seen.history core.now.history) jobs.items) }
+    ensures terms { IfOk result (λ jobs. All (λ job. job.seen.terms ≡ core.now.terms) jobs.items) }
+{
+    let first = addition(rt, core, b'p', 0);
+    let second = addition(rt, core, b'q', 1);
+    let third = addition(rt, core, b'r', 0);
+    Ok(vec![in alloc; first, second, third]?)
+}
+
+// Whether the first of three jobs landed, and the others collided at these lengths.
+fn others_collide(answers: &Answers, second: u8, third: u8) -> bool {
+    match answers.as_slice() {
+        [
+            Ok(_),
+            Err(LandRefused::Collision { address: value, .. }),
+            Err(
+                LandRefused::Collision {
+                    address: commit,
+                    ..
+                },
+            ),
+        ] => value[31] == second && commit[31] == third,
+        _ => false,
+    }
+}
+
+// The second job's value collides with that of commit 0, of 25 bytes, and the third job's commit with the first one's, of
+// 118 bytes, which the same batch stores.
+#[test]
+fn jobs_collide_by_their_length(rt: HostRuntime) -> Result<(), Fail> {
+    let alloc = rt.alloc();
+    let mut core = fresh::<WeakAddress>(&rt, alloc, Vec::new(alloc), 0);
+    fork_all(&rt, &mut core, b"pqr");
+    let jobs = weak_jobs(&rt, alloc, &core)?;
+    let answers = core.land_all(jobs)?;
+    assert!(rt; others_collide(&answers, 25, 118));
+    assert_eq!(rt; core.moves(), 4);
+    assert_eq!(rt; core.commits(), 2);
+    Ok(())
+}
