@@ -1,6 +1,6 @@
 -- What is taken of the jobs that wait, and what is left.
 use Rattle.std.proofs.Common.{◌≡◌, ℕ, zero, suc, ◌≤◌, Bool, true, false, List, [], ◌∷◌, ◌++◌, map, length, take, drop, option_to_list, Option, Some, None, cond, ap, arith, length-append}
-use Rattle.branch_batch.specs.Lists.{RisesWithin, first_of, all_but}
+use Rattle.branch_batch.specs.Lists.{RisesFrom, first_of, all_but}
 use Rattle.branch_batch.specs.Tickets.{Numbered}
 use Rattle.branch_batch.specs.Lines.{number_of, is_first, batch_of, left_of}
 use Rattle.branch_batch.proofs.Rising.{rises_take, rises_drop, rises_but, rises_own}
@@ -36,18 +36,18 @@ module _ {J : Type 0} (own : ℕ) (jobs : List (Numbered J)) where
   pub batch_few : length (batch_of own jobs) ≤ 64
   batch_few = few (is_first own jobs)
 
-  rises : (b : Bool) (last : ℕ) → RisesWithin 0 (map number_of jobs) last → RisesWithin 0 (map number_of (cond b (take 64 jobs) (take 63 jobs ++ option_to_list (first_of number_of own (drop 63 jobs))))) last
+  rises : (b : Bool) (last : ℕ) → RisesFrom 0 (map number_of jobs) last → RisesFrom 0 (map number_of (cond b (take 64 jobs) (take 63 jobs ++ option_to_list (first_of number_of own (drop 63 jobs))))) last
   rises true last up = rises_take number_of 64 0 jobs last up
   rises false last up = rises_own number_of own 63 0 jobs last up
 
   -- in the order in which they were put
-  pub batch_rises : (last : ℕ) → RisesWithin 0 (map number_of jobs) last → RisesWithin 0 (map number_of (batch_of own jobs)) last
+  pub batch_rises : (last : ℕ) → RisesFrom 0 (map number_of jobs) last → RisesFrom 0 (map number_of (batch_of own jobs)) last
   batch_rises last up = rises (is_first own jobs) last up
 
-  stay : (b : Bool) (last : ℕ) → RisesWithin 0 (map number_of jobs) last → RisesWithin 0 (map number_of (cond b (drop 64 jobs) (all_but number_of own (drop 63 jobs)))) last
+  stay : (b : Bool) (last : ℕ) → RisesFrom 0 (map number_of jobs) last → RisesFrom 0 (map number_of (cond b (drop 64 jobs) (all_but number_of own (drop 63 jobs)))) last
   stay true last up = rises_drop number_of 64 0 jobs last up
   stay false last up = rises_but number_of own 0 (drop 63 jobs) last (rises_drop number_of 63 0 jobs last up)
 
   -- and so are those that are left
-  pub left_rises : (last : ℕ) → RisesWithin 0 (map number_of jobs) last → RisesWithin 0 (map number_of (left_of own jobs)) last
+  pub left_rises : (last : ℕ) → RisesFrom 0 (map number_of jobs) last → RisesFrom 0 (map number_of (left_of own jobs)) last
   left_rises last up = stay (is_first own jobs) last up

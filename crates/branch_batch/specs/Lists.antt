@@ -2,9 +2,9 @@
 use Rattle.std.specs.Prelude.{ℕ, suc, List, [], ◌∷◌, ◌≤◌, ◌==◌, cond, Option, Some, None}
 
 -- the numbers rise, none below the first bound and each below the last
-abbrev pub RisesWithin : ℕ → List ℕ → ℕ → Type 0
-RisesWithin first [] last = first ≤ last
-RisesWithin first (n ∷ ns) last = (first ≤ n) × RisesWithin (suc n) ns last
+abbrev pub RisesFrom : ℕ → List ℕ → ℕ → Type 0
+RisesFrom first [] last = first ≤ last
+RisesFrom first (n ∷ ns) last = (first ≤ n) × RisesFrom (suc n) ns last
 
 module _ {X : Type 0} (number_of : X → ℕ) (number : ℕ) where
   -- the first with this number

@@ -1,6 +1,6 @@
 // What lies under the lock of a queue.
 ghost use Rattle.std.specs.Prelude.{◌≡◌, ◌+◌, ◌<◌, ◌≤◌, ◌^◌, [], ◌∷◌, ◌++◌, length, map, option_to_list, take, drop, vec_capacity, vec_len, Some, None, IfOk, IfErr, IfSome, IfNone, OnOk, OnErr, OnSome, slice_get};
-ghost use Rattle.branch_batch.specs.Lists.{RisesWithin, first_of, all_but, place_of};
+ghost use Rattle.branch_batch.specs.Lists.{RisesFrom, first_of, all_but, place_of};
 ghost use Rattle.branch_batch.specs.Tickets.{front_of};
 ghost use Rattle.branch_batch.specs.Lines.{HasWritten, all_given, answer_in, batch_of, given, is_first, left_of, number_of, room_number};
 
@@ -29,7 +29,7 @@ pub(crate) struct Line<J: Drop, R: Drop, S: Service<J, R>> {
 
 impl<J: Drop, R: Drop, S: Service<J, R>> Model for Line<J, R, S> {
     ghost use Rattle.std.specs.Prelude.{map};
-    ghost use Rattle.branch_batch.specs.Lists.{RisesWithin};
+    ghost use Rattle.branch_batch.specs.Lists.{RisesFrom};
     ghost use Rattle.branch_batch.specs.Lines.{HasWritten, LineView, number_of};
 
     ghost Value = { LineView J R };
@@ -41,7 +41,7 @@ impl<J: Drop, R: Drop, S: Service<J, R>> Model for Line<J, R, S> {
     } };
 
     ghost invariant = { λ l. HasWritten S.table l.count l.writer l.pass
-        × RisesWithin 0 (map number_of l.waiting.items) l.count };
+        × RisesFrom 0 (map number_of l.waiting.items) l.count };
 }
 
 impl<J: Drop, R: Drop, S: Service<J, R>> Line<J, R, S> {
@@ -102,7 +102,7 @@ impl<J: Drop, R: Drop, S: Service<J, R>> Line<J, R, S> {
         ensures batch { batch.new.items ≡ batch_of own self.old.waiting }
         ensures line { self.new ≡ record self.old { waiting = left_of own self.old.waiting } }
         ensures few { length batch.new.items ≤ 64 }
-        ensures order { RisesWithin 0 (map number_of batch.new.items) (2 ^ 64) }
+        ensures order { RisesFrom 0 (map number_of batch.new.items) (2 ^ 64) }
     {
         move_batch(&mut self.waiting, own, batch);
     }

@@ -1,6 +1,6 @@
 // The queue: the front of its jobs, and what lies under its lock.
 ghost use Rattle.std.specs.Prelude.{◌≡◌, ◌≤◌, ◌^◌, [], length, map, vec_capacity, IfOk, IfErr};
-ghost use Rattle.branch_batch.specs.Lists.{RisesWithin};
+ghost use Rattle.branch_batch.specs.Lists.{RisesFrom};
 
 use crate::line::Line;
 use crate::service::Service;
@@ -104,7 +104,7 @@ impl<J: Drop, R: Drop, S: Service<J, R>> Queue<J, R, S> {
         requires empty { batch.old.items ≡ [] }
         requires room { 64 ≤ vec_capacity batch.old }
         ensures few { length batch.new.items ≤ 64 }
-        ensures order { RisesWithin 0 (map (λ job. job.number) batch.new.items) (2 ^ 64) }
+        ensures order { RisesFrom 0 (map (λ job. job.number) batch.new.items) (2 ^ 64) }
     {
         self.line.lock(rt).take(ticket.claim.number, batch);
     }

@@ -23,10 +23,7 @@ pub record IsNamed {M D : Type 0} (blank : BlankView M D) (table queue : TableId
   pub parts_are : blank.parts ≡ parts
   pub opened_is : blank.opened ≡ opened
 
--- the front and the terms of a name that was not picked
-abbrev pub no_table : TableId
-no_table = record { words = 0; slots = 0; views_name = 0; atom = 0; block = 0; offset = 0; slot_names = [] }
-
+-- the limits and the terms of a name that was not picked
 abbrev pub least_limits : Limits
 least_limits = record {
   clock = 1;

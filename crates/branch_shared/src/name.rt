@@ -40,7 +40,8 @@ pub trait Named<O, R> {
 
 impl<O, R> Named<O, R> for Brand {
     ghost use Rattle.std.specs.Prelude.{[], false};
-    ghost use Rattle.branch_shared.specs.Names.{no_table, least_terms};
+    ghost use Rattle.branch_batch.specs.Tickets.{no_table};
+    ghost use Rattle.branch_shared.specs.Names.{least_terms};
 
     ghost table = { no_table };
 

@@ -57,7 +57,8 @@ impl Chunk {
 
     // Writes the nodes.
     pub(crate) fn put(&self, out: &mut Vec<u8>) -> Result<(), Memory>
-        ensures ok { OnOk result (out.new.items ≡ out.old.items ++ flat_map node_spelling self.now) }
+        ensures ok { OnOk result
+            (out.new.items ≡ out.old.items ++ flat_map node_spelling self.now) }
         ensures err { OnErr result
             (AppendsPart out.old.items out.new.items (flat_map node_spelling self.now)) }
     {

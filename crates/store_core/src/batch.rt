@@ -156,7 +156,8 @@ impl<T: Mrdt, D: Disk + Drop, A: Address> Core<T, D, A> {
         requires terms { All (λ job. job.seen.terms ≡ self.old.terms) jobs.items }
         ensures answers { AnswersBatch (fix T.meaning self.old.terms A.address) jobs.items
             self.old self.new result }
-        ensures leaves { LeavesBatch D.Disk T.meaning A.address jobs.items self.old self.new result }
+        ensures leaves { LeavesBatch D.Disk T.meaning A.address jobs.items
+            self.old self.new result }
     {
         let later = later_all(self.recorded.alloc(), jobs)?;
         self.land_all_addressed(later)
@@ -173,7 +174,8 @@ impl<T: Mrdt, D: Disk + Drop, A: Address> Core<T, D, A> {
         requires terms { All (λ job. job.seen.terms ≡ self.old.terms) jobs.items }
         ensures answers { AnswersBatch (fix T.meaning self.old.terms A.address) jobs.items
             self.old self.new result }
-        ensures leaves { LeavesBatch D.Disk T.meaning A.address jobs.items self.old self.new result }
+        ensures leaves { LeavesBatch D.Disk T.meaning A.address jobs.items
+            self.old self.new result }
     {
         if self.failed {
             let moves = self.recorded.moves();

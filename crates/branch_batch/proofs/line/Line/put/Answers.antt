@@ -1,6 +1,6 @@
 -- The job stands behind all others, under the next number.
 use Rattle.std.proofs.Common.{◌≡◌, ◌+◌, ◌∙◌, [], ◌∷◌, ◌++◌, map, ap, sym, subst}
-use Rattle.branch_batch.specs.Lists.{RisesWithin}
+use Rattle.branch_batch.specs.Lists.{RisesFrom}
 use Rattle.branch_batch.specs.Lines.{HasWritten, number_of}
 use Rattle.branch_batch.proofs.Rising.{rises_more}
 use Rattle.branch_batch.proofs.line.Line.put.Goals as goal
@@ -16,6 +16,6 @@ invariant_of-self-2 g c =
     let pass = c.claim-claim.ensures.pass ∙ c.claim.ensures.pass in
     let items : c.push_back_reserved.new.self.items ≡ jobs ++ job ∷ [] = c.push_back_reserved.ensures.items ∙ ap (λ js. js ++ job ∷ []) c.reserve.ensures.items in (
       subst (λ p. HasWritten g.S.Service.table next c.note.new.writer p) (sym pass) noted,
-      subst (λ js. RisesWithin 0 (map number_of js) next) (sym items)
+      subst (λ js. RisesFrom 0 (map number_of js) next) (sym items)
           (rises_more number_of 0 jobs job c.self.inside.count (ap (λ w. w.number) c.claim-claim.ensures.claim) c.self.invariant.1),
     )
