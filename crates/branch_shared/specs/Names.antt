@@ -1,5 +1,5 @@
 -- What names a shared store: which front, and what the store was when it got its name.
-use Rattle.std.specs.Prelude.{◌≡◌, ℕ, List, [], refl}
+use Rattle.std.specs.Prelude.{◌≡◌, ℕ, List, refl}
 use native.Mathlib.Nat.{le_refl, le_intro}
 use Rattle.atomic_table.specs.Seated.{TableId}
 use Rattle.branch_names.specs.declared.limits.Limits.{Limits}
