@@ -12,6 +12,7 @@ mod kept;
 mod name;
 mod pass;
 mod room;
+mod rounds;
 mod shared;
 
 pub use blank::Blank;

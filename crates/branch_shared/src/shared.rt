@@ -21,6 +21,7 @@ use crate::kept::Kept;
 use crate::name::{MoveOf, Named};
 use crate::pass::Pass;
 use crate::room::Room;
+use crate::rounds::Rounds;
 use branch_address::Address;
 use branch_batch::{Queue, Ticket};
 use branch_disk::Disk;
@@ -59,6 +60,7 @@ pub struct Shared<T: Mrdt, D: Disk + Drop, A: Address, N: Named<T::Op, T::Reply>
     front: Front<MoveOf<T>>,
     kept: Mutex<Kept<T, D, A, N>>,
     queue: Line<T, A, N>,
+    rounds: Rounds,
     begun: u64,
 }
 
@@ -118,6 +120,7 @@ impl<T: Mrdt, D: Disk + Drop, A: Address, N: Named<T::Op, T::Reply>> Shared<T, D
             front,
             kept: Mutex::new(kept),
             queue: Queue::new(queue),
+            rounds: Rounds::new(),
             begun,
         };
         let pass = Pass {
@@ -308,7 +311,7 @@ impl<T: Mrdt, D: Disk + Drop, A: Address, N: Named<T::Op, T::Reply>> Shared<T, D
         }
     }
 
-    // What comes back for a job: the caller looks for it, and lands the next batch where it is not there.
+    // What comes back for a job: the caller looks for it, and leads a round or waits for one where it is not there.
     fn await_answer<R: Wait>(&self, rt: &R, claim: Claim<T, A, N>) -> Given<T, N>
         requires may { MayLand N.table N.begun N.terms claim.job }
         ensures { Serves (fix T.meaning N.terms A.address) N.opened N.begun claim.job result }
@@ -323,16 +326,42 @@ impl<T: Mrdt, D: Disk + Drop, A: Address, N: Named<T::Op, T::Reply>> Shared<T, D
         unreachable!()
     }
 
-    // One turn: what came back, if the job is done behind it, and else the claim to it.
+    // One turn: what came back for the job, if it is done, and else the claim to it, behind a round that some caller led.
     fn turn<R: Wait>(&self, rt: &R, claim: Claim<T, A, N>) -> Result<Given<T, N>, Claim<T, A, N>>
         requires may { MayLand N.table N.begun N.terms claim.job }
         ensures serves { IfOk result
             (Serves (fix T.meaning N.terms A.address) N.opened N.begun claim.job) }
         ensures back { IfErr result (λ back. back ≡ claim) }
     {
-        match self.lead(rt, claim) {
+        let ended = self.rounds.ended(rt);
+        match self.queue.take_out(rt, claim) {
             Ok(given) => Ok(given),
-            Err(claim) => self.queue.take_out(rt, claim),
+            Err(claim) => self.lead_or_wait(rt, claim, ended),
+        }
+    }
+
+    // Leads a round where nobody does, or waits until one is over that was not when so many were.
+    fn lead_or_wait<R: Wait>(
+        &self,
+        rt: &R,
+        claim: Claim<T, A, N>,
+        ended: u64,
+    ) -> Result<Given<T, N>, Claim<T, A, N>>
+        requires may { MayLand N.table N.begun N.terms claim.job }
+        ensures serves { IfOk result
+            (Serves (fix T.meaning N.terms A.address) N.opened N.begun claim.job) }
+        ensures back { IfErr result (λ back. back ≡ claim) }
+    {
+        match self.rounds.try_lead() {
+            Some(lead) => {
+                let answer = self.lead(rt, claim);
+                self.rounds.end(rt, lead);
+                answer
+            }
+            None => {
+                self.rounds.wait(rt, ended);
+                Err(claim)
+            }
         }
     }
 
@@ -496,6 +525,7 @@ impl<T: Mrdt, D: Disk + Drop, A: Address, N: Named<T::Op, T::Reply>> Shared<T, D
             front: _,
             kept,
             queue: _,
+            rounds: _,
             begun: _,
         } = self;
         let Kept {
@@ -532,6 +562,7 @@ impl<T: Mrdt, D: Disk + Drop, A: Address, N: Named<T::Op, T::Reply>> Shared<T, D
             front,
             kept,
             queue: _,
+            rounds: _,
             begun,
         } = self;
         let Kept {
