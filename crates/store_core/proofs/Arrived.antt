@@ -1,5 +1,5 @@
 -- Items received in memory, one behind another.
-use Rattle.std.proofs.Common.{◌≡◌, ◌≢◌, inl, inr, ℕ, ◌+◌, ◌<◌, ◌≤◌, ◌^◌, suc, List, [], ◌∷◌, ◌++◌, length, map, take, drop, drop-cons, get_or, refl, sym, ◌∙◌, ap, subst, append-nil, append_assoc, Option, Some, None, Result, Ok, Err}
+use Rattle.std.proofs.Common.{◌≡◌, ◌≢◌, inl, inr, ℕ, ◌+◌, ◌<◌, ◌≤◌, ◌^◌, suc, List, [], ◌∷◌, ◌++◌, length, map, take, drop, drop-cons, get_or, refl, sym, ◌∙◌, ap, subst, append-nil, append_assoc, Some, None, Result, Ok, Err}
 use Rattle.std.specs.List.{AllByRecursion}
 use Rattle.std.proofs.lemmas.List.{append_cancel_left, map-append, take_more, take-append-drop}
 use Rattle.mrdt_model.specs.Laws.{Meaning}
@@ -9,8 +9,8 @@ use Rattle.branch_history.specs.Steps as machine
 use Rattle.heads_journal.specs.declared.record.Record.{Record}
 use Rattle.branch_machine.specs.Fixed.{Fixed, fix}
 use Rattle.branch_machine.specs.Objects.{Pair}
-use Rattle.branch_files.specs.Records.{record_of, records_after}
-use Rattle.branch_bundle_laws.specs.Receiving.{IsTaken, made_by, ReceivesAll}
+use Rattle.branch_files.specs.Records.{records_after}
+use Rattle.branch_bundle_laws.specs.Receiving.{IsTaken, made_by}
 use Rattle.branch_bundle.specs.declared.bundle.Item.{Item}
 use Rattle.branch_bundle.specs.Held.{pair_of}
 use Rattle.machine_answers.specs.Answers.{Answer, Made, Still, Refused, Takes}
@@ -27,7 +27,7 @@ use Rattle.store_core.specs.declared.answers.ReceiveRefused.TheVariants as refus
 use Rattle.store_core.specs.Receiving.{item_refused, receive_answer}
 use Rattle.store_core.specs.Together.{RefusedBy, ToldOf, TellsTurns, HasArrived, HaveArrived}
 use Rattle.store_core.proofs.Batched.{after-both}
-use Rattle.store_core.proofs.Turns.{received-more, taken-more, made-more, refused-not-taken}
+use Rattle.store_core.proofs.Turns.{received-more, made-more, refused-not-taken}
 
 -- the bytes that were handed on are those of the item
 pub more_of_bytes : {S O R Q A : Type 0} (fixed : Fixed S O R Q A) (old new : RecordedView (Move O R)) (answer : Answer A R) (value commit v c : List ℕ) → value ≡ v → commit ≡ c

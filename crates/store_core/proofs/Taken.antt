@@ -6,7 +6,6 @@ use Rattle.branch_disk.specs.declared.disk.Disk.{Ghosts}
 use Rattle.mrdt_model.specs.Laws.{Meaning}
 use Rattle.branch_names.specs.declared.terms.Terms.{Terms}
 use Rattle.branch_history.specs.declared.moves.Move.{Move}
-use Rattle.branch_history.specs.Steps.{Turn}
 use Rattle.heads_journal.specs.declared.record.Record.{Record}
 use Rattle.branch_machine.specs.Fixed.{Fixed, fix}
 use Rattle.branch_machine.specs.Objects.{Pair}

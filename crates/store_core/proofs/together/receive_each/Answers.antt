@@ -1,10 +1,9 @@
 -- One item more arrives behind those before it, and is the last where it is refused.
-use Rattle.std.proofs.Common.{◌≡◌, [], ◌∷◌, ◌++◌, ◌+◌, ◌<◌, length, map, take, drop, suc, None, Some, Ok, Err, get_or, refl, ap, sym, ◌∙◌, subst, arith, length-append}
-use Rattle.std.proofs.lemmas.Option.{slice_get-get_or}
+use Rattle.std.proofs.Common.{[], ◌∷◌, ◌+◌, length, map, take, drop, suc, None, Some, ap, sym, ◌∙◌, subst, length-append}
 use Rattle.branch_bundle.specs.Held.{pair_of}
 use Rattle.branch_machine.specs.Fixed.{fix}
 use Rattle.store_core.specs.Together.{HaveArrived}
-use Rattle.store_core.proofs.Arrived.{first-more, all-parts, arrived-none, arrived-next, arrived-last}
+use Rattle.store_core.proofs.Arrived.{first-more, all-parts, arrived-next, arrived-last}
 use Rattle.store_core.proofs.together.receive_each.Goals as goal
 
 pub loop-item-preserved : goal.loop-item-preserved
