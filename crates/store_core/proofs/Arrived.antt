@@ -145,16 +145,6 @@ module _ {S O R Q A : Type 0} (meaning : Meaning S O R Q A) (address : List ℕ 
   abbrev fixed : Fixed S O R Q A
   fixed = fix meaning old.terms address
 
-  -- no item
-  pub arrived-none : old.pending ≡ [] → HaveArrived fixed [] old old [] None []
-  arrived-none settled = record {
-    turns = [];
-    received = refl;
-    told = refl;
-    pending = ap (λ (ms : List (Move O R)). record old { pending = ms }) settled;
-    are = refl;
-  }
-
   -- an item behind those that have arrived
   module _ (items : List Pair) (item : Pair) (mid new : RecordedView (Move O R)) (gots : List Got) (answer : Result Got ReceiveRefused) (records notes : List Record) (before : HaveArrived fixed items old mid gots None records)
       (one : HasArrived (fix meaning mid.terms address) item mid new answer records notes) where
