@@ -8,7 +8,7 @@ use Rattle.branch_history.specs.Steps.{Refusal, Outcome, Sees, Forked, Landed, M
 use Rattle.branch_machine.specs.Fixed.{Fixed}
 use Rattle.branch_machine.specs.Objects.{Pair}
 use Rattle.branch_machine.specs.Validity.{Receives}
-use Rattle.branch_bundle_laws.specs.Receiving.{IsTaken, made_by, ReceivesAll, EndsRefused}
+use Rattle.branch_bundle_laws.specs.Receiving.{IsTaken, made_by, ReceivesAll}
 use Rattle.branch_bundle_laws.proofs.Turns.{IsReceivedAs, WasHere, WasNew, WasRefused, WasBad, received-as}
 use Rattle.branch_bundle_laws.proofs.Folds.{turn-old}
 use Rattle.branch_bundle.specs.declared.bundle.Item.{Item}
@@ -89,17 +89,8 @@ module _ {S O R Q A : Type 0} (fixed : Fixed S O R Q A) where
       omega (arith, one-most moves i t (received-as fixed moves i t one), ap (λ (l : List (Turn O R A)). length (made_by l)) none, length-append t.made (made_by ts))
 
 module _ {O R A : Type 0} where
-  pub taken-more : (turns : List (Turn O R A)) (t : Turn O R A) → AllByRecursion IsTaken turns → IsTaken t → AllByRecursion IsTaken (turns ++ t ∷ [])
-  taken-more [] t all is = (is, tt)
-  taken-more (u ∷ us) t all is = (all.0, taken-more us t all.1 is)
-
   pub made-more : (turns : List (Turn O R A)) (t : Turn O R A) → made_by (turns ++ t ∷ []) ≡ made_by turns ++ t.made
   made-more turns t = flat_map-append (λ (u : Turn O R A). u.made) turns (t ∷ []) ∙ ap (λ (l : List (Move O R)). made_by turns ++ l) (append-nil t.made)
-
-  pub ends-more : (turns : List (Turn O R A)) (t : Turn O R A) (r : Refusal) → t.outcome ≡ Refused r → EndsRefused (turns ++ t ∷ []) r
-  ends-more [] t r is = is
-  ends-more (u ∷ []) t r is = is
-  ends-more (u ∷ v ∷ us) t r is = ends-more (v ∷ us) t r is
 
   -- what is refused is not taken
   pub refused-not-taken : (t : Turn O R A) (r : Refusal) → t.outcome ≡ Refused r → ¬ IsTaken t
