@@ -1,5 +1,10 @@
 // Whose turn it is to land the next batch, and how others wait for the end of it.
+use std::sync::atomic::{AtomicU64, Ordering};
 use std::sync::{Condvar, Mutex, MutexGuard, Wait};
+use std::thread::yield_now;
+
+// How often a leader lets others go first at the most.
+const PATIENCE: u32 = 1000;
 
 /// One caller at a time leads a round: it lands a batch. The others sleep until the round is over, and not at the store's
 /// lock: so all whose jobs were landed take out what came back at once, and put their next jobs, while the next round goes
@@ -9,6 +14,7 @@ pub struct Rounds {
     leader: Mutex<()>,
     ended: Mutex<u64>,
     news: Condvar,
+    at_the_door: AtomicU64,
 }
 
 impl Rounds {
@@ -18,12 +24,33 @@ impl Rounds {
             leader: Mutex::new(()),
             ended: Mutex::new(0),
             news: Condvar::new(),
+            at_the_door: AtomicU64::new(0),
         }
     }
 
     /// How many rounds were over, wrapping.
     pub fn ended<R: Wait>(&self, rt: &R) -> u64 {
         *self.ended.lock(rt)
+    }
+
+    /// Somebody waits for the store's lock, for a short time.
+    pub fn come(&self) {
+        self.at_the_door.fetch_add(1, Ordering::SeqCst);
+    }
+
+    /// Somebody has it.
+    pub fn go_in(&self) {
+        self.at_the_door.fetch_sub(1, Ordering::SeqCst);
+    }
+
+    /// Lets those who wait for the store's lock go first, for a while: a round is long, and what they want is short.
+    pub fn let_in(&self) {
+        for _ in 0..PATIENCE {
+            if self.at_the_door.load(Ordering::SeqCst) == 0 {
+                return;
+            }
+            yield_now();
+        }
     }
 
     /// The lead of a round, if nobody has it.

@@ -30,7 +30,7 @@ use branch_names::Name;
 use mrdt_model::{Memory, Mrdt};
 use std::alloc::Global;
 use std::marker::{Model, PhantomData};
-use std::sync::{Mutex, Wait};
+use std::sync::{Mutex, MutexGuard, Wait};
 use store_core::{
     Addressed, Core, DropRefused, ForkRefused, Forked, Group, LandRefused, Landed, LookRefused,
     Pair, PairRefused, Prepared, Seen,
@@ -169,7 +169,7 @@ impl<T: Mrdt, D: Disk + Drop, A: Address, N: Named<T::Op, T::Reply>> Shared<T, D
         ensures refused { IfErr result
             (LookRefusedAs T.meaning (seen_by pass.new N.terms) branch.now) }
     {
-        self.kept.lock(rt).look(&self.front, pass, branch)
+        self.visit(rt).look(&self.front, pass, branch)
     }
 
     /// Pairs a look, taken now or earlier, with the head that a branch has now, also where the disk has failed.
@@ -193,7 +193,7 @@ impl<T: Mrdt, D: Disk + Drop, A: Address, N: Named<T::Op, T::Reply>> Shared<T, D
         ensures refused { IfErr result
             (PairRefusedAs T.meaning (seen_by pass.new N.terms) from.now) }
     {
-        self.kept.lock(rt).pair(&self.front, pass, seen, from)
+        self.visit(rt).pair(&self.front, pass, seen, from)
     }
 
     /// Groups a look, taken now or earlier, with the heads that one to eight branches have now, also where the disk has
@@ -219,7 +219,7 @@ impl<T: Mrdt, D: Disk + Drop, A: Address, N: Named<T::Op, T::Reply>> Shared<T, D
         ensures refused { IfErr result
             (GroupRefusedAs T.meaning (seen_by pass.new N.terms) from.now) }
     {
-        self.kept.lock(rt).group(&self.front, pass, seen, from)
+        self.visit(rt).group(&self.front, pass, seen, from)
     }
 
     /// Lands what was prepared on a look, now or earlier. After `Ok` the last move that the pass has seen is this one.
@@ -252,7 +252,7 @@ impl<T: Mrdt, D: Disk + Drop, A: Address, N: Named<T::Op, T::Reply>> Shared<T, D
             → ((moves : ℕ) → result ≢ Err (LandRefused.Failed moves)) → pass.new.faults ≡ 0 }
     {
         let prepared = Addressed::new(self.alloc, prepared);
-        self.kept.lock(rt).land(&self.front, pass, prepared)
+        self.visit(rt).land(&self.front, pass, prepared)
     }
 
     /// Lands what was prepared on a look, as `land` does, but together with the landings of other callers who wait too: one
@@ -300,6 +300,14 @@ impl<T: Mrdt, D: Disk + Drop, A: Address, N: Named<T::Op, T::Reply>> Shared<T, D
         answer
     }
 
+    // What lies under the lock, for a caller who leads no round: whoever is about to lead one lets it go first.
+    fn visit<R: Wait>(&self, rt: &R) -> MutexGuard<'_, Kept<T, D, A, N>> {
+        self.rounds.come();
+        let kept = self.kept.lock(rt);
+        self.rounds.go_in();
+        kept
+    }
+
     // Lands a job together with those of others, or alone where memory for the queue is short.
     fn land_together<R: Wait>(&self, rt: &R, job: Job<T, A>) -> Given<T, N>
         requires may { MayLand N.table N.begun N.terms job }
@@ -307,7 +315,7 @@ impl<T: Mrdt, D: Disk + Drop, A: Address, N: Named<T::Op, T::Reply>> Shared<T, D
     {
         match self.queue.put(rt, job) {
             Ok(claim) => self.await_answer(rt, claim),
-            Err(job) => self.kept.lock(rt).land_alone(&self.front, job),
+            Err(job) => self.visit(rt).land_alone(&self.front, job),
         }
     }
 
@@ -372,6 +380,7 @@ impl<T: Mrdt, D: Disk + Drop, A: Address, N: Named<T::Op, T::Reply>> Shared<T, D
             (Serves (fix T.meaning N.terms A.address) N.opened N.begun claim.job) }
         ensures back { IfErr result (λ back. back ≡ claim) }
     {
+        self.rounds.let_in();
         let mut kept = self.kept.lock(rt);
         match self.queue.take_out(rt, claim) {
             Ok(given) => Ok(given),
@@ -460,7 +469,7 @@ impl<T: Mrdt, D: Disk + Drop, A: Address, N: Named<T::Op, T::Reply>> Shared<T, D
         ensures quiet { result ≢ Err ForkRefused.DiskFault
             → ((moves : ℕ) → result ≢ Err (ForkRefused.Failed moves)) → pass.new.faults ≡ 0 }
     {
-        self.kept.lock(rt).fork(&self.front, pass, new, from)
+        self.visit(rt).fork(&self.front, pass, new, from)
     }
 
     /// Drops the branch of a look, taken now or earlier, from the head that was seen, and says how many moves the history
@@ -484,7 +493,7 @@ impl<T: Mrdt, D: Disk + Drop, A: Address, N: Named<T::Op, T::Reply>> Shared<T, D
         ensures answered { AnsweredAt (fix T.meaning N.terms A.address) N.opened pass.old pass.new
             (machine.Drop seen.now.branch seen.now.head) (drop_answer seen.now result) }
     {
-        self.kept.lock(rt).drop_branch(&self.front, pass, seen)
+        self.visit(rt).drop_branch(&self.front, pass, seen)
     }
 
     /// A pass ends in another, which has then seen what either had, and claims what either did. Answers how many moves the
