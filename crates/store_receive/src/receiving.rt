@@ -15,7 +15,7 @@ use branch_disk::Disk;
 use branch_names::Name;
 use mrdt_model::Mrdt;
 use std::alloc::Global;
-use store_core::Core;
+use store_core::{Core, GotAll};
 
 // How many items are received together at the most.
 const TOGETHER: usize = 64;
@@ -41,10 +41,13 @@ fn receive_batch<T: Mrdt, D: Disk + Drop, A: Address>(
     // It is a valid history: its count tells the proof so.
     let _moves = core.moves();
     match core.receive_all(items) {
-        Ok(all) => match all.refused {
-            None => Ok(all.made),
-            Some(refused) => Err(NotReceived::from(refused)),
-        },
+        Ok(all) => {
+            let GotAll { made, refused, .. } = all;
+            match refused {
+                None => Ok(made),
+                Some(refused) => Err(NotReceived::from(refused)),
+            }
+        }
         Err(refused) => Err(NotReceived::from(refused)),
     }
 }
