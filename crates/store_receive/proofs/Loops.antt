@@ -1,5 +1,5 @@
 -- The items of a bundle that were taken so far.
-use Rattle.std.proofs.Common.{◌≡◌, ◌⊎◌, inl, inr, ℕ, ◌+◌, ◌<◌, ◌≤◌, suc, arith, false, true, zero, List, [], ◌∷◌, ◌++◌, length, take, drop, map, refl, ap, sym, ◌∙◌, subst, append_assoc, append-nil, length-append, length-take-le, Some}
+use Rattle.std.proofs.Common.{◌≡◌, ◌⊎◌, inl, inr, ℕ, ◌+◌, ◌≤◌, suc, arith, false, true, zero, List, [], ◌∷◌, ◌++◌, length, take, drop, map, refl, ap, sym, ◌∙◌, subst, append_assoc, append-nil, length-append, length-take-le, Some}
 use Rattle.std.specs.List.{AllByRecursion}
 use Rattle.std.proofs.lemmas.Grind.{flat_map-append}
 use Rattle.std.proofs.lemmas.List.{length-take, map-append, take-append-drop}
@@ -24,8 +24,7 @@ use Rattle.branch_bundle.specs.Held.{pair_of, numbered}
 use Rattle.store_core.specs.Images.{AllStand}
 use Rattle.store_core.specs.Views.{StoreView}
 use Rattle.store_receive.specs.declared.answers.NotReceived.{NotReceived}
-use Rattle.store_receive.specs.declared.answers.NotReceived.TheVariants as unreceived
-use Rattle.store_receive.specs.Received.{TellsItem, HasMade, HasFailed, AreTaken, AreSomeTaken, MakesNothing, IsInterrupted, TakesAll, StopsAt, StopsIn, StandsAfterSome}
+use Rattle.store_receive.specs.Received.{TellsItem, HasMade, AreSomeTaken, MakesNothing, IsInterrupted, TakesAll, StopsAt, StopsIn, StandsAfterSome}
 use Rattle.store_receive.proofs.Items.{ends-behind}
 use Rattle.store_core.proofs.Turns.{received-length, made-few, refused-not-taken, numbered-at}
 

@@ -1,5 +1,5 @@
 -- What receiving a bundle answers, and what it leaves of a store and its disk.
-use Rattle.std.specs.Prelude.{◌≡◌, ◌⊎◌, ℕ, ◌+◌, List, [], ◌++◌, length, map, slice_get, Some, None, true}
+use Rattle.std.specs.Prelude.{◌≡◌, ◌⊎◌, ℕ, ◌+◌, List, ◌++◌, length, map, slice_get, Some, None, true}
 use Rattle.std.specs.List.{AllByRecursion}
 use Rattle.branch_disk.specs.Disk.{Files}
 use Rattle.branch_history.specs.declared.moves.Move.{Move}
