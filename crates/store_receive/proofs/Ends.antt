@@ -1,7 +1,7 @@
 -- How receiving ends: behind the items, at the tip, with the branch.
-use Rattle.std.proofs.Common.{◌≡◌, ◌⊎◌, inl, inr, ℕ, ◌+◌, ◌<◌, arith, Bool, true, false, cond, List, [], ◌∷◌, ◌++◌, length, map, refl, ap, sym, ◌∙◌, subst, Option, Some, None, append_assoc, append-nil}
+use Rattle.std.proofs.Common.{◌≡◌, ◌⊎◌, inl, inr, ℕ, ◌+◌, ◌<◌, Bool, true, false, cond, List, [], ◌∷◌, ◌++◌, length, map, refl, ap, sym, ◌∙◌, subst, Option, Some, None, append_assoc, append-nil}
 use Rattle.std.specs.Prelude.{IsTrue, Result, Ok, Err, IfOk, IfErr}
-use Rattle.std.specs.List.{AllByRecursion, position_from}
+use Rattle.std.specs.List.{position_from}
 use Rattle.mrdt_model.specs.Laws.{Meaning}
 use Rattle.branch_disk.specs.Disk.{Files, LeavesOnly}
 use Rattle.branch_disk.specs.declared.disk.Disk.{Ghosts}
@@ -10,17 +10,15 @@ use Rattle.branch_wire.specs.StoredObjects.{same}
 use Rattle.branch_names.specs.Names.{is_name}
 use Rattle.branch_history.specs.declared.moves.Move.{Move}
 use Rattle.branch_history.specs.Steps.{Refusal, Refused, Forked, Place, Turn}
-use Rattle.branch_history.specs.Machine.{makes, answers}
 use Rattle.branch_machine.specs.Fixed.{Fixed, fix}
 use Rattle.branch_machine.specs.Objects.{Pair, pairs_of, store_after}
-use Rattle.branch_machine.specs.Machine.{full_turn}
 use Rattle.branch_machine.specs.Validity.{IsFullyValid}
 use Rattle.branch_machine.proofs.Stored.{same-eq, same-refl}
 use Rattle.branch_machine.proofs.Valid.{valid-more}
 use Rattle.branch_files.specs.Stands.{Stands}
 use Rattle.branch_bundle_laws.specs.Bundles.{Bundle as Plain}
 use Rattle.branch_bundle_laws.specs.Text.{bundle_text, IsBundle}
-use Rattle.branch_bundle_laws.specs.Receiving.{IsTaken, made_by, ReceivesAll, Receipt, NoBundle, Stopped, NotPlaced, Placed as PlacedAs, addressed, placing}
+use Rattle.branch_bundle_laws.specs.Receiving.{made_by, Receipt, NoBundle, Stopped, NotPlaced, Placed as PlacedAs, addressed, placing}
 use Rattle.branch_bundle_laws.proofs.Folds.{has-items}
 use Rattle.branch_bundle_laws.proofs.Placed.{placed-or}
 use Rattle.branch_bundle.specs.declared.bundle.Item.{Item}
@@ -31,7 +29,7 @@ use Rattle.store_core.specs.Views.{StoreView}
 use Rattle.store_receive.specs.declared.answers.NotReceived.{NotReceived}
 use Rattle.store_receive.specs.declared.answers.NotReceived.TheVariants as unreceived
 use Rattle.store_receive.specs.declared.answers.Placed.{Placed}
-use Rattle.store_receive.specs.Received.{TellsItem, TellsBranch, TellsReceipt, HasMade, HasFailed, AreTaken, AreSomeTaken, IsAllTaken, AreFirstMoves, MakesNothing, IsInterrupted, IsReceived, IsNotReceived, TakesAll, StopsAt, StandsAfterSome, IsPlaced, RefusesBranch, IsNotPlaced, StandsAfterPlace, PlacesAtTip, NotPlacedAtTip, StandsAtTip, StandsOnTheWay, AreReceived, AreNotReceived, StandsOnTheirWay}
+use Rattle.store_receive.specs.Received.{HasMade, HasFailed, AreSomeTaken, MakesNothing, IsInterrupted, IsReceived, IsNotReceived, TakesAll, StopsAt, StandsAfterSome, IsPlaced, IsNotPlaced, StandsAfterPlace, PlacesAtTip, NotPlacedAtTip, StandsAtTip, StandsOnTheWay, AreReceived, AreNotReceived, StandsOnTheirWay}
 
 same-swap : (a b : List ℕ) → same a b ≡ same b a
 same-swap a b = by (same a b) refl (same b a) refl

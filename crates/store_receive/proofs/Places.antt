@@ -1,5 +1,5 @@
 -- What the core answers where a branch is placed, as what is told of it here.
-use Rattle.std.proofs.Common.{◌≡◌, ◌≢◌, ◌⊎◌, inl, inr, ℕ, ◌<◌, ◌≤◌, arith, Bool, true, false, List, [], ◌∷◌, ◌++◌, length, refl, ap, sym, ◌∙◌, subst}
+use Rattle.std.proofs.Common.{◌≡◌, ◌≢◌, inl, inr, ℕ, ◌<◌, arith, true, false, List, [], ◌∷◌, length, refl, ap, sym, ◌∙◌}
 use Rattle.std.specs.Prelude.{Result, Ok, Err, IsTrue}
 use Rattle.mrdt_model.specs.Laws.{Meaning}
 use Rattle.branch_io.specs.Causes.{HasCauseOf}
@@ -10,23 +10,22 @@ use Rattle.branch_names.specs.Names.{is_name}
 use Rattle.branch_history.specs.declared.moves.Move.{Move}
 use Rattle.branch_history.specs.Steps.{Refusal, Outcome, Refused, Forked as ForkedAs, Place, Turn}
 use Rattle.branch_history.specs.Steps as machine
-use Rattle.branch_history.specs.Machine.{answers, makes}
+use Rattle.branch_history.specs.Machine.{answers}
 use Rattle.branch_machine.specs.Fixed.{Fixed, fix}
 use Rattle.branch_machine.specs.Objects.{store_after}
 use Rattle.branch_machine.specs.Validity.{IsFullyValid}
-use Rattle.branch_files.specs.Stands.{Stands}
 use Rattle.machine_answers.specs.Answers as answer
 use Rattle.branch_bundle_laws.specs.Receiving.{placing}
 use Rattle.store_seen.specs.declared.answers.Forked.{Forked}
 use Rattle.store_core.specs.declared.answers.PlaceRefused.{PlaceRefused}
 use Rattle.store_core.specs.declared.answers.PlaceRefused.TheVariants as refusal
-use Rattle.store_core.specs.Answers.{place_answer, turn_of, Leaves}
+use Rattle.store_core.specs.Answers.{place_answer, Leaves}
 use Rattle.store_core.specs.Images.{AllStand, WithOrWithout}
 use Rattle.store_core.specs.Views.{StoreView}
 use Rattle.store_receive.specs.declared.answers.Placed.{Placed}
 use Rattle.store_receive.specs.declared.answers.NotReceived.{NotReceived}
 use Rattle.store_receive.specs.declared.answers.NotReceived.TheVariants as unreceived
-use Rattle.store_receive.specs.Received.{place_stopped, HasMade, IsPlaced, RefusesBranch, IsNotPlaced, StandsAfterPlace}
+use Rattle.store_receive.specs.Received.{place_stopped, IsPlaced, RefusesBranch, IsNotPlaced, StandsAfterPlace}
 use Rattle.store_receive.proofs.Ends.{placed-head, place-valid, stayed}
 
 module _ {D S O R Q A : Type 0} (disk : Ghosts D) (meaning : Meaning S O R Q A) (address : List ℕ → List ℕ) (name : List ℕ) (n : ℕ) (old new : StoreView (Move O R) D) where

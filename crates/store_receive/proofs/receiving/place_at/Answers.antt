@@ -1,5 +1,5 @@
 -- The branch is placed as the core places it.
-use Rattle.std.proofs.Common.{◌≡◌, refl, sym, subst}
+use Rattle.std.proofs.Common.{refl, sym, subst}
 use Rattle.std.specs.Prelude.{Ok, Err}
 use Rattle.branch_io.specs.Causes.{HasCauseOf}
 use Rattle.branch_machine.specs.Fixed.{fix}

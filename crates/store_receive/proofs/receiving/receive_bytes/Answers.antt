@@ -1,10 +1,9 @@
 -- The bytes are those of a bundle, or of none.
-use Rattle.std.proofs.Common.{◌≡◌, refl, inl, inr}
 use Rattle.branch_machine.specs.Fixed.{fix}
 use Rattle.branch_bundle_laws.specs.Receiving.{Placed as PlacedAs}
 use Rattle.branch_bundle.specs.Held.{plain}
-use Rattle.store_receive.specs.Received.{IsReceived, IsNotReceived, AreReceived, AreNotReceived, StandsOnTheirWay}
-use Rattle.store_receive.proofs.Ends.{ok-map, err-map, stayed, bundle-received, bundle-not-received, bundle-moments, none-received}
+use Rattle.store_receive.specs.Received.{IsReceived, IsNotReceived, AreReceived, AreNotReceived}
+use Rattle.store_receive.proofs.Ends.{ok-map, err-map, bundle-received, bundle-not-received, bundle-moments}
 use Rattle.store_receive.proofs.receiving.receive_bytes.Goals as goal
 
 pub receive_bundle-requires-clause-numbers : goal.receive_bundle-requires-clause-numbers
