@@ -20,6 +20,7 @@ use Rattle.branch_shared.specs.contracts.job.Job as Job
 use Rattle.branch_shared.specs.contracts.job.Given as Given
 use Rattle.branch_shared.specs.contracts.job.Landing as Landing
 use Rattle.branch_shared.specs.contracts.kept.Kept as Kept
+use Rattle.branch_shared.specs.contracts.rounds.Rounds as Rounds
 use Rattle.branch_shared.specs.contracts.shared.Shared as Shared
 use Rattle.branch_shared.specs.contracts.pass.Pass as Pass
 
@@ -50,6 +51,9 @@ module _ (T N O Q W R : RattleType) (m : mrdt.Ghosts T.Denot O.Denot Q.Denot W.D
       let l = landed_send R sr in
       let e = refused_send in search (sendable, crosses) depth 20
 
+rounds_sync : IsSync Rounds.the_field.row
+rounds_sync = search (sendable, crosses) depth 30
+
 landing_send : (T A N : RattleType) → IsSend T → IsSend A → IsSend N → IsSend (Landing.the_row T A N)
 landing_send T A N s sa sn = search (sendable, crosses) depth 20
 
@@ -66,4 +70,5 @@ module _ (T D A N O Q W R : RattleType) (m : mrdt.Ghosts T.Denot O.Denot Q.Denot
       let lock : IsSync (Mutex.the_row (Kept.the_row T D A N O Q W R m d a n)) = search (sendable, crosses) depth 20 in
       let j = job_send T A O Q W R m a s sa so sr in
       let g = given_send T N O Q W R m n sn sr in
-      let l = landing_send T A N s sa sn in search (sendable, Queue-sync) depth 20
+      let l = landing_send T A N s sa sn in
+      let r = rounds_sync in search (sendable, Queue-sync) depth 20
