@@ -15,6 +15,10 @@ returns-clause-history g c =
     let P : PreparedView SumOp (Unit {0}) → Type 0 = λ job. IsPrefix job.seen.history c.land_addition-2.new.core.history in
     let grown = prefix_trans _ _ _ c.land_addition.ensures.history c.land_addition-2.ensures.history in
     All-same P _ _ c.in_ok-vec.ensures.items (All-from_recursion P
-    (c.addition-first.result ∷ c.addition-second.result ∷ c.merge-merged.result ∷ c.addition-beyond.result ∷ c.merge-up.result ∷ c.merge-last.result ∷ [])
-    (prefix_trans _ _ _ c.addition-first.ensures.history grown, (prefix_trans _ _ _ c.addition-second.ensures.history grown,
-    (c.merge-merged.ensures.history, (c.addition-beyond.ensures.history, (c.merge-up.ensures.history, (c.merge-last.ensures.history, tt)))))))
+    (c.addition-first.result ∷ c.addition-second.result ∷ c.merge-merged.result ∷ c.addition-beyond.result ∷ c.merge-up.result ∷ c.merge-last.result ∷ []) (
+      prefix_trans _ _ _ c.addition-first.ensures.history grown,
+      (
+        prefix_trans _ _ _ c.addition-second.ensures.history grown,
+        (c.merge-merged.ensures.history, (c.addition-beyond.ensures.history, (c.merge-up.ensures.history, (c.merge-last.ensures.history, tt)))),
+      ),
+    ))
