@@ -142,22 +142,22 @@ fn say_taken<K: Sink>(alloc: Global, sink: &mut K, number: u32) -> Status
 fn receive_read<T: Mrdt, K: Sink, D: Disk + Drop, A: Address>(
     alloc: Global,
     name: Name,
-    bytes: &[u8],
+    bytes: Vec<u8>,
     sink: &mut K,
     core: Core<T, D, A>,
 ) -> (Status, D)
     requires working { core.failed ≡ false }
     requires free { branch_named (store_of core.terms.origin core.history).branches name ≡ None }
-    requires few { length bytes.now < 2 ^ 32 }
+    requires few { length bytes.items < 2 ^ 32 }
     ensures wrote { Answers
         (SaysReceipt T.meaning A.address (record { terms = core.terms; history = core.history })
-        bytes.now name (D.may_leave result.1) IsSuccess)
+        bytes.items name (D.may_leave result.1) IsSuccess)
         (SaysReceipt T.meaning A.address (record { terms = core.terms; history = core.history })
-        bytes.now name (D.may_leave result.1) IsRefusal)
+        bytes.items name (D.may_leave result.1) IsRefusal)
         result.0 (K.given sink.old) (K.given sink.new) }
     ensures moments { LeavesOnly D.moment D.left_since core.disk result.1
         (ReadsOnTheWay T.meaning A.address
-        (record { terms = core.terms; history = core.history }) bytes.now name) }
+        (record { terms = core.terms; history = core.history }) bytes.items name) }
     ensures reason { (n : ℕ) → HasReason
         (record { source = n; sink = K.faults sink.old; disk = D.faults core.disk })
         (record { source = n; sink = K.faults sink.new; disk = D.faults result.1 }) result.0 }
@@ -208,7 +208,7 @@ fn receive_from<T: Mrdt, S: Source, K: Sink, D: Disk + Drop, A: Address>(
 {
     reads_what_stands::<T>();
     match read_all(alloc, source) {
-        Ok(bytes) => receive_read(alloc, name, &bytes, sink, core),
+        Ok(bytes) => receive_read(alloc, name, bytes, sink, core),
         Err(status) => (status, core.close()),
     }
 }

@@ -178,24 +178,29 @@ fn receive_bundle<T: Mrdt, D: Disk + Drop, A: Address>(
 /// `NoBundle` comes exactly where the bytes spell none, and where behind all items no commit has the address of the tip.
 /// At every moment a crash leaves the history with the moves of a first part of the items, or of all and of the branch;
 /// all of them are valid.
+///
+/// The bytes go from memory once they are read.
 pub fn receive_bytes<T: Mrdt, D: Disk + Drop, A: Address>(
     alloc: Global,
     core: &mut Core<T, D, A>,
-    bytes: &[u8],
+    bytes: Vec<u8>,
     name: Name,
 ) -> Result<Placed, NotReceived>
     requires working { core.old.failed ≡ false }
     ensures received { IfOk result (λ placed. AreReceived (fix T.meaning core.old.terms A.address)
-        bytes.now name core.old core.new (PlacedAs placed.count placed.branch placed.head)) }
+        bytes.items name core.old core.new (PlacedAs placed.count placed.branch placed.head)) }
     ensures refused { IfErr result (AreNotReceived (fix T.meaning core.old.terms A.address)
-        bytes.now name core.old core.new) }
+        bytes.items name core.old core.new) }
     ensures moments { LeavesOnly D.moment D.left_since core.old.disk core.new.disk
-        (StandsOnTheirWay (fix T.meaning core.old.terms A.address) core.old.history bytes.now name) }
+        (StandsOnTheirWay (fix T.meaning core.old.terms A.address) core.old.history bytes.items
+        name) }
     ensures cause { HasCauseOf NotReceived.DiskFault (D.faults core.old.disk)
         (D.faults core.new.disk) result }
 {
     let _moves = core.moves();
-    match read_bundle(alloc, bytes) {
+    let read = read_bundle(alloc, &bytes);
+    drop(bytes);
+    match read {
         Ok(bundle) => receive_bundle(core, &bundle, name),
         Err(BundleRefused::BadBundle { .. }) => Err(NotReceived::NoBundle),
         Err(BundleRefused::Memory) => Err(NotReceived::Memory),

@@ -1,6 +1,5 @@
 -- The source is read, and what it holds is received.
-use Rattle.std.proofs.Common.{◌≡◌, ◌∙◌, ◌<◌, ◌^◌, ℕ, List, length, [], ap, sym, subst, inl, inr}
-use Rattle.std.specs.Io.KnownBytes.{Consumes}
+use Rattle.std.proofs.Common.{◌≡◌, [], ap, subst, inl, inr}
 use Rattle.std.proofs.KnownBytes.{Appends-nil}
 use Rattle.branch_shell.specs.Counts.{HasReason}
 use Rattle.branch_shell.specs.Stores.{Stored}
@@ -8,7 +7,7 @@ use Rattle.branch_shell.proofs.Received.{stays, wrote-read, never-unread, wrote-
 use Rattle.branch_shell.proofs.receive.receive_from.Goals as goal
 
 pub receive_read-requires-clause-few : goal.receive_read-requires-clause-few
-receive_read-requires-clause-few g c κs within = subst (λ (b : List ℕ). length b < 2 ^ 32) (sym c.deref.ensures.value) c.in-Ok.ensures.few
+receive_read-requires-clause-few g c κs within = c.in-Ok.ensures.few
 
 pub returns-in-Ok-clause-ran : goal.returns-in-Ok-clause-ran
 returns-in-Ok-clause-ran g c =
@@ -17,18 +16,17 @@ returns-in-Ok-clause-ran g c =
     let core = c.args.core in
     let store : Stored _ _ = record { terms = core.terms; history = core.history } in
     let run = c.receive_read in
-    let bytes = c.deref.result.now in
-    let same : c.in-Ok.bytes.items ≡ bytes = sym c.deref.ensures.value in
+    let bytes = c.in-Ok.bytes.items in
     let left = g.S.Source.left c.read_all.new.source in
     let images = g.D.Disk.may_leave run.result.1 in
     let w = run.ensures.wrote in (
       bytes,
       w.0,
-      subst (λ (b : List ℕ). Consumes (g.S.Source.left c.args.source.now) left b) same c.in-Ok.ensures.read,
+      c.in-Ok.ensures.read,
       w.1,
       record {
         free = c.requires.free;
-        wrote = wrote-read m address store c.args.name images left bytes run.result.0 w.0 c.in-Ok.ensures.end (subst (λ (b : List ℕ). length b < 2 ^ 32) same c.in-Ok.ensures.few) w.2;
+        wrote = wrote-read m address store c.args.name images left bytes run.result.0 w.0 c.in-Ok.ensures.end c.in-Ok.ensures.few w.2;
         moments = run.ensures.moments;
         unread = never-unread m address store c.args.name images left bytes (run.result.1 ≡ core.disk) run.result.0 w.0 w.2;
         untouched = inl c.in-Ok.ensures.end;

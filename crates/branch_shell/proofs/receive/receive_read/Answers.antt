@@ -16,14 +16,14 @@ returns-in-Ok-clause-wrote g c =
     let store : Stored _ _ = record { terms = old.terms; history = old.history } in
     let images = g.D.Disk.may_leave c.close.result in
     let p = c.in-Ok.placed in
-    answers_map (λ whole. whole ≡ receipt_text (PlacedAs p.count p.branch p.head)) (λ whole. ⊥) (SaysReceipt m address store c.args.bytes.now c.args.name images IsSuccess) (SaysReceipt m address store c.args.bytes.now c.args.name images IsRefusal)
-    (success-said m address c.reads_what_stands.ensures c.keeps_received.ensures c.accepts_sent.ensures g.met.A.Address.size c.args.bytes.now c.args.name old c.receive_bytes.new.core c.moves-moves.ensures.valid c.requires.free c.requires.few images p c.in-Ok.ensures.received c.close.ensures.valid c.close.ensures.stands c.requires.working)
+    answers_map (λ whole. whole ≡ receipt_text (PlacedAs p.count p.branch p.head)) (λ whole. ⊥) (SaysReceipt m address store c.args.bytes.items c.args.name images IsSuccess) (SaysReceipt m address store c.args.bytes.items c.args.name images IsRefusal)
+    (success-said m address c.reads_what_stands.ensures c.keeps_received.ensures c.accepts_sent.ensures g.met.A.Address.size c.args.bytes.items c.args.name old c.receive_bytes.new.core c.moves-moves.ensures.valid c.requires.free c.requires.few images p c.in-Ok.ensures.received c.close.ensures.valid c.close.ensures.stands c.requires.working)
     (λ whole no. absurd no) c.say_received.result (g.K.Sink.given c.args.sink.now) (g.K.Sink.given c.say_received.new.sink) c.say_received.ensures.wrote
 
 pub returns-in-Ok-clause-moments : goal.returns-in-Ok-clause-moments
 returns-in-Ok-clause-moments g c =
     let old = c.args.core in
-    on-the-way g.T.Mrdt.meaning g.A.Address.address c.reads_what_stands.ensures c.keeps_on_the_way.ensures (record { terms = old.terms; history = old.history }) c.args.bytes.now c.args.name g.D.Disk old.disk c.receive_bytes.new.core.disk c.close.result
+    on-the-way g.T.Mrdt.meaning g.A.Address.address c.reads_what_stands.ensures c.keeps_on_the_way.ensures (record { terms = old.terms; history = old.history }) c.args.bytes.items c.args.name g.D.Disk old.disk c.receive_bytes.new.core.disk c.close.result
     c.close.ensures.same c.moves-moves.ensures.valid c.in-Ok.ensures.moments
 
 pub returns-in-Ok-clause-reason : goal.returns-in-Ok-clause-reason
@@ -44,15 +44,15 @@ returns-in-Err-clause-wrote g c =
     let old = c.args.core in
     let store : Stored _ _ = record { terms = old.terms; history = old.history } in
     let images = g.D.Disk.may_leave c.close-in-Err.result in
-    answers_map (λ whole. ⊥) (λ whole. not_received_text c.in-Err.why ≡ Some whole) (SaysReceipt m address store c.args.bytes.now c.args.name images IsSuccess) (SaysReceipt m address store c.args.bytes.now c.args.name images IsRefusal)
+    answers_map (λ whole. ⊥) (λ whole. not_received_text c.in-Err.why ≡ Some whole) (SaysReceipt m address store c.args.bytes.items c.args.name images IsSuccess) (SaysReceipt m address store c.args.bytes.items c.args.name images IsRefusal)
     (λ whole no. absurd no)
-    (refusal-said m address c.reads_what_stands.ensures c.keeps_received.ensures c.accepts_sent.ensures g.met.A.Address.size c.args.bytes.now c.args.name old c.receive_bytes.new.core c.moves-moves.ensures.valid c.requires.free c.requires.few images c.in-Err.why c.in-Err.ensures.refused c.close-in-Err.ensures.valid c.close-in-Err.ensures.stands c.requires.working)
+    (refusal-said m address c.reads_what_stands.ensures c.keeps_received.ensures c.accepts_sent.ensures g.met.A.Address.size c.args.bytes.items c.args.name old c.receive_bytes.new.core c.moves-moves.ensures.valid c.requires.free c.requires.few images c.in-Err.why c.in-Err.ensures.refused c.close-in-Err.ensures.valid c.close-in-Err.ensures.stands c.requires.working)
     c.refuse_received.result (g.K.Sink.given c.args.sink.now) (g.K.Sink.given c.refuse_received.new.sink) c.refuse_received.ensures.wrote
 
 pub returns-in-Err-clause-moments : goal.returns-in-Err-clause-moments
 returns-in-Err-clause-moments g c =
     let old = c.args.core in
-    on-the-way g.T.Mrdt.meaning g.A.Address.address c.reads_what_stands.ensures c.keeps_on_the_way.ensures (record { terms = old.terms; history = old.history }) c.args.bytes.now c.args.name g.D.Disk old.disk c.receive_bytes.new.core.disk c.close-in-Err.result
+    on-the-way g.T.Mrdt.meaning g.A.Address.address c.reads_what_stands.ensures c.keeps_on_the_way.ensures (record { terms = old.terms; history = old.history }) c.args.bytes.items c.args.name g.D.Disk old.disk c.receive_bytes.new.core.disk c.close-in-Err.result
     c.close-in-Err.ensures.same c.moves-moves.ensures.valid c.in-Err.ensures.moments
 
 pub returns-in-Err-clause-reason : goal.returns-in-Err-clause-reason
