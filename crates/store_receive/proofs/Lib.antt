@@ -1,3 +1,4 @@
+pub mod Turned
 pub mod Loops
 pub mod Ends
 pub mod Places

@@ -3,6 +3,7 @@
 #![tactic(auto)]
 
 pub mod answers;
+mod left;
 mod receiving;
 
 pub use answers::{NotReceived, Placed};

@@ -9,6 +9,7 @@ ghost use Rattle.branch_bundle.specs.Held.{pair_of, plain, numbered};
 ghost use Rattle.store_receive.specs.Received.{MakesNothing, TakesAll, StopsAt, StopsIn, IsInterrupted, StandsAfterSome, IsPlaced, IsNotPlaced, StandsAfterPlace, PlacesAtTip, NotPlacedAtTip, StandsAtTip, IsReceived, IsNotReceived, StandsOnTheWay, AreReceived, AreNotReceived, StandsOnTheirWay};
 
 use crate::answers::{NotReceived, Placed};
+use crate::left::Left;
 use branch_address::Address;
 use branch_bundle::{Bundle, BundleRefused, Item, read_bundle};
 use branch_disk::Disk;
@@ -52,35 +53,38 @@ fn receive_batch<T: Mrdt, D: Disk + Drop, A: Address>(
     }
 }
 
-// Takes items, some together and then the next ones, and says how many of their commits are new.
+// Takes items, some together and then the next ones, and says how many of their commits are new. They go from memory as
+// they are taken.
 fn receive_items<T: Mrdt, D: Disk + Drop, A: Address>(
     core: &mut Core<T, D, A>,
-    items: &[Item],
+    items: Vec<Item>,
 ) -> Result<u64, NotReceived>
     requires working { core.old.failed ≡ false }
-    requires numbers { items.now ≡ numbered 1 (map pair_of items.now) }
+    requires numbers { items.items ≡ numbered 1 (map pair_of items.items) }
     ensures taken { IfOk result (TakesAll (fix T.meaning core.old.terms A.address)
-        (map pair_of items.now) core.old core.new) }
+        (map pair_of items.items) core.old core.new) }
     ensures refused { IfErr result (λ e. StopsAt (fix T.meaning core.old.terms A.address)
-        (map pair_of items.now) core.old core.new e
-        ⊎ IsInterrupted (fix T.meaning core.old.terms A.address) (map pair_of items.now) core.old
+        (map pair_of items.items) core.old core.new e
+        ⊎ IsInterrupted (fix T.meaning core.old.terms A.address) (map pair_of items.items) core.old
         core.new e) }
     ensures moments { LeavesOnly D.moment D.left_since core.old.disk core.new.disk
         (StandsAfterSome (fix T.meaning core.old.terms A.address) core.old.history
-        (map pair_of items.now)) }
+        (map pair_of items.items)) }
     ensures cause { HasCauseOf NotReceived.DiskFault (D.faults core.old.disk)
         (D.faults core.new.disk) result }
 {
     let _moves = core.moves();
     let mut count: u64 = 0;
-    let mut start: usize = 0;
-    while start < items.len() {
-        let end = items.len().min(start + TOGETHER);
-        match receive_batch(core, &items[start..end]) {
+    let mut left = Left::new(items);
+    while left.len() > 0 {
+        let size = left.len().min(TOGETHER);
+        let Ok(batch) = left.take(size) else {
+            return Err(NotReceived::Memory);
+        };
+        match receive_batch(core, &batch) {
             Ok(new) => count += new,
             Err(refused) => return Err(refused),
         }
-        start = end;
         let _moves = core.moves();
     }
     Ok(count)
@@ -147,26 +151,27 @@ fn place_at_tip<T: Mrdt, D: Disk + Drop, A: Address>(
 // Takes the items of a bundle one after the other, and places a branch of a name at its tip.
 fn receive_bundle<T: Mrdt, D: Disk + Drop, A: Address>(
     core: &mut Core<T, D, A>,
-    bundle: &Bundle,
+    bundle: Bundle,
     name: Name,
 ) -> Result<Placed, NotReceived>
     requires working { core.old.failed ≡ false }
-    requires numbers { bundle.now.items ≡ numbered 1 (plain bundle.now).items }
+    requires numbers { bundle.items ≡ numbered 1 (plain bundle).items }
     ensures received { IfOk result (λ placed. IsReceived (fix T.meaning core.old.terms A.address)
-        (plain bundle.now) name core.old core.new
+        (plain bundle) name core.old core.new
         (PlacedAs placed.count placed.branch placed.head)) }
     ensures refused { IfErr result (IsNotReceived (fix T.meaning core.old.terms A.address)
-        (plain bundle.now) name core.old core.new) }
+        (plain bundle) name core.old core.new) }
     ensures moments { LeavesOnly D.moment D.left_since core.old.disk core.new.disk
         (StandsOnTheWay (fix T.meaning core.old.terms A.address) core.old.history
-        (plain bundle.now) name) }
+        (plain bundle) name) }
     ensures cause { HasCauseOf NotReceived.DiskFault (D.faults core.old.disk)
         (D.faults core.new.disk) result }
 {
     // It is a valid history: its count tells the proof so.
     let _moves = core.moves();
-    match receive_items(core, bundle.items.as_slice()) {
-        Ok(count) => place_at_tip(core, &bundle.tip, name, count),
+    let Bundle { tip, items } = bundle;
+    match receive_items(core, items.into_vec()) {
+        Ok(count) => place_at_tip(core, &tip, name, count),
         Err(refused) => Err(refused),
     }
 }
@@ -179,7 +184,7 @@ fn receive_bundle<T: Mrdt, D: Disk + Drop, A: Address>(
 /// At every moment a crash leaves the history with the moves of a first part of the items, or of all and of the branch;
 /// all of them are valid.
 ///
-/// The bytes go from memory once they are read.
+/// The bytes go from memory once they are read, and the items as they are received.
 pub fn receive_bytes<T: Mrdt, D: Disk + Drop, A: Address>(
     alloc: Global,
     core: &mut Core<T, D, A>,
@@ -201,7 +206,7 @@ pub fn receive_bytes<T: Mrdt, D: Disk + Drop, A: Address>(
     let read = read_bundle(alloc, &bytes);
     drop(bytes);
     match read {
-        Ok(bundle) => receive_bundle(core, &bundle, name),
+        Ok(bundle) => receive_bundle(core, bundle, name),
         Err(BundleRefused::BadBundle { .. }) => Err(NotReceived::NoBundle),
         Err(BundleRefused::Memory) => Err(NotReceived::Memory),
     }
