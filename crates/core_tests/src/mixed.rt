@@ -15,9 +15,9 @@ use store_core::{Core, Kind, LandRefused, Landed, PairStep, Prepared};
 
 type Store = Core<Sum, MemoryDisk, Sha256Address>;
 
-// Terms for 5 commits, with commit 0, and 10 moves.
+// Terms for 5 commits, with commit 0, and 12 moves.
 fn small(rt: &impl Abort) -> Terms {
-    let limits = Limits::new(100, 5, 10, 100, 10).expect(rt, "limits");
+    let limits = Limits::new(100, 5, 10, 100, 12).expect(rt, "limits");
     Terms::new(limits, 0, 0).expect(rt, "terms")
 }
 
@@ -28,6 +28,15 @@ fn land_addition(rt: &impl Abort, core: &mut Store, letter: u8)
 {
     let job = addition(rt, core, letter, 5);
     assert!(rt; core.land(job).is_ok());
+}
+
+// Drops a branch at what it has now.
+fn drop_branch(rt: &impl Abort, core: &mut Store, letter: u8)
+    ensures history { IsPrefix core.old.history core.new.history }
+    ensures terms { core.new.terms ≡ core.old.terms }
+{
+    let seen = core.look(&named(rt, letter)).expect(rt, "a branch");
+    assert!(rt; core.drop_branch(&seen).is_ok());
 }
 
 // A merge of what `q` has now into a branch, or its move up to that.
@@ -43,60 +52,63 @@ fn merge(rt: &impl Abort, core: &Store, letter: u8) -> Prepared<Sum>
     }
 }
 
-// Two additions to what `p` has, prepared before `q` and `r` had theirs; then a merge of `q` into `r`, an addition to what
-// `t` has, and moves of `s` and `t` up to `q`.
+// Two additions to what `p` has, and one to what `u` has, prepared before `q` and `r` had theirs and `u` was dropped; then
+// a merge of `q` into `r`, an addition to what `t` has, and moves of `s` and `t` up to `q`.
 fn unlike_jobs(rt: &impl Abort, alloc: Global, core: &mut Store) -> Result<Vec<Prepared<Sum>>, Fail>
-    ensures many { IfOk result (λ jobs. length jobs.items ≡ 6) }
+    ensures many { IfOk result (λ jobs. length jobs.items ≡ 7) }
     ensures history { IfOk result (λ jobs.
         All (λ job. IsPrefix job.seen.history core.new.history) jobs.items) }
     ensures terms { IfOk result (λ jobs. All (λ job. job.seen.terms ≡ core.new.terms) jobs.items) }
 {
     let first = addition(rt, core, b'p', 5);
     let second = addition(rt, core, b'p', 7);
+    let gone = addition(rt, core, b'u', 5);
     land_addition(rt, core, b'q');
     land_addition(rt, core, b'r');
+    drop_branch(rt, core, b'u');
     let merged = merge(rt, core, b'r');
     let beyond = addition(rt, core, b't', 5);
     let up = merge(rt, core, b's');
     let last = merge(rt, core, b't');
-    Ok(vec![in alloc; first, second, merged, beyond, up, last]?)
+    Ok(vec![in alloc; first, second, gone, merged, beyond, up, last]?)
 }
 
-// Whether six jobs were answered so.
+// Whether seven jobs were answered so.
 fn are_unlike(answers: &Answers) -> bool {
     matches!(
         answers.as_slice(),
         [
             Ok(Landed {
-                moves: 8,
+                moves: 10,
                 kind: Kind::Operation { commit: 3, .. },
             }),
             Err(LandRefused::Stale { newest: 3 }),
+            Err(LandRefused::Dropped { branch: 6 }),
             Ok(Landed {
-                moves: 9,
+                moves: 11,
                 kind: Kind::Merged { commit: 4 },
             }),
             Err(LandRefused::FullCommits { count: 5 }),
             Ok(Landed {
-                moves: 10,
+                moves: 12,
                 kind: Kind::Forward { commit: 1 },
             }),
-            Err(LandRefused::FullMoves { count: 10 }),
+            Err(LandRefused::FullMoves { count: 12 }),
         ]
     )
 }
 
-// The second addition finds the first one's commit, the third operation finds no room for its commit, and the last move
-// up none for a move.
+// The second addition finds the first one's commit, that to a dropped branch none to land on, the last operation no room
+// for its commit, and the last move up none for a move.
 #[test]
 fn a_mixed_batch(rt: HostRuntime) -> Result<(), Fail> {
     let alloc = rt.alloc();
     let mut core = fresh_under::<Sha256Address>(&rt, alloc, Vec::new(alloc), small(&rt));
-    fork_all(&rt, &mut core, b"pqrst");
+    fork_all(&rt, &mut core, b"pqrstu");
     let jobs = unlike_jobs(&rt, alloc, &mut core)?;
     let answers = core.land_all(jobs)?;
     assert!(rt; are_unlike(&answers));
-    assert_eq!(rt; core.moves(), 10);
+    assert_eq!(rt; core.moves(), 12);
     assert_eq!(rt; core.commits(), 5);
     Ok(())
 }
