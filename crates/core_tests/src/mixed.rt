@@ -15,6 +15,8 @@ use store_core::{Core, Kind, LandRefused, Landed, PairStep, Prepared};
 
 type Store = Core<Sum, MemoryDisk, Sha256Address>;
 
+type Answer = Result<Landed<()>, LandRefused>;
+
 // Terms for 5 commits, with commit 0, and 12 moves.
 fn small(rt: &impl Abort) -> Terms {
     let limits = Limits::new(100, 5, 10, 100, 12).expect(rt, "limits");
@@ -73,10 +75,10 @@ fn unlike_jobs(rt: &impl Abort, alloc: Global, core: &mut Store) -> Result<Vec<P
     Ok(vec![in alloc; first, second, gone, merged, beyond, up, last]?)
 }
 
-// Whether seven jobs were answered so.
-fn are_unlike(answers: &Answers) -> bool {
+// Whether the operation landed, and the two jobs behind it found no head to land on.
+fn lands_before_two(answers: &[Answer]) -> bool {
     matches!(
-        answers.as_slice(),
+        answers,
         [
             Ok(Landed {
                 moves: 10,
@@ -84,11 +86,29 @@ fn are_unlike(answers: &Answers) -> bool {
             }),
             Err(LandRefused::Stale { newest: 3 }),
             Err(LandRefused::Dropped { branch: 6 }),
+        ]
+    )
+}
+
+// Whether the merge landed, and the operation behind it found no room for its commit.
+fn merges_before_one(answers: &[Answer]) -> bool {
+    matches!(
+        answers,
+        [
             Ok(Landed {
                 moves: 11,
                 kind: Kind::Merged { commit: 4 },
             }),
             Err(LandRefused::FullCommits { count: 5 }),
+        ]
+    )
+}
+
+// Whether a branch moved up, and the one behind it found no room for its move.
+fn moves_up_before_one(answers: &[Answer]) -> bool {
+    matches!(
+        answers,
+        [
             Ok(Landed {
                 moves: 12,
                 kind: Kind::Forward { commit: 1 },
@@ -107,7 +127,11 @@ fn a_mixed_batch(rt: HostRuntime) -> Result<(), Fail> {
     fork_all(&rt, &mut core, b"pqrstu");
     let jobs = unlike_jobs(&rt, alloc, &mut core)?;
     let answers = core.land_all(jobs)?;
-    assert!(rt; are_unlike(&answers));
+    let answers = answers.as_slice();
+    assert!(rt; answers.len() == 7);
+    assert!(rt; lands_before_two(&answers[..3]));
+    assert!(rt; merges_before_one(&answers[3..5]));
+    assert!(rt; moves_up_before_one(&answers[5..]));
     assert_eq!(rt; core.moves(), 12);
     assert_eq!(rt; core.commits(), 5);
     Ok(())
