@@ -5,7 +5,7 @@ use Rattle.std.specs.List.{AllByRecursion, flat_map}
 use Rattle.std.proofs.lemmas.Bool.{cases_Bool}
 use Rattle.mrdt_model.specs.Executions.{Event}
 use Rattle.mrdt_model.specs.Laws.{KeepsLaws}
-use Rattle.branch_wire.specs.Objects.{value_object, commit_object}
+use Rattle.branch_wire.specs.Objects.{commit_object}
 use Rattle.branch_wire.specs.StoredObjects.{same, collision, fresh}
 use Rattle.branch_graph.specs.Graph.{parents_of, IsRanked}
 use Rattle.branch_history.specs.declared.moves.Move.{Move}
@@ -19,12 +19,12 @@ use Rattle.branch_history.proofs.Valid.{store_of-more, IsAccepted, IsAccepted-fr
 use Rattle.branch_history.proofs.Kept.{IsKept}
 use Rattle.branch_history.proofs.Histories.{valid-kept, received-stand}
 use Rattle.branch_machine.specs.Fixed.{Fixed}
-use Rattle.branch_machine.specs.Objects.{Pair, both, commit_text, value_text, address_at, action_of, fields_of, value_at, pair_at, pairs_of, store_after, objects_of, new_objects}
+use Rattle.branch_machine.specs.Objects.{Pair, both, kept_value, kept_address, commit_text, value_text, address_at, action_of, fields_of, value_at, pair_at, pairs_of, store_after, objects_of, new_objects}
 use Rattle.branch_machine.specs.Machine.{collision_refusal, commit_with, commit_at}
 use Rattle.branch_machine.specs.Laws.{IsNew}
 use Rattle.branch_machine.specs.Validity.{IsFullMove, IsFullyValid}
 use Rattle.branch_machine.proofs.Valid.{by_moves, full_move-is, is-full_move, valid-before, valid-more, valid-none}
-use Rattle.branch_machine.proofs.Pairs.{length-pairs_of, pairs_of-one, new-pairs}
+use Rattle.branch_machine.proofs.Pairs.{length-pairs_of, pairs_of-one, new-pair}
 use Rattle.branch_machine.proofs.Distinct.{MakesOne, one-or-none, made-objects, no-objects, no-collision}
 use Rattle.branch_compact.specs.Compact.{new_number, commits_made, at_places, stays, renumbered, renumbered_commit, kept_commits, kept_moves}
 use Rattle.branch_compact.proofs.Numbers.{get-places, places-kept, places-gone, any-places}
@@ -32,7 +32,7 @@ use Rattle.branch_compact.proofs.Thinned.{IsDownward, AreKept, position-any, any
 use Rattle.branch_compact.proofs.Moves.{length-after, stays-kept, kept_moves-none, kept_moves-stays, kept_moves-goes}
 use Rattle.branch_compact.proofs.Steps.{kept-more, kept-gone, parents-next, IsFollowed, followed, count, visible-same, received-same}
 use Rattle.branch_compact.proofs.Whole.{StayAlike, stay-alike, follow, down-before, one-becomes}
-use Rattle.branch_compact.proofs.Stored.{AreSome, some-pairs, some-collision}
+use Rattle.branch_compact.proofs.Stored.{AreSome, some-pairs, some-both}
 
 -- the objects of one pair among those that are kept
 module _ (keep : ℕ → Bool) (pairs : List Pair) (n : ℕ) (lt : n < length pairs) (is : IsTrue (keep n)) where
@@ -64,13 +64,13 @@ module _ {S O R Q A : Type 0} (fixed : Fixed S O R Q A) where
       let d : Commit O R = renumbered_commit keep c in
       let v : List ℕ = value_at fixed (after ++ d ∷ []) (length after) in
       let w : List ℕ = value_at fixed (before ++ c ∷ []) (length before) in
-      let values : v ≡ w = ap (λ x. value_object (fixed.meaning.spelling_of x)) seen in
+      let values : v ≡ w = ap (λ x. kept_value fixed.terms.layout (fixed.meaning.spelling_of x)) seen in
       let within : AllByRecursion (λ p. p < length (pairs_of fixed before)) c.parents = subst (λ (n : ℕ). AllByRecursion (λ p. p < n) c.parents) (sym (length-pairs_of fixed before)) below in
       let addresses : map (address_at fixed.address (pairs_of fixed after)) (map (new_number keep) c.parents) ≡ map (address_at fixed.address (pairs_of fixed before)) c.parents =
       ap (λ (ps : List Pair). map (address_at fixed.address ps) (map (new_number keep) c.parents)) pairs ∙ addresses-kept fixed.address keep (pairs_of fixed before) c.parents within kept in
       ap (λ u. record { value = u; commit = commit_object (fields_of fixed (pairs_of fixed after) u d) }) values
-      ∙ ap (λ l. record { value = w; commit = commit_object (record { parents = l; branch = c.origin; clock = c.clock; value = fixed.address w; action = action_of fixed (map (new_number keep) c.parents) c.event }) }) addresses
-      ∙ ap (λ a. record { value = w; commit = commit_object (record { parents = map (address_at fixed.address (pairs_of fixed before)) c.parents; branch = c.origin; clock = c.clock; value = fixed.address w; action = a }) }) (action-kept (new_number keep) c.parents c.event)
+      ∙ ap (λ l. record { value = w; commit = commit_object (record { parents = l; branch = c.origin; clock = c.clock; value = kept_address fixed.terms.layout (fixed.address w); action = action_of fixed (map (new_number keep) c.parents) c.event }) }) addresses
+      ∙ ap (λ a. record { value = w; commit = commit_object (record { parents = map (address_at fixed.address (pairs_of fixed before)) c.parents; branch = c.origin; clock = c.clock; value = kept_address fixed.terms.layout (fixed.address w); action = a }) }) (action-kept (new_number keep) c.parents c.event)
 
   -- no commit that is kept has two objects that none has
   none-kept : (keep : ℕ → Bool) (pairs : List Pair) (p : Pair) → commit_with pairs p ≡ None → commit_with (at_places keep 0 pairs) p ≡ None
@@ -192,10 +192,10 @@ module _ {S O R Q A : Type 0} (fixed : Fixed S O R Q A) where
         -- its objects collide with none
         pub none-collides : (u : Move O R) → kept_moves keep all ≡ others ++ u ∷ [] → new_objects fixed moves m ≡ both p → collision_refusal fixed moves m ≡ None → collision_refusal fixed others u ≡ None
         none-collides u is_u objects none =
-            let new : new_objects fixed others u ≡ both p = new-pairs fixed others u t.commits t2.commits (p ∷ []) refl (ap (λ l. (at l).commits) (sym is_u)) grown_too in
+            let new : new_objects fixed others u ≡ both p = new-pair fixed others u t.commits t2.commits p refl (ap (λ l. (at l).commits) (sym is_u)) grown_too in
             no-refusal others u
             (ap (collision fixed.address (objects_of fixed others)) new
-            ∙ some-collision fixed.address p.value p.commit (objects_of fixed others) (objects_of fixed moves) (objects-some keep moves others before.pairs)
+            ∙ some-both fixed.address p.value p.commit (objects_of fixed others) (objects_of fixed moves) (objects-some keep moves others before.pairs)
             (ap (collision fixed.address (objects_of fixed moves)) (sym objects) ∙ no-collision fixed moves m none))
 
       -- a commit that is made and not kept

@@ -4,6 +4,7 @@ use Rattle.mrdt_model.specs.declared.time.Time.{Time}
 use Rattle.mrdt_model.specs.Times.{same_time}
 use Rattle.mrdt_model.specs.Executions.{Event}
 use Rattle.mrdt_model.specs.Laws.{Meaning}
+use Rattle.branch_names.specs.declared.layout.Layout.TheVariants.{Whole}
 use Rattle.branch_names.specs.Ranges.{AreInRange, AreOrigins}
 use Rattle.branch_graph.specs.Graph.{reaches}
 use Rattle.branch_history.specs.declared.moves.Move.{Move}
@@ -49,7 +50,7 @@ small_kind : 0 < 2 ^ 8
 small_kind = omega arith
 
 abbrev terms : Terms
-terms = record { limits = record { clock = 1000; commits = 1000; branches = 1000; value = 1000; moves = 1000; in_range = ample_range }; origin = 5000; kind = 0; small = small_kind; in_range = origins_range }
+terms = record { limits = record { clock = 1000; commits = 1000; branches = 1000; value = 1000; moves = 1000; in_range = ample_range }; origin = 5000; kind = 0; layout = Whole; small = small_kind; in_range = origins_range }
 
 -- the outcomes of steps, one after the other, and the history after them
 abbrev outcomes : List (Move ℕ NoReply) → List (Step ℕ NoReply) → List (Outcome ℕ NoReply)

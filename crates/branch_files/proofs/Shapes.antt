@@ -2,10 +2,12 @@
 use Rattle.std.proofs.Common.{◌≡◌, ◌⊎◌, inl, inr, ℕ, ◌+◌, ◌<◌, ◌≤◌, ◌^◌, Option, Some, None, map, List, [], ◌∷◌, ◌++◌, length, refl, sym, ◌∙◌, ap, subst, arith, append-nil, length-append, ⊎_elim}
 use Rattle.mrdt_model.specs.Laws.{KeepsLaws, Lawful}
 use Rattle.branch_disk.specs.Disk.{Files}
+use Rattle.branch_names.specs.declared.layout.Layout.{Layout}
+use Rattle.branch_names.specs.declared.layout.Layout.TheVariants.{Whole, Changes}
 use Rattle.branch_names.specs.Heads.{head_of}
 use Rattle.branch_wire.specs.Fields.{number, short_number, field, counted}
-use Rattle.branch_wire.specs.Reading.{HasLength64}
-use Rattle.branch_wire.specs.Objects.{CommitFields, action_field, commit_body, commit_object, value_object}
+use Rattle.branch_wire.specs.Reading.{HasLength, HasLength64}
+use Rattle.branch_wire.specs.Objects.{CommitFields, action_field, value_field, commit_kind, commit_body, commit_object, value_object}
 use Rattle.branch_wire.specs.declared.action.Action.{Action}
 use Rattle.branch_wire.specs.declared.action.Action.TheVariants as wire
 use Rattle.branch_wire.proofs.Numbers.{same_parts, length-number, length-field}
@@ -19,18 +21,19 @@ use Rattle.branch_history.proofs.Grown.{clock_of-new, origin_of-new}
 use Rattle.branch_history.proofs.Histories.{visible-lawful, received-stand}
 use Rattle.branch_machine.specs.Fixed.{Form, FixedIn}
 use Rattle.branch_machine.specs.Machine.{pair_next}
-use Rattle.branch_machine.specs.Objects.{Pair, both, store_after, address_at, silent_action, action_of, fields_of, pairs_of, new_objects, region}
+use Rattle.branch_machine.specs.Objects.{Pair, both, kept_value, kept_address, store_after, address_at, silent_action, action_of, fields_of, pairs_of, new_objects, region}
 use Rattle.branch_machine.specs.Laws.{HasSize}
 use Rattle.branch_machine.proofs.Distinct.{IsOwn, IsForeign, MakesOne, operation-makes, merge-makes, join-makes, made-objects, received-foreign, received-nine, all-sized, few-sized, addresses-same, valid-sound}
 use Rattle.branch_machine.proofs.Valid.{valid-first}
 use Rattle.branch_machine.proofs.Regions.{made, region-one}
 use Rattle.heads_journal.specs.declared.record.Record.{Record}
-use Rattle.branch_objects_codec.specs.Grammar.{IsCommit}
+use Rattle.branch_objects_codec.specs.Grammar.{IsCommit, IsValueAddress}
 use Rattle.branch_wire.specs.Objects.{HasParents}
 use Rattle.branch_objects_codec.proofs.Body.{same_commit}
+use Rattle.branch_objects_codec.proofs.OneWay.{not_value}
 use Rattle.branch_files.specs.Records.{record_of, last_in}
 use Rattle.branch_files.specs.Stands.{Spans}
-use Rattle.branch_files.specs.Next.{MakesCommit, Does, AreFewIn, IsValuePart, HasShape, bytes_behind}
+use Rattle.branch_files.specs.Next.{MakesCommit, Does, AreFewIn, IsLaidOut, IsValuePart, HasShape, bytes_behind}
 use Rattle.branch_files.proofs.Longer.{known-last}
 use Rattle.branch_files.proofs.Next.{accepted, unseen, kept, next, end-more, end-there, bytes-are}
 
@@ -61,7 +64,16 @@ same-object : (c d : CommitFields) → IsCommit c → IsCommit d → commit_obje
 same-object c d p q is =
     let inner : field (commit_body c) ≡ field (commit_body d) = cc is in
     let bodies = (same_parts (number (length (commit_body c))) (commit_body c) (number (length (commit_body d))) (commit_body d) (length-number (length (commit_body c)) ∙ sym (length-number (length (commit_body d)))) inner).1 in
-    (same_commit c d [] [] p q (append-nil (commit_body c) ∙ bodies ∙ sym (append-nil (commit_body d)))).0
+    let kinds : commit_kind c.value ≡ commit_kind d.value = cc is in
+    (same_commit c d [] [] p q kinds (append-nil (commit_body c) ∙ bodies ∙ sym (append-nil (commit_body d)))).0
+
+laid-out : (layout : Layout) (a : List ℕ) → IsLaidOut layout (kept_address layout a)
+laid-out Whole a = refl
+laid-out Changes a = refl
+
+kept-sized : (layout : Layout) (a : List ℕ) → HasLength 32 a → IsValueAddress (kept_address layout a)
+kept-sized Whole a size = size
+kept-sized Changes a size = tt
 
 module _ {S O R Q A : Type 0} {form : Form} (fixed : FixedIn form S O R Q A) (laws : KeepsLaws fixed.meaning) (size : HasSize fixed.address) (files : Files) (short : HasLength64 files.objects) (moves : List (Move O R)) where
   abbrev s : Store O R
@@ -87,13 +99,20 @@ module _ {S O R Q A : Type 0} {form : Form} (fixed : FixedIn form S O R Q A) (la
         (λ is. omega (arith, region-short, ap length is, length-append pair.value pair.commit, length-field (commit_body c)))
         (region-one fixed laws size moves m spans.valid one)
 
-    value-short : region fixed moves m ≡ pair.value ++ pair.commit → HasLength64 spelling
-    value-short is = omega (arith, region-short, ap length is, length-append pair.value pair.commit, length-field spelling)
-
     lawful : Lawful fixed.meaning (visible (s.commits ++ one.made ∷ []) (length s.commits))
     lawful =
         subst (λ (cs : List (Commit O R)). Lawful fixed.meaning (visible cs (length s.commits))) one.commits
         (visible-lawful fixed.meaning fixed.terms (store_after fixed (moves ++ m ∷ [])) (next fixed laws size files short moves m spans) (length s.commits))
+
+    kept-part : (layout : Layout) → fixed.terms.layout ≡ layout → region fixed moves m ≡ kept_value layout spelling ++ pair.commit → IsValuePart fixed (kept_value layout spelling)
+    kept-part Whole of is =
+        let few : HasLength64 spelling = omega (arith, region-short, ap length is, length-append (value_object spelling) pair.commit, length-field spelling) in
+        inr (of, spelling, few, laws.spelling_inside (visible (s.commits ++ one.made ∷ []) (length s.commits)) lawful few, refl)
+    kept-part Changes of is = inl refl
+
+    -- what stands before the commit's object
+    value-part : (first : List ℕ) × IsValuePart fixed first × (region fixed moves m ≡ first ++ pair.commit)
+    value-part = ⊎_elim (λ is. ([], inl refl, is)) (λ is. (pair.value, kept-part fixed.terms.layout refl is, is)) (region-one fixed laws size moves m spans.valid one)
 
     clock-low : one.made.clock ≤ fixed.terms.limits.clock
     clock-low =
@@ -114,14 +133,14 @@ module _ {S O R Q A : Type 0} {form : Form} (fixed : FixedIn form S O R Q A) (la
       addresses = all-sized fixed.address size (pairs_of fixed s.commits) one.made.parents;
       branch = origin-small;
       clock = let low = clock-low in let most = fixed.terms.limits.in_range.clock_high in omega arith;
-      value = size pair.value;
+      value = kept-sized fixed.terms.layout (fixed.address pair.value) (size pair.value);
       short = body-short;
     }
 
     -- the spellings of an operation and its reply are not too long
     spelled-short : (o a : List ℕ) → c.action ≡ wire.Operation o a → HasLength64 o × HasLength64 a
     spelled-short o a is =
-        let front : List ℕ = counted (λ address. address) c.parents ++ short_number c.branch ++ number c.clock ++ c.value in
+        let front : List ℕ = counted (λ address. address) c.parents ++ short_number c.branch ++ number c.clock ++ value_field c.value in
         let parts : commit_body c ≡ front ++ 1 ∷ (field o ++ field a) = ap (λ (x : Action). front ++ action_field x) is in
         let whole : length (commit_body c) ≡ length front + (1 + ((8 + length o) + (8 + length a))) =
         omega (arith, ap length parts, length-append front (1 ∷ (field o ++ field a)), length-append (field o) (field a), length-field o, length-field a) in
@@ -130,10 +149,8 @@ module _ {S O R Q A : Type 0} {form : Form} (fixed : FixedIn form S O R Q A) (la
 
     has-shape : (r : Record) → HasParents c.action (length one.made.parents) → Does fixed r c.action → AreFewIn form.version c.parents → HasShape fixed r (region fixed moves m)
     has-shape r count does fewer =
-        ⊎_elim
-        (λ is. ([], pair.commit, inl refl, (c, is-commit count, does, fewer, refl), is))
-        (λ is. (pair.value, pair.commit, inr (spelling, value-short is, laws.spelling_inside (visible (s.commits ++ one.made ∷ []) (length s.commits)) lawful (value-short is), refl), (c, is-commit count, does, fewer, refl), is))
-        (region-one fixed laws size moves m spans.valid one)
+        let first = value-part in
+        (first.0, pair.commit, first.1, (c, is-commit count, does, fewer, laid-out fixed.terms.layout (fixed.address pair.value), refl), first.2)
 
   abbrev operation-one : (r : ℕ) (op : O) (reply : R) → Spans fixed (moves ++ move.Operation r op reply ∷ []) files → MakesOne fixed (store_after fixed moves) (store_after fixed (moves ++ move.Operation r op reply ∷ []))
   operation-one r op reply spans =
@@ -264,55 +281,45 @@ module _ {S O R Q A : Type 0} {form : Form} (fixed : FixedIn form S O R Q A) (la
   pub shape-behind : (m : Move O R) → Spans fixed (moves ++ m ∷ []) files → MakesCommit (record_of fixed moves m) → HasShape fixed (record_of fixed moves m) (bytes_behind fixed moves files.objects (record_of fixed moves m))
   shape-behind m spans makes = subst (HasShape fixed (record_of fixed moves m)) (sym (bytes-are fixed laws size files short moves m spans)) (shape-region m spans makes)
 
-  -- the commits of equal regions
-  same-commits : (v w : List ℕ) (p q a b : List ℕ) → (a ≡ 2 ∷ p) ⊎ (a ≡ value_object v ++ 2 ∷ p) → (b ≡ 2 ∷ q) ⊎ (b ≡ value_object w ++ 2 ∷ q) → (a ≡ value_object v ++ 2 ∷ p → HasLength64 v) → (b ≡ value_object w ++ 2 ∷ q → HasLength64 w) → a ≡ b → 2 ∷ p ≡ 2 ∷ q
-  same-commits v w p q a b (inl x) (inl y) f g is = sym x ∙ is ∙ y
-  same-commits v w p q a b (inl x) (inr y) f g is = absurd (let e : 2 ∷ p ≡ 1 ∷ (field w ++ 2 ∷ q) = sym x ∙ is ∙ y in cc e)
-  same-commits v w p q a b (inr x) (inl y) f g is = absurd (let e : 1 ∷ (field v ++ 2 ∷ p) ≡ 2 ∷ q = sym x ∙ is ∙ y in cc e)
-  same-commits v w p q a b (inr x) (inr y) f g is =
-      let e : 1 ∷ (field v ++ 2 ∷ p) ≡ 1 ∷ (field w ++ 2 ∷ q) = sym x ∙ is ∙ y in
-      let inner : field v ++ 2 ∷ p ≡ field w ++ 2 ∷ q = cc e in
-      (fields.one v w (2 ∷ p) (2 ∷ q) (f x) (g y) inner).1
+  -- the commits of equal texts
+  same-commits : (first second p q : List ℕ) (k l : ℕ) → IsValuePart fixed first → IsValuePart fixed second → (1 ≡ k → ⊥) → (1 ≡ l → ⊥) → first ++ k ∷ p ≡ second ++ l ∷ q → k ∷ p ≡ l ∷ q
+  same-commits first second p q k l (inl x) (inl y) f g is = ap (λ (t : List ℕ). t ++ k ∷ p) (sym x) ∙ is ∙ ap (λ (t : List ℕ). t ++ l ∷ q) y
+  same-commits first second p q k l (inl x) (inr (whole, w, short, inside, y)) f g is =
+      let e : k ∷ p ≡ 1 ∷ (field w ++ l ∷ q) = ap (λ (t : List ℕ). t ++ k ∷ p) (sym x) ∙ is ∙ ap (λ (t : List ℕ). t ++ l ∷ q) y in
+      let clash : k ≡ 1 = cc e in
+      absurd (f (sym clash))
+  same-commits first second p q k l (inr (whole, v, short, inside, x)) (inl y) f g is =
+      let e : 1 ∷ (field v ++ k ∷ p) ≡ l ∷ q = ap (λ (t : List ℕ). t ++ k ∷ p) (sym x) ∙ is ∙ ap (λ (t : List ℕ). t ++ l ∷ q) y in
+      let clash : 1 ≡ l = cc e in
+      absurd (g clash)
+  same-commits first second p q k l (inr (whole, v, short, inside, x)) (inr (also, w, small, within, y)) f g is =
+      let e : 1 ∷ (field v ++ k ∷ p) ≡ 1 ∷ (field w ++ l ∷ q) = ap (λ (t : List ℕ). t ++ k ∷ p) (sym x) ∙ is ∙ ap (λ (t : List ℕ). t ++ l ∷ q) y in
+      let inner : field v ++ k ∷ p ≡ field w ++ l ∷ q = cc e in
+      (fields.one v w (k ∷ p) (l ∷ q) short small inner).1
+
+  -- of two moves that make commits, and whose regions are equal, and of a move and a text
+  same-made : (m : Move O R) (spans : Spans fixed (moves ++ m ∷ []) files) (one : MakesOne fixed (store_after fixed moves) (store_after fixed (moves ++ m ∷ []))) (first : List ℕ) (d : CommitFields) → IsValuePart fixed first → region fixed moves m ≡ first ++ commit_object d → commit_object (c m spans one) ≡ commit_object d
+  same-made m spans one first d part is =
+      let own = value-part m spans one in
+      same-commits own.0 first (field (commit_body (c m spans one))) (field (commit_body d)) (commit_kind (c m spans one).value) (commit_kind d.value) own.1 part (not_value (c m spans one).value) (not_value d.value) (sym own.2 ∙ is)
 
   -- the commit's object behind a history, whatever stands before it
-  operation-told : (r : ℕ) (op : O) (reply : R) → Spans fixed (moves ++ move.Operation r op reply ∷ []) files → (v : List ℕ) (d : CommitFields) → IsCommit d → (bytes : List ℕ) → (bytes ≡ commit_object d) ⊎ (bytes ≡ value_object v ++ commit_object d) → HasLength64 v
-      → region fixed moves (move.Operation r op reply) ≡ bytes → d.action ≡ wire.Operation (fixed.meaning.op_spelling op) (fixed.meaning.reply_spelling reply)
-  operation-told r op reply spans v d commit bytes parts few is =
-      let m : Move O R = move.Operation r op reply in
-      let one = operation-one r op reply spans in
-      let objects : commit_object (c m spans one) ≡ commit_object d =
-      same-commits (spelling m spans one) v (field (commit_body (c m spans one))) (field (commit_body d)) (region fixed moves m) bytes
-      (region-one fixed laws size moves m spans.valid one) parts (value-short m spans one) (λ _. few) is in
-      sym (ap (λ (f : CommitFields). f.action) (same-object (c m spans one) d (is-commit m spans one refl) commit objects))
-
   pub operation-tells : (r : ℕ) (op : O) (reply : R) → Spans fixed (moves ++ move.Operation r op reply ∷ []) files → (first : List ℕ) (d : CommitFields) → IsValuePart fixed first → IsCommit d
       → bytes_behind fixed moves files.objects (record_of fixed moves (move.Operation r op reply)) ≡ first ++ commit_object d → d.action ≡ wire.Operation (fixed.meaning.op_spelling op) (fixed.meaning.reply_spelling reply)
-  operation-tells r op reply spans first d (inl none) commit is =
-      let region_is = sym (bytes-are fixed laws size files short moves (move.Operation r op reply) spans) ∙ is in
-      operation-told r op reply spans [] d commit (first ++ commit_object d) (inl (ap (λ (l : List ℕ). l ++ commit_object d) none)) (omega arith) region_is
-  operation-tells r op reply spans first d (inr (v, few, inside, same)) commit is =
-      let region_is = sym (bytes-are fixed laws size files short moves (move.Operation r op reply) spans) ∙ is in
-      operation-told r op reply spans v d commit (first ++ commit_object d) (inr (ap (λ (l : List ℕ). l ++ commit_object d) same)) few region_is
+  operation-tells r op reply spans first d part commit is =
+      let m : Move O R = move.Operation r op reply in
+      let one = operation-one r op reply spans in
+      let objects = same-made m spans one first d part (sym (bytes-are fixed laws size files short moves m spans) ∙ is) in
+      sym (ap (λ (f : CommitFields). f.action) (same-object (c m spans one) d (is-commit m spans one refl) commit objects))
 
   -- and of what was received
-  received-told : (parents : List ℕ) (origin clock : ℕ) (act : Option (O × R)) (spans : Spans fixed (moves ++ move.Received parents origin clock act ∷ []) files) → (v : List ℕ) (d : CommitFields) → IsCommit d → (bytes : List ℕ) → (bytes ≡ commit_object d) ⊎ (bytes ≡ value_object v ++ commit_object d) → HasLength64 v
-      → region fixed moves (move.Received parents origin clock act) ≡ bytes → c (move.Received parents origin clock act) spans (received-one parents origin clock act spans) ≡ d
-  received-told parents origin clock act spans v d commit bytes parts few is =
-      let m : Move O R = move.Received parents origin clock act in
-      let one = received-one parents origin clock act spans in
-      let objects : commit_object (c m spans one) ≡ commit_object d =
-      same-commits (spelling m spans one) v (field (commit_body (c m spans one))) (field (commit_body d)) (region fixed moves m) bytes
-      (region-one fixed laws size moves m spans.valid one) parts (value-short m spans one) (λ _. few) is in
-      same-object (c m spans one) d (is-commit m spans one (received-count parents origin clock act spans)) commit objects
-
   received-object : (parents : List ℕ) (origin clock : ℕ) (act : Option (O × R)) (spans : Spans fixed (moves ++ move.Received parents origin clock act ∷ []) files) → (first : List ℕ) (d : CommitFields) → IsValuePart fixed first → IsCommit d
       → bytes_behind fixed moves files.objects (record_of fixed moves (move.Received parents origin clock act)) ≡ first ++ commit_object d → c (move.Received parents origin clock act) spans (received-one parents origin clock act spans) ≡ d
-  received-object parents origin clock act spans first d (inl none) commit is =
-      let region_is = sym (bytes-are fixed laws size files short moves (move.Received parents origin clock act) spans) ∙ is in
-      received-told parents origin clock act spans [] d commit (first ++ commit_object d) (inl (ap (λ (l : List ℕ). l ++ commit_object d) none)) (omega arith) region_is
-  received-object parents origin clock act spans first d (inr (v, few, inside, same)) commit is =
-      let region_is = sym (bytes-are fixed laws size files short moves (move.Received parents origin clock act) spans) ∙ is in
-      received-told parents origin clock act spans v d commit (first ++ commit_object d) (inr (ap (λ (l : List ℕ). l ++ commit_object d) same)) few region_is
+  received-object parents origin clock act spans first d part commit is =
+      let m : Move O R = move.Received parents origin clock act in
+      let one = received-one parents origin clock act spans in
+      let objects = same-made m spans one first d part (sym (bytes-are fixed laws size files short moves m spans) ∙ is) in
+      same-object (c m spans one) d (is-commit m spans one (received-count parents origin clock act spans)) commit objects
 
   pub received-tells : (parents : List ℕ) (origin clock : ℕ) (act : Option (O × R)) → Spans fixed (moves ++ move.Received parents origin clock act ∷ []) files → (first : List ℕ) (d : CommitFields) → IsValuePart fixed first → IsCommit d
       → bytes_behind fixed moves files.objects (record_of fixed moves (move.Received parents origin clock act)) ≡ first ++ commit_object d
@@ -326,7 +333,7 @@ module _ {S O R Q A : Type 0} {form : Form} (fixed : FixedIn form S O R Q A) (la
       → bytes_behind fixed moves files.objects (record_of fixed moves (move.Received parents origin clock act)) ≡ first ++ commit_object d
       → let m : Move O R = move.Received parents origin clock act in
       let p = pair_next fixed moves (received_commit s.commits parents origin clock act) in
-      (d.value ≡ fixed.address p.value) × (commit_object d ≡ p.commit) × (new_objects fixed moves m ≡ both p)
+      (d.value ≡ kept_address fixed.terms.layout (fixed.address p.value)) × (commit_object d ≡ p.commit) × (new_objects fixed moves m ≡ both p)
       × ((region fixed moves m ≡ p.commit) ⊎ (region fixed moves m ≡ p.value ++ p.commit))
   received-objects parents origin clock act spans first d part commit is =
       let m : Move O R = move.Received parents origin clock act in
@@ -345,9 +352,8 @@ module _ {S O R Q A : Type 0} {form : Form} (fixed : FixedIn form S O R Q A) (la
       let b = accepted fixed laws size files short moves n q in
       let first = operation-one r op reply p in
       let second = operation-one r other more q in
-      let objects : commit_object (c m p first) ≡ commit_object (c n q second) =
-      same-commits (spelling m p first) (spelling n q second) (field (commit_body (c m p first))) (field (commit_body (c n q second))) (region fixed moves m) (region fixed moves n)
-      (region-one fixed laws size moves m p.valid first) (region-one fixed laws size moves n q.valid second) (value-short m p first) (value-short n q second) (region-same m n p q same) in
+      let its = value-part n q second in
+      let objects = same-made m p first its.0 (c n q second) its.1 (region-same m n p q same ∙ its.2) in
       let fields_same = same-object (c m p first) (c n q second) (is-commit m p first refl) (is-commit n q second refl) objects in
       let actions : wire.Operation (fixed.meaning.op_spelling op) (fixed.meaning.reply_spelling reply) ≡ wire.Operation (fixed.meaning.op_spelling other) (fixed.meaning.reply_spelling more) = ap (λ (f : CommitFields). f.action) fields_same in
       let texts : fixed.meaning.op_spelling op ≡ fixed.meaning.op_spelling other = cc actions in
@@ -364,9 +370,8 @@ module _ {S O R Q A : Type 0} {form : Form} (fixed : FixedIn form S O R Q A) (la
       let n : Move O R = move.Received parents' origin' clock' act' in
       let first = received-one parents origin clock act p in
       let second = received-one parents' origin' clock' act' q in
-      let objects : commit_object (c m p first) ≡ commit_object (c n q second) =
-      same-commits (spelling m p first) (spelling n q second) (field (commit_body (c m p first))) (field (commit_body (c n q second))) (region fixed moves m) (region fixed moves n)
-      (region-one fixed laws size moves m p.valid first) (region-one fixed laws size moves n q.valid second) (value-short m p first) (value-short n q second) (region-same m n p q same) in
+      let its = value-part n q second in
+      let objects = same-made m p first its.0 (c n q second) its.1 (region-same m n p q same ∙ its.2) in
       same-object (c m p first) (c n q second) (is-commit m p first (received-count parents origin clock act p)) (is-commit n q second (received-count parents' origin' clock' act' q)) objects
 
   acts-same : (parents parents' : List ℕ) (origin origin' clock clock' : ℕ) (act act' : Option (O × R)) (p : Spans fixed (moves ++ move.Received parents origin clock act ∷ []) files) (q : Spans fixed (moves ++ move.Received parents' origin' clock' act' ∷ []) files) → parents ≡ parents'

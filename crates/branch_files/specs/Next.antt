@@ -1,11 +1,13 @@
 -- What may stand behind a history in its files.
-use Rattle.std.specs.Prelude.{◌≡◌, ◌≢◌, ◌⊎◌, ℕ, ◌+◌, ◌-◌, ◌<◌, ◌≤◌, List, [], ◌++◌, length, take, drop, None, IsTrue}
+use Rattle.std.specs.Prelude.{◌≡◌, ◌≢◌, ◌⊎◌, ℕ, ◌+◌, ◌-◌, ◌<◌, ◌≤◌, List, [], ◌++◌, length, take, drop, Option, None, IsSome, IsTrue}
 use Rattle.branch_wire.specs.Reading.{HasLength64}
 use Rattle.branch_wire.specs.declared.action.Action.{Action}
 use Rattle.branch_wire.specs.Objects.{CommitFields, value_object, commit_object}
 use Rattle.branch_wire.specs.declared.action.Action.TheVariants as wire
 use Rattle.branch_graph.specs.Graph.{reaches}
 use Rattle.branch_history.specs.declared.moves.Move.{Move}
+use Rattle.branch_names.specs.declared.layout.Layout.{Layout}
+use Rattle.branch_names.specs.declared.layout.Layout.TheVariants.{Whole, Changes}
 use Rattle.branch_names.specs.Heads.{head_of, branch_named, IsKeptBranch}
 use Rattle.branch_history.specs.Commits.{graph_of, clock_of}
 use Rattle.branch_history.specs.Merging.{brought}
@@ -112,19 +114,24 @@ Does fixed (Received address end) (wire.Operation op reply) = fixed.meaning.is_o
 Does fixed (Received address end) wire.Merge = Unit {0}
 Does fixed r action = ⊥
 
--- nothing, or the object of a value of the type
+-- nothing, or, in the layout that keeps values, the object of a value of the type
 abbrev pub IsValuePart : {S O R Q A : Type 0} {form : Form} → FixedIn form S O R Q A → List ℕ → Type 0
-IsValuePart fixed bytes = (bytes ≡ []) ⊎ ((v : List ℕ) × HasLength64 v × fixed.meaning.is_state_spelling v × (bytes ≡ value_object v))
+IsValuePart fixed bytes = (bytes ≡ []) ⊎ ((fixed.terms.layout ≡ Whole) × (v : List ℕ) × HasLength64 v × fixed.meaning.is_state_spelling v × (bytes ≡ value_object v))
+
+-- a commit has the address of its value in the layout that keeps values, and none in the other
+abbrev pub IsLaidOut : Layout → Option (List ℕ) → Type 0
+IsLaidOut Whole value = IsSome value
+IsLaidOut Changes value = value ≡ None
 
 -- a commit has as many parents as it may have in files of a version: in version 1 two at the most
 abbrev pub AreFewIn : ℕ → List (List ℕ) → Type 0
 AreFewIn version parents = version ≡ 1 → length parents ≤ 2
 
--- the object of a commit that does what the record says, with as many parents as files of the form may have
+-- the object of a commit of the layout that does what the record says, with as many parents as files of the form may have
 abbrev pub IsCommitPart : {S O R Q A : Type 0} {form : Form} → FixedIn form S O R Q A → Record → List ℕ → Type 0
-IsCommitPart {form = form} fixed r bytes = (c : CommitFields) × IsCommit c × Does fixed r c.action × AreFewIn form.version c.parents × (bytes ≡ commit_object c)
+IsCommitPart {form = form} fixed r bytes = (c : CommitFields) × IsCommit c × Does fixed r c.action × AreFewIn form.version c.parents × IsLaidOut fixed.terms.layout c.value × (bytes ≡ commit_object c)
 
--- an object of a value, or none, and then the object of a commit
+-- an object of a value, or none, and then the object of a commit with the address of its value; in the other layout the object of a commit without one alone
 abbrev pub HasShape : {S O R Q A : Type 0} {form : Form} → FixedIn form S O R Q A → Record → List ℕ → Type 0
 HasShape fixed r bytes = (first second : List ℕ) × IsValuePart fixed first × IsCommitPart fixed r second × (bytes ≡ first ++ second)
 

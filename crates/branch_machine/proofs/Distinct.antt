@@ -8,7 +8,8 @@ use Rattle.mrdt_model.specs.Laws.{KeepsLaws}
 use Rattle.branch_wire.specs.Fields.{short_number, number, field, counted}
 use Rattle.branch_wire.specs.Reading.{HasLength, ReadsOneWay}
 use Rattle.branch_wire.specs.declared.action.Action.{Action}
-use Rattle.branch_wire.specs.Objects.{action_field, CommitFields, commit_body, commit_object}
+use Rattle.branch_names.specs.declared.layout.Layout.{Layout}
+use Rattle.branch_wire.specs.Objects.{action_field, value_field, CommitFields, commit_body, commit_object}
 use Rattle.branch_wire.specs.StoredObjects.{Stored, same, clash, collision, fresh}
 use Rattle.branch_wire.proofs.Numbers.{same_parts, short_number-same, length-short_number, length-number}
 use Rattle.branch_wire.proofs.Lists.{counted-one_way}
@@ -16,7 +17,7 @@ use Rattle.branch_graph.specs.Graph.{reaches, parents_of}
 use Rattle.branch_history.specs.declared.moves.Move.{Move}
 use Rattle.branch_history.specs.declared.moves.Move.TheVariants as move
 use Rattle.branch_names.specs.Heads.{head_of}
-use Rattle.branch_history.specs.Commits.{Commit, graph_of, origin_of}
+use Rattle.branch_history.specs.Commits.{Commit, graph_of, origin_of, visible}
 use Rattle.branch_history.specs.History.{Store, new_store, after_move, store_of, operation_commit, merge_commit, received_commit}
 use Rattle.branch_history.specs.Steps.{Collision}
 use Rattle.branch_history.specs.Validity.{AreCommits}
@@ -32,19 +33,20 @@ use Rattle.branch_history.proofs.Kept.{IsKept}
 use Rattle.branch_history.proofs.Histories.{valid-kept, received-stand}
 use Rattle.branch_history.proofs.Valid.{store_of-more, IsAccepted, IsAccepted-from, IsReceived, received_operation-tells, received_merge-tells}
 use Rattle.branch_machine.specs.Fixed.{Form, FixedIn}
-use Rattle.branch_machine.specs.Objects.{Pair, both, commit_text, value_text, address_at, fields_of, pair_at, pairs_of, store_after, objects_of, new_objects}
+use Rattle.branch_machine.specs.Objects.{Pair, given, both, kept_address, commit_text, value_text, address_at, fields_of, value_at, pair_at, pairs_of, store_after, objects_of, new_objects}
 use Rattle.branch_machine.specs.Machine.{collision_refusal, commit_with, commit_at}
 use Rattle.branch_machine.specs.Laws.{HasSize, IsNew}
 use Rattle.branch_machine.specs.Validity.{IsFullMove, IsFullyValid}
 use Rattle.branch_machine.proofs.Valid.{by_moves, full_move-is, valid-before, valid-more}
-use Rattle.branch_machine.proofs.Stored.{listed-before, listed-fresh, clash-none, collision-second, same-refl}
-use Rattle.branch_machine.proofs.Pairs.{commit_text-old, commit_text-new, value_text-old, value_text-new, addresses-old, length-pairs_of, pairs_of-one, new-pairs, objects-more}
+use Rattle.branch_machine.proofs.Stored.{listed-before, listed-fresh, clash-none, same-refl}
+use Rattle.branch_machine.proofs.Both.{IsListedValue, commit-listed-in, value-listed-in, listed_value-before, listed_value-fresh, collision-own, value-told, length-kept_address, kept_address-same}
+use Rattle.branch_machine.proofs.Pairs.{commit_text-old, commit_text-new, value_text-old, value_text-new, addresses-old, length-pairs_of, pairs_of-one, new-pair, new-pairs, objects-more}
 
 -- what a commit's object says of its parents, its origin and the object of its value
-pub record IsSpelledBy (address : List ℕ → List ℕ) (pairs : List Pair) (parents : List ℕ) (origin : ℕ) (value text : List ℕ) : Type 0 where
+pub record IsSpelledBy (layout : Layout) (address : List ℕ → List ℕ) (pairs : List Pair) (parents : List ℕ) (origin : ℕ) (value text : List ℕ) : Type 0 where
   pub clock : ℕ
   pub action : Action
-  pub is : text ≡ commit_object (record { parents = map (address_at address pairs) parents; branch = origin; clock = clock; value = address value; action = action })
+  pub is : text ≡ commit_object (record { parents = map (address_at address pairs) parents; branch = origin; clock = clock; value = kept_address layout (address value); action = action })
   pub few : length parents ≤ 9
 
 abbrev own : List ℕ → List ℕ
@@ -72,22 +74,22 @@ module _ (address : List ℕ → List ℕ) (size : HasSize address) where
   few-sized pairs (n ∷ ns) = ap suc (few-sized pairs ns)
 
   -- equal objects of commits have equal parents' addresses, equal origins, equal addresses of their values, and do the same
-  pub same-spelled : (pairs : List Pair) (ns ms : List ℕ) (a b : ℕ) (v w x y : List ℕ) → a < 2 ^ 32 → b < 2 ^ 32 → (p : IsSpelledBy address pairs ns a v x) → (q : IsSpelledBy address pairs ms b w y) → x ≡ y
-      → (map (address_at address pairs) ns ≡ map (address_at address pairs) ms) × (a ≡ b) × (address v ≡ address w) × (action_field p.action ≡ action_field q.action)
-  same-spelled pairs ns ms a b v w x y small_a small_b p q is =
-      let c : CommitFields = record { parents = map (address_at address pairs) ns; branch = a; clock = p.clock; value = address v; action = p.action } in
-      let d : CommitFields = record { parents = map (address_at address pairs) ms; branch = b; clock = q.clock; value = address w; action = q.action } in
+  pub same-spelled : (layout : Layout) (pairs : List Pair) (ns ms : List ℕ) (a b : ℕ) (v w x y : List ℕ) → a < 2 ^ 32 → b < 2 ^ 32 → (p : IsSpelledBy layout address pairs ns a v x) → (q : IsSpelledBy layout address pairs ms b w y) → x ≡ y
+      → (map (address_at address pairs) ns ≡ map (address_at address pairs) ms) × (a ≡ b) × (kept_address layout (address v) ≡ kept_address layout (address w)) × (action_field p.action ≡ action_field q.action)
+  same-spelled layout pairs ns ms a b v w x y small_a small_b p q is =
+      let c : CommitFields = record { parents = map (address_at address pairs) ns; branch = a; clock = p.clock; value = kept_address layout (address v); action = p.action } in
+      let d : CommitFields = record { parents = map (address_at address pairs) ms; branch = b; clock = q.clock; value = kept_address layout (address w); action = q.action } in
       let whole : commit_object c ≡ commit_object d = sym p.is ∙ is ∙ q.is in
       let fields : field (commit_body c) ≡ field (commit_body d) = cc whole in
       let bodies = (same_parts (number (length (commit_body c))) (commit_body c) (number (length (commit_body d))) (commit_body d) (length-number (length (commit_body c)) ∙ sym (length-number (length (commit_body d)))) fields).1 in
-      let first = (counted-one_way (HasLength 32) own addresses).one c.parents d.parents (short_number a ++ (number c.clock ++ c.value ++ action_field c.action)) (short_number b ++ (number d.clock ++ d.value ++ action_field d.action))
+      let first = (counted-one_way (HasLength 32) own addresses).one c.parents d.parents (short_number a ++ (number c.clock ++ value_field c.value ++ action_field c.action)) (short_number b ++ (number d.clock ++ value_field d.value ++ action_field d.action))
       (omega (arith, few-sized pairs ns, p.few), all-sized pairs ns) (omega (arith, few-sized pairs ms, q.few), all-sized pairs ms)
-      (sym (regroup (counted own c.parents) (short_number a) (number c.clock) c.value (action_field c.action)) ∙ bodies ∙ regroup (counted own d.parents) (short_number b) (number d.clock) d.value (action_field d.action)) in
-      let second = same_parts (short_number a) (number c.clock ++ c.value ++ action_field c.action) (short_number b) (number d.clock ++ d.value ++ action_field d.action) (length-short_number a ∙ sym (length-short_number b)) first.1 in
-      let third = same_parts (number c.clock ++ c.value) (action_field c.action) (number d.clock ++ d.value) (action_field d.action)
-      (omega (arith, length-append (number c.clock) c.value, length-append (number d.clock) d.value, length-number c.clock, length-number d.clock, size v, size w)) second.1 in
-      let fourth = same_parts (number c.clock) c.value (number d.clock) d.value (length-number c.clock ∙ sym (length-number d.clock)) third.0 in
-      (first.0, short_number-same a b small_a small_b second.0, fourth.1, third.1)
+      (sym (regroup (counted own c.parents) (short_number a) (number c.clock) (value_field c.value) (action_field c.action)) ∙ bodies ∙ regroup (counted own d.parents) (short_number b) (number d.clock) (value_field d.value) (action_field d.action)) in
+      let second = same_parts (short_number a) (number c.clock ++ value_field c.value ++ action_field c.action) (short_number b) (number d.clock ++ value_field d.value ++ action_field d.action) (length-short_number a ∙ sym (length-short_number b)) first.1 in
+      let third = same_parts (number c.clock ++ value_field c.value) (action_field c.action) (number d.clock ++ value_field d.value) (action_field d.action)
+      (omega (arith, length-append (number c.clock) (value_field c.value), length-append (number d.clock) (value_field d.value), length-number c.clock, length-number d.clock, length-kept_address layout (address v) (size v), length-kept_address layout (address w) (size w))) second.1 in
+      let fourth = same_parts (number c.clock) (value_field c.value) (number d.clock) (value_field d.value) (length-number c.clock ∙ sym (length-number d.clock)) third.0 in
+      (first.0, short_number-same a b small_a small_b second.0, kept_address-same layout (address v) (address w) fourth.1, third.1)
 
 -- commits that are there are told by their addresses
 pub addresses-same : (address : List ℕ → List ℕ) (pairs : List Pair) (count : ℕ) → ((j k : ℕ) → j < count → k < count → address (commit_text pairs j) ≡ address (commit_text pairs k) → j ≡ k) → (ns ms : List ℕ)
@@ -99,14 +101,6 @@ addresses-same address pairs count one (n ∷ ns) (m ∷ ms) p q is =
     let first : address (commit_text pairs n) ≡ address (commit_text pairs m) = cc is in
     let rest : map (address_at address pairs) ns ≡ map (address_at address pairs) ms = cc is in
     ap (λ (k : ℕ). k ∷ ns) (one n m p.0 q.0 first) ∙ ap (λ (l : List ℕ). m ∷ l) (addresses-same address pairs count one ns ms p.1 q.1 rest)
-
--- of two objects that do not collide with stored ones, the first clashes with none of these
-collision-first : (address : List ℕ → List ℕ) (x y : List ℕ) (stored : Stored) → collision address stored (x ∷ y ∷ []) ≡ None → clash address x stored ≡ None
-collision-first address x y stored none = at (clash address x stored) none
-  where
-    at : (o : Option (List ℕ)) → ◌≡◌ {A = Option (List ℕ × List ℕ)} (elim o [ None ↦ collision address (stored ++ x ∷ []) (y ∷ []) | Some z ↦ Some (z, x) ]) None → o ≡ None
-    at None is = refl
-    at (Some z) is = cc
 
 -- where no commit has these two objects, none has
 pair-get : (pairs : List Pair) (j : ℕ) → j < length pairs → (q : Pair) × (slice_get pairs j ≡ Some q) × (value_text pairs j ≡ q.value) × (commit_text pairs j ≡ q.commit)
@@ -153,9 +147,9 @@ module _ {S O R Q A : Type 0} {form : Form} (fixed : FixedIn form S O R Q A) whe
   pub record IsSound (s : Store O R) (stored : Stored) : Type 0 where
     -- each commit made on a branch lies at its head or below
     pub reach : (n r : ℕ) → 0 < n → n < length s.commits → r < length s.branches → origin_of s.commits n ≡ first + r → IsTrue (reaches (graph_of s.commits) (head_of s.branches r) n)
-    pub spelled : (n : ℕ) → n < length s.commits → IsSpelledBy fixed.address (pairs_of fixed s.commits) (parents_of (graph_of s.commits) n) (origin_of s.commits n) (value_text (pairs_of fixed s.commits) n) (commit_text (pairs_of fixed s.commits) n)
+    pub spelled : (n : ℕ) → n < length s.commits → IsSpelledBy fixed.terms.layout fixed.address (pairs_of fixed s.commits) (parents_of (graph_of s.commits) n) (origin_of s.commits n) (value_text (pairs_of fixed s.commits) n) (commit_text (pairs_of fixed s.commits) n)
     pub listed : (n : ℕ) → n < length s.commits → list_any (same (commit_text (pairs_of fixed s.commits) n)) stored ≡ true
-    pub listed_values : (n : ℕ) → n < length s.commits → list_any (same (value_text (pairs_of fixed s.commits) n)) stored ≡ true
+    pub listed_values : (n : ℕ) → n < length s.commits → IsListedValue fixed.terms.layout stored (value_text (pairs_of fixed s.commits) n)
     -- commits whose objects have one address have one object
     pub one : (j k : ℕ) → j < length s.commits → k < length s.commits → fixed.address (commit_text (pairs_of fixed s.commits) j) ≡ fixed.address (commit_text (pairs_of fixed s.commits) k) → commit_text (pairs_of fixed s.commits) j ≡ commit_text (pairs_of fixed s.commits) k
     pub distinct : (j k : ℕ) → j < length s.commits → k < length s.commits → commit_text (pairs_of fixed s.commits) j ≡ commit_text (pairs_of fixed s.commits) k → j ≡ k
@@ -163,25 +157,33 @@ module _ {S O R Q A : Type 0} {form : Form} (fixed : FixedIn form S O R Q A) whe
   abbrev root : Commit O R
   root = record { parents = []; origin = 0; clock = 0; event = None }
 
+  -- the spelling of the value of a commit that comes behind others
+  abbrev spelling_at : List (Commit O R) → Commit O R → List ℕ
+  spelling_at before c = fixed.meaning.spelling_of (visible (before ++ c ∷ []) (length before))
+
   abbrev root_pair : Pair
   root_pair = pair_at fixed [] [] root
 
-  sound-none : IsSound new_store (both root_pair)
+  abbrev root_stored : Stored
+  root_stored = fresh [] (both root_pair ++ [])
+
+  sound-none : IsSound new_store root_stored
   unfolding pairs_of
   sound-none = record {
     reach = λ n r positive lt there own. absurd (omega arith);
     spelled = elim [ zero ↦ λ lt. record { clock = 0; action = (fields_of fixed [] root_pair.value root).action; is = refl; few = omega arith } | suc n ↦ λ lt. absurd (omega arith) ];
-    listed = elim [ zero ↦ λ lt. listed-fresh root_pair.commit [] (root_pair.commit ∷ []) (same-one root_pair.commit) | suc n ↦ λ lt. absurd (omega arith) ];
-    listed_values = elim [ zero ↦ λ lt. or_left (same root_pair.value root_pair.value) (list_any (same root_pair.value) (root_pair.commit ∷ [])) (same-refl root_pair.value) | suc n ↦ λ lt. absurd (omega arith) ];
+    listed = elim [ zero ↦ λ lt. listed-fresh root_pair.commit [] (both root_pair ++ []) (listed-before root_pair.commit (both root_pair) [] (commit-listed-in root_pair)) | suc n ↦ λ lt. absurd (omega arith) ];
+    listed_values = elim [
+      | zero ↦ λ lt.
+          listed_value-fresh fixed.terms.layout root_pair.value [] (both root_pair ++ []) (listed_value-before fixed.terms.layout root_pair.value (both root_pair) [] (value-listed-in fixed.terms.layout (spelling_at [] root) root_pair.commit))
+      | suc n ↦ λ lt. absurd (omega arith)
+    ];
     one = λ j k in_j in_k is. ap (commit_text (pairs_of fixed (root ∷ []))) (both-zero j k in_j in_k);
     distinct = λ j k in_j in_k is. both-zero j k in_j in_k;
   }
     where
       both-zero : (j k : ℕ) → j < 1 → k < 1 → j ≡ k
       both-zero j k in_j in_k = omega arith
-
-      same-one : (x : List ℕ) → list_any (same x) (x ∷ []) ≡ true
-      same-one x = or_left (same x x) false (same-refl x)
 
   module _ (s new : Store O R) (stored : Stored) (kept : IsKept fixed.meaning fixed.terms s) (next : IsKept fixed.meaning fixed.terms new) (sound : IsSound s stored) (size : HasSize fixed.address) where
     abbrev pairs : List Pair
@@ -241,20 +243,20 @@ module _ {S O R Q A : Type 0} {form : Form} (fixed : FixedIn form S O R Q A) whe
       moved : (k : ℕ) (ns : List ℕ) → k ≤ n → AllByRecursion (λ j. j < k) ns → map (address_at fixed.address pairs) ns ≡ map (address_at fixed.address more) ns
       moved k ns le all = sym (ap (λ (ps : List Pair). map (address_at fixed.address ps) ns) grown ∙ addresses-old fixed.address pairs (p ∷ []) ns (in-range k ns le all))
 
-      spelled-as : (ns ms : List ℕ) (a b : ℕ) (v w x y : List ℕ) → IsSpelledBy fixed.address pairs ns a v x → map (address_at fixed.address pairs) ns ≡ map (address_at fixed.address more) ms → a ≡ b → v ≡ w → y ≡ x → length ms ≤ 9 → IsSpelledBy fixed.address more ms b w y
+      spelled-as : (ns ms : List ℕ) (a b : ℕ) (v w x y : List ℕ) → IsSpelledBy fixed.terms.layout fixed.address pairs ns a v x → map (address_at fixed.address pairs) ns ≡ map (address_at fixed.address more) ms → a ≡ b → v ≡ w → y ≡ x → length ms ≤ 9 → IsSpelledBy fixed.terms.layout fixed.address more ms b w y
       spelled-as ns ms a b v w x y q addresses origins values texts few = record {
         clock = q.clock;
         action = q.action;
         is = texts ∙ q.is
-            ∙ ap (λ (l : List (List ℕ)). commit_object (record { parents = l; branch = a; clock = q.clock; value = fixed.address v; action = q.action })) addresses
-            ∙ ap (λ (r : ℕ). commit_object (record { parents = map (address_at fixed.address more) ms; branch = r; clock = q.clock; value = fixed.address v; action = q.action })) origins
-            ∙ ap (λ (u : List ℕ). commit_object (record { parents = map (address_at fixed.address more) ms; branch = b; clock = q.clock; value = fixed.address u; action = q.action })) values;
+            ∙ ap (λ (l : List (List ℕ)). commit_object (record { parents = l; branch = a; clock = q.clock; value = kept_address fixed.terms.layout (fixed.address v); action = q.action })) addresses
+            ∙ ap (λ (r : ℕ). commit_object (record { parents = map (address_at fixed.address more) ms; branch = r; clock = q.clock; value = kept_address fixed.terms.layout (fixed.address v); action = q.action })) origins
+            ∙ ap (λ (u : List ℕ). commit_object (record { parents = map (address_at fixed.address more) ms; branch = b; clock = q.clock; value = kept_address fixed.terms.layout (fixed.address u); action = q.action })) values;
         few = few;
       }
 
-      spelled-new : (k : ℕ) → k < length new.commits → IsSpelledBy fixed.address more (parents_of g k) (origin_of new.commits k) (value_text more k) (commit_text more k)
+      spelled-new : (k : ℕ) → k < length new.commits → IsSpelledBy fixed.terms.layout fixed.address more (parents_of g k) (origin_of new.commits k) (value_text more k) (commit_text more k)
       spelled-new =
-          each (λ k. IsSpelledBy fixed.address more (parents_of g k) (origin_of new.commits k) (value_text more k) (commit_text more k))
+          each (λ k. IsSpelledBy fixed.terms.layout fixed.address more (parents_of g k) (origin_of new.commits k) (value_text more k) (commit_text more k))
           (λ k lt.
           let q = sound.spelled k lt in
           let old : List ℕ = parents_of (graph_of s.commits) k in
@@ -269,8 +271,8 @@ module _ {S O R Q A : Type 0} {form : Form} (fixed : FixedIn form S O R Q A) whe
         hits : (k : ℕ) → k < n → fixed.address (commit_text more k) ≡ fixed.address (commit_text more n) → commit_text more k ≡ commit_text more n
         hits k lt is =
             let found : commit_text pairs k ≡ p.commit =
-            clash-none fixed.address p.commit (commit_text pairs k) (stored ++ p.value ∷ []) (collision-second fixed.address p.commit p.value stored free)
-            (listed-before (commit_text pairs k) stored (p.value ∷ []) (sound.listed k lt))
+            clash-none fixed.address p.commit (commit_text pairs k) (stored ++ given p.value) (collision-own fixed.address p.value p.commit stored free)
+            (listed-before (commit_text pairs k) stored (given p.value) (sound.listed k lt))
             (ap fixed.address (sym (text-old k lt)) ∙ is ∙ ap fixed.address text-new) in
             text-old k lt ∙ found ∙ sym text-new
 
@@ -285,11 +287,11 @@ module _ {S O R Q A : Type 0} {form : Form} (fixed : FixedIn form S O R Q A) whe
             j in_j
 
         -- an old commit whose object is the new one's has its parents, its origin, and the address of its value
-        spelled-alike : (j : ℕ) → j < n → commit_text more j ≡ commit_text more n → (map (address_at fixed.address more) (parents_of g j) ≡ map (address_at fixed.address more) (parents_of g n)) × (origin_of new.commits j ≡ origin_of new.commits n) × (fixed.address (value_text more j) ≡ fixed.address (value_text more n))
+        spelled-alike : (j : ℕ) → j < n → commit_text more j ≡ commit_text more n → (map (address_at fixed.address more) (parents_of g j) ≡ map (address_at fixed.address more) (parents_of g n)) × (origin_of new.commits j ≡ origin_of new.commits n) × (kept_address fixed.terms.layout (fixed.address (value_text more j)) ≡ kept_address fixed.terms.layout (fixed.address (value_text more n)))
         spelled-alike j lt is =
             let in_j : j < length new.commits = omega (arith, count) in
             let in_n : n < length new.commits = omega (arith, count) in
-            let told = same-spelled fixed.address size more (parents_of g j) (parents_of g n) (origin_of new.commits j) (origin_of new.commits n) (value_text more j) (value_text more n) (commit_text more j) (commit_text more n) (next.ordered.small j in_j) (next.ordered.small n in_n) (spelled-new j in_j) (spelled-new n in_n) is in
+            let told = same-spelled fixed.address size fixed.terms.layout more (parents_of g j) (parents_of g n) (origin_of new.commits j) (origin_of new.commits n) (value_text more j) (value_text more n) (commit_text more j) (commit_text more n) (next.ordered.small j in_j) (next.ordered.small n in_n) (spelled-new j in_j) (spelled-new n in_n) is in
             (told.0, told.1, told.2)
 
         -- no commit of the branch lies above its head
@@ -317,10 +319,11 @@ module _ {S O R Q A : Type 0} {form : Form} (fixed : FixedIn form S O R Q A) whe
         -- a commit with the same object has the same value, so what was received would have been here
         foreign-differs : IsForeign s new m.made → (j : ℕ) → j < n → commit_text more j ≡ commit_text more n → ⊥
         foreign-differs foreign j lt is =
+            let kept = λ (v : List ℕ). kept_address fixed.terms.layout (fixed.address v) in
             let alike = spelled-alike j lt is in
             let value : value_text pairs j ≡ p.value =
-            clash-none fixed.address p.value (value_text pairs j) stored (collision-first fixed.address p.value p.commit stored free) (sound.listed_values j lt)
-            (ap fixed.address (sym (value-old j lt)) ∙ alike.2 ∙ ap fixed.address value-new) in
+            value-told fixed.terms.layout fixed.address (spelling_at s.commits m.made) p.commit (value_text pairs j) stored free (sound.listed_values j lt)
+            (ap kept (sym (value-old j lt)) ∙ alike.2 ∙ ap kept value-new) in
             none-with pairs p j foreign.unseen (omega (arith, length-pairs_of fixed s.commits)) value (sym (text-old j lt) ∙ is ∙ text-new)
 
         -- an old commit's object is not the new one's
@@ -359,11 +362,14 @@ module _ {S O R Q A : Type 0} {form : Form} (fixed : FixedIn form S O R Q A) whe
           listed = each (λ k. list_any (same (commit_text more k)) all ≡ true)
               (λ k lt. ap (λ (x : List ℕ). list_any (same x) all) (text-old k lt) ∙ ap (list_any (same (commit_text pairs k))) grows ∙ listed-before (commit_text pairs k) stored (fresh stored (both p)) (sound.listed k lt))
               (ap (λ (x : List ℕ). list_any (same x) all) text-new ∙ ap (list_any (same p.commit)) grows
-              ∙ listed-fresh p.commit stored (both p) (or_right (same p.commit p.value) (same p.commit p.commit || false) (or_left (same p.commit p.commit) false (same-refl p.commit))));
-          listed_values = each (λ k. list_any (same (value_text more k)) all ≡ true)
-              (λ k lt. ap (λ (x : List ℕ). list_any (same x) all) (value-old k lt) ∙ ap (list_any (same (value_text pairs k))) grows ∙ listed-before (value_text pairs k) stored (fresh stored (both p)) (sound.listed_values k lt))
-              (ap (λ (x : List ℕ). list_any (same x) all) value-new ∙ ap (list_any (same p.value)) grows
-              ∙ listed-fresh p.value stored (both p) (or_left (same p.value p.value) (list_any (same p.value) (p.commit ∷ [])) (same-refl p.value)));
+              ∙ listed-fresh p.commit stored (both p) (commit-listed-in p));
+          listed_values = each (λ k. IsListedValue fixed.terms.layout all (value_text more k))
+              (λ k lt.
+              subst (IsListedValue fixed.terms.layout all) (sym (value-old k lt))
+              (subst (λ (xs : Stored). IsListedValue fixed.terms.layout xs (value_text pairs k)) (sym grows) (listed_value-before fixed.terms.layout (value_text pairs k) stored (fresh stored (both p)) (sound.listed_values k lt))))
+              (subst (IsListedValue fixed.terms.layout all) (sym value-new)
+              (subst (λ (xs : Stored). IsListedValue fixed.terms.layout xs p.value) (sym grows)
+              (listed_value-fresh fixed.terms.layout p.value stored (both p) (value-listed-in fixed.terms.layout (spelling_at s.commits m.made) p.commit))));
           one = one-new;
           distinct = distinct-new;
         }
@@ -380,11 +386,11 @@ module _ {S O R Q A : Type 0} {form : Form} (fixed : FixedIn form S O R Q A) whe
           reaches-trans (graph_of new.commits) next.ordered.ranked (head_of new.branches r) (head_of s.branches r) k (rises r before) down)
           (λ above. let few = next.few_branches in absurd (kept.ordered.origins k r in_k above (omega arith) was))
           (cases_lt r (length s.branches));
-      spelled = subst (λ (cs : List (Commit O R)). (n : ℕ) → n < length cs → IsSpelledBy fixed.address (pairs_of fixed cs) (parents_of (graph_of cs) n) (origin_of cs n) (value_text (pairs_of fixed cs) n) (commit_text (pairs_of fixed cs) n)) (sym unmoved) sound.spelled;
+      spelled = subst (λ (cs : List (Commit O R)). (n : ℕ) → n < length cs → IsSpelledBy fixed.terms.layout fixed.address (pairs_of fixed cs) (parents_of (graph_of cs) n) (origin_of cs n) (value_text (pairs_of fixed cs) n) (commit_text (pairs_of fixed cs) n)) (sym unmoved) sound.spelled;
       listed = subst (λ (all : Stored). (n : ℕ) → n < length new.commits → list_any (same (commit_text (pairs_of fixed new.commits) n)) all ≡ true) (sym stays)
           (subst (λ (cs : List (Commit O R)). (n : ℕ) → n < length cs → list_any (same (commit_text (pairs_of fixed cs) n)) stored ≡ true) (sym unmoved) sound.listed);
-      listed_values = subst (λ (all : Stored). (n : ℕ) → n < length new.commits → list_any (same (value_text (pairs_of fixed new.commits) n)) all ≡ true) (sym stays)
-          (subst (λ (cs : List (Commit O R)). (n : ℕ) → n < length cs → list_any (same (value_text (pairs_of fixed cs) n)) stored ≡ true) (sym unmoved) sound.listed_values);
+      listed_values = subst (λ (all : Stored). (n : ℕ) → n < length new.commits → IsListedValue fixed.terms.layout all (value_text (pairs_of fixed new.commits) n)) (sym stays)
+          (subst (λ (cs : List (Commit O R)). (n : ℕ) → n < length cs → IsListedValue fixed.terms.layout stored (value_text (pairs_of fixed cs) n)) (sym unmoved) sound.listed_values);
       one = subst (λ (cs : List (Commit O R)). (j k : ℕ) → j < length cs → k < length cs → fixed.address (commit_text (pairs_of fixed cs) j) ≡ fixed.address (commit_text (pairs_of fixed cs) k) → commit_text (pairs_of fixed cs) j ≡ commit_text (pairs_of fixed cs) k) (sym unmoved) sound.one;
       distinct = subst (λ (cs : List (Commit O R)). (j k : ℕ) → j < length cs → k < length cs → commit_text (pairs_of fixed cs) j ≡ commit_text (pairs_of fixed cs) k → j ≡ k) (sym unmoved) sound.distinct;
     }
@@ -463,7 +469,7 @@ module _ {S O R Q A : Type 0} {form : Form} (fixed : FixedIn form S O R Q A) whe
   pub made-objects : (moves : List (Move O R)) (m : Move O R) (one : MakesOne (store_after fixed moves) (store_after fixed (moves ++ m ∷ []))) → new_objects fixed moves m ≡ both (pair_at fixed (store_after fixed moves).commits (pairs_of fixed (store_after fixed moves).commits) one.made)
   made-objects moves m one =
       let old : List (Commit O R) = (store_after fixed moves).commits in
-      new-pairs fixed moves m old (old ++ one.made ∷ []) (pair_at fixed old (pairs_of fixed old) one.made ∷ []) refl one.commits (pairs_of-one fixed old one.made)
+      new-pair fixed moves m old (old ++ one.made ∷ []) (pair_at fixed old (pairs_of fixed old) one.made) refl one.commits (pairs_of-one fixed old one.made)
 
   pub no-objects : (moves : List (Move O R)) (m : Move O R) → (store_after fixed (moves ++ m ∷ [])).commits ≡ (store_after fixed moves).commits → new_objects fixed moves m ≡ []
   no-objects moves m unmoved =
@@ -489,10 +495,7 @@ module _ {S O R Q A : Type 0} {form : Form} (fixed : FixedIn form S O R Q A) whe
   module _ (laws : KeepsLaws fixed.meaning) (size : HasSize fixed.address) where
     sound-start : IsSound (store_after fixed []) (objects_of fixed [])
     unfolding store_of objects_of pairs_of
-    sound-start = subst (IsSound new_store) (stored-root) sound-none
-      where
-        stored-root : both root_pair ≡ fresh [] (both root_pair)
-        stored-root = refl
+    sound-start = sound-none
 
     sound-step : (moves : List (Move O R)) (m : Move O R) → IsFullyValid fixed moves → IsSound (store_after fixed moves) (objects_of fixed moves) → IsFullMove fixed moves m → IsSound (store_after fixed (moves ++ m ∷ [])) (objects_of fixed (moves ++ m ∷ []))
     sound-step moves m valid sound is =

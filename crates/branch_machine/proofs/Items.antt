@@ -5,7 +5,7 @@ use Rattle.std.proofs.lemmas.Bool.{and_parts}
 use Rattle.mrdt_model.specs.Laws.{KeepsLaws}
 use Rattle.branch_wire.specs.Fields.{short_number, number, field, counted}
 use Rattle.branch_wire.specs.Reading.{HasLength64}
-use Rattle.branch_wire.specs.Objects.{CommitFields, action_field, commit_body, commit_object}
+use Rattle.branch_wire.specs.Objects.{value_field, CommitFields, action_field, commit_body, commit_object}
 use Rattle.branch_wire.specs.declared.action.Action.{Action}
 use Rattle.branch_wire.specs.declared.action.Action.TheVariants as wire
 use Rattle.branch_wire.proofs.Numbers.{length-field}
@@ -122,7 +122,7 @@ module _ {S O R Q A : Type 0} {form : Form} (fixed : FixedIn form S O R Q A) (la
   objects c d small_c small_d few_c few_d p q =
       let same : (pair_next fixed moves c).commit ≡ (pair_next fixed moves d).commit = ap (λ (x : Pair). x.commit) (p ∙ sym q) in
       let told =
-      same-spelled fixed.address size pairs c.parents d.parents c.origin d.origin (pair_next fixed moves c).value (pair_next fixed moves d).value (pair_next fixed moves c).commit (pair_next fixed moves d).commit small_c small_d
+      same-spelled fixed.address size fixed.terms.layout pairs c.parents d.parents c.origin d.origin (pair_next fixed moves c).value (pair_next fixed moves d).value (pair_next fixed moves c).commit (pair_next fixed moves d).commit small_c small_d
       (record { clock = c.clock; action = (fields c).action; is = refl; few = few_c }) (record { clock = d.clock; action = (fields d).action; is = refl; few = few_d }) same in
       (told.0, told.1, told.3)
 
@@ -130,7 +130,7 @@ module _ {S O R Q A : Type 0} {form : Form} (fixed : FixedIn form S O R Q A) (la
   operation-short : (c : Commit O R) (o a : List ℕ) → IsOf c → (fields c).action ≡ wire.Operation o a → HasLength64 o
   operation-short c o a p is =
       let f : CommitFields = fields c in
-      let front : List ℕ = counted (λ address. address) f.parents ++ short_number f.branch ++ number f.clock ++ f.value in
+      let front : List ℕ = counted (λ address. address) f.parents ++ short_number f.branch ++ number f.clock ++ value_field f.value in
       let parts : commit_body f ≡ front ++ 1 ∷ (field o ++ field a) = ap (λ (x : Action). front ++ action_field x) is in
       let whole : length item.commit ≡ length (commit_object f) = ap (λ (x : Pair). length x.commit) (sym p) in
       omega (arith, short, whole, length-field (commit_body f), ap length parts, length-append front (1 ∷ (field o ++ field a)), length-append (field o) (field a), length-field o)

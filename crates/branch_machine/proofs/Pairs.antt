@@ -78,6 +78,10 @@ module _ {S O R Q A : Type 0} {form : Form} (fixed : FixedIn form S O R Q A) whe
       ∙ ap (λ (n : ℕ). flat_map both (drop n (pairs_of fixed old ++ more))) (sym (length-pairs_of old))
       ∙ ap (flat_map both) (drop-append_seam (pairs_of fixed old) more)
 
+  -- of one commit
+  pub new-pair : (moves : List (Move O R)) (made : Move O R) (old new : List (Commit O R)) (p : Pair) → (store_after fixed moves).commits ≡ old → (store_after fixed (moves ++ made ∷ [])).commits ≡ new → pairs_of fixed new ≡ pairs_of fixed old ++ p ∷ [] → new_objects fixed moves made ≡ both p
+  new-pair moves made old new p is_old is_new grown = new-pairs moves made old new (p ∷ []) is_old is_new grown ∙ append-nil (both p)
+
   -- a move appends its region
   pub objects-more : (moves : List (Move O R)) (made : Move O R) → objects_of fixed (moves ++ made ∷ []) ≡ objects_of fixed moves ++ fresh (objects_of fixed moves) (new_objects fixed moves made)
   unfolding objects_of

@@ -1,5 +1,5 @@
 -- The objects of a valid history are not too long for a file.
-use Rattle.std.proofs.Common.{◌≡◌, ℕ, ◌+◌, ◌*◌, ◌<◌, ◌≤◌, ◌^◌, Bool, true, false, List, [], ◌∷◌, ◌++◌, length, refl, sym, ◌∙◌, ap, arith, length-append, map, Option, None, Some, cond, codes}
+use Rattle.std.proofs.Common.{append-nil, ◌≡◌, ℕ, ◌+◌, ◌*◌, ◌<◌, ◌≤◌, ◌^◌, Bool, true, false, List, [], ◌∷◌, ◌++◌, length, refl, sym, ◌∙◌, ap, arith, length-append, map, Option, None, Some, cond, codes}
 use Rattle.std.specs.Prelude.{nat_lt, nat_le}
 use Rattle.std.specs.List.{flat_map, concat, list_any}
 use Rattle.std.proofs.lemmas.Bool.{ltb-false}
@@ -7,7 +7,7 @@ use Rattle.std.proofs.lemmas.List.Folds.{concat-append}
 use Rattle.mrdt_model.specs.Executions.{Event}
 use Rattle.mrdt_model.specs.Laws.{KeepsLaws}
 use Rattle.branch_wire.specs.Fields.{number, short_number, field}
-use Rattle.branch_wire.specs.Objects.{action_field, CommitFields, commit_body, commit_object, value_object}
+use Rattle.branch_wire.specs.Objects.{action_field, value_field, CommitFields, commit_body, commit_object}
 use Rattle.branch_wire.specs.StoredObjects.{Stored, header_of, file_in, same, fresh}
 use Rattle.branch_wire.proofs.Numbers.{length-number, length-short_number, length-field}
 use Rattle.branch_graph.specs.Graph.{reaches}
@@ -28,7 +28,8 @@ use Rattle.branch_machine.specs.Objects.{Pair, both, commit_text, address_at, st
 use Rattle.branch_machine.specs.Laws.{HasSize}
 use Rattle.branch_machine.specs.Validity.{IsFullyValid}
 use Rattle.branch_machine.proofs.Valid.{by_moves, full_move-is, valid-before}
-use Rattle.branch_machine.proofs.Pairs.{new-pairs, pairs_of-one, objects-more}
+use Rattle.branch_machine.proofs.Pairs.{new-pair, pairs_of-one, objects-more}
+use Rattle.branch_machine.proofs.Both.{kept_address-most, kept_value-most, length-both}
 use Rattle.branch_machine.proofs.Distinct.{no-objects}
 
 length-file : (version : ℕ) (stored more : Stored) → length (file_in version (stored ++ more)) ≡ length (file_in version stored) + length (concat more)
@@ -43,12 +44,6 @@ fresh-shorter stored (x ∷ xs) = at (fresh-shorter stored xs) (fresh-shorter (s
     at : length (concat (fresh stored xs)) ≤ length (concat xs) → length (concat (fresh (stored ++ x ∷ []) xs)) ≤ length (concat xs) → (b : Bool) → length (concat (cond b (fresh stored xs) (x ∷ fresh (stored ++ x ∷ []) xs))) ≤ length (x ++ concat xs)
     at kept added true = omega (arith, kept, length-append x (concat xs))
     at kept added false = omega (arith, added, length-append x (concat xs), length-append x (concat (fresh (stored ++ x ∷ []) xs)))
-
-length-both : (p : Pair) → length (concat (both p)) ≡ length p.value + length p.commit
-length-both p = omega (arith, length-append p.value (p.commit ++ []), length-append p.commit [])
-
-length-value : (spelling : List ℕ) → length (value_object spelling) ≡ 9 + length spelling
-length-value spelling = omega (arith, length-field spelling)
 
 module _ {S O R Q A : Type 0} {form : Form} (fixed : FixedIn form S O R Q A) where
   -- no refusal for a value that is too large
@@ -77,7 +72,7 @@ module _ {S O R Q A : Type 0} {form : Form} (fixed : FixedIn form S O R Q A) whe
           length-addresses pairs ns,
         )
 
-    length-commit : (pairs : List Pair) (value : List ℕ) (c : Commit O R) → length (commit_object (fields_of fixed pairs value c)) ≡ 61 + 32 * length c.parents + length (action_field (action_of fixed c.parents c.event))
+    length-commit : (pairs : List Pair) (value : List ℕ) (c : Commit O R) → length (commit_object (fields_of fixed pairs value c)) ≤ 61 + 32 * length c.parents + length (action_field (action_of fixed c.parents c.event))
     length-commit pairs value c =
         let f : CommitFields = fields_of fixed pairs value c in
         let a : List ℕ = number (length f.parents) in
@@ -85,8 +80,8 @@ module _ {S O R Q A : Type 0} {form : Form} (fixed : FixedIn form S O R Q A) whe
         omega (
           arith,
           length-field (commit_body f),
-          length-append (a ++ b ++ short_number f.branch ++ number f.clock ++ f.value) (action_field f.action),
-          length-append (a ++ b ++ short_number f.branch ++ number f.clock) f.value,
+          length-append (a ++ b ++ short_number f.branch ++ number f.clock ++ value_field f.value) (action_field f.action),
+          length-append (a ++ b ++ short_number f.branch ++ number f.clock) (value_field f.value),
           length-append (a ++ b ++ short_number f.branch) (number f.clock),
           length-append (a ++ b) (short_number f.branch),
           length-append a b,
@@ -94,7 +89,7 @@ module _ {S O R Q A : Type 0} {form : Form} (fixed : FixedIn form S O R Q A) whe
           length-addresses pairs c.parents,
           length-short_number f.branch,
           length-number f.clock,
-          size value,
+          kept_address-most fixed.terms.layout (fixed.address value) (size value),
         )
 
     -- no more than so many bytes for each commit
@@ -119,7 +114,7 @@ module _ {S O R Q A : Type 0} {form : Form} (fixed : FixedIn form S O R Q A) whe
       commit-short m c grown bound is =
           let pairs : List Pair = pairs_of fixed s.commits in
           let p : Pair = pair_at fixed s.commits pairs c in
-          let objects = new-pairs fixed moves m s.commits (store_after fixed (moves ++ m ∷ [])).commits (p ∷ []) refl refl (ap (pairs_of fixed) grown ∙ pairs_of-one fixed s.commits c) in
+          let objects = new-pair fixed moves m s.commits (store_after fixed (moves ++ m ∷ [])).commits p refl refl (ap (pairs_of fixed) grown ∙ pairs_of-one fixed s.commits c) in
           omega (
             arith,
             is,
@@ -127,7 +122,7 @@ module _ {S O R Q A : Type 0} {form : Form} (fixed : FixedIn form S O R Q A) whe
             length-more m,
             ap (λ (x : Stored). length (concat x)) objects,
             length-both p,
-            length-value (fixed.meaning.spelling_of (visible (s.commits ++ c ∷ []) (length s.commits))),
+            kept_value-most fixed.terms.layout (fixed.meaning.spelling_of (visible (s.commits ++ c ∷ []) (length s.commits))),
             length-commit pairs p.value c,
             ap length grown,
             length-append s.commits (c ∷ []),
@@ -207,10 +202,11 @@ module _ {S O R Q A : Type 0} {form : Form} (fixed : FixedIn form S O R Q A) whe
         omega (
           arith,
           modest,
-          length-append (header_of form.version) (concat (fresh [] (both p))),
-          fresh-shorter [] (both p),
+          length-append (header_of form.version) (concat (fresh [] (both p ++ []))),
+          fresh-shorter [] (both p ++ []),
+          ap (λ (x : Stored). length (concat x)) (append-nil (both p)),
           length-both p,
-          length-value (fixed.meaning.spelling_of (visible (root ∷ []) 0)),
+          kept_value-most fixed.terms.layout (fixed.meaning.spelling_of (visible (root ∷ []) 0)),
           ap (λ (x : List (Event O R)). length (fixed.meaning.spelling_of x)) nothing-seen,
           length-commit [] p.value root,
           length-header,

@@ -68,7 +68,7 @@ HasDistinctCommits {S} {O} {R} m =
     let commits = (store_after fixed moves).commits in
     (j k : ℕ) → j < length commits → k < length commits → commit_text (pairs_of fixed commits) j ≡ commit_text (pairs_of fixed commits) k → j ≡ k
 
--- the objects of a move that makes a commit are those of the commit's value and of the commit; other moves have none
+-- the objects of a move that makes a commit are that of the commit's value, where the layout keeps it, and that of the commit; other moves have none
 abbrev pub StoresBoth : {S O R Q A : Type 0} → Meaning S O R Q A → Type 0
 StoresBoth {S} {O} {R} m =
     (terms : Terms) (address : List ℕ → List ℕ) (moves : List (Move O R)) (made : Move O R)

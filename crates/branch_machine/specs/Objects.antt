@@ -1,4 +1,4 @@
--- The objects of a history: for each commit the object of its value, and its own.
+-- The objects of a history: for each commit its own, and before it, in the layout that keeps values, the object of its value.
 use Rattle.std.specs.Prelude.{ℕ, List, [], ◌∷◌, ◌++◌, length, map, drop, slice_get}
 use Rattle.std.specs.declared.option.Option.{Option}
 use Rattle.std.specs.declared.option.Option.TheVariants.{None, Some}
@@ -7,6 +7,8 @@ use Rattle.std.specs.List.{concat, flat_map}
 use Rattle.mrdt_model.specs.Executions.{Event}
 use Rattle.branch_wire.specs.declared.action.Action.{Action}
 use Rattle.branch_wire.specs.declared.action.Action.TheVariants.{Root, Operation, Merge}
+use Rattle.branch_names.specs.declared.layout.Layout.{Layout}
+use Rattle.branch_names.specs.declared.layout.Layout.TheVariants.{Whole, Changes}
 use Rattle.branch_wire.specs.Objects.{CommitFields, value_object, commit_object}
 use Rattle.branch_wire.specs.StoredObjects.{Stored, file_in, fresh}
 use Rattle.branch_history.specs.declared.moves.Move.{Move}
@@ -14,19 +16,35 @@ use Rattle.branch_history.specs.Commits.{Commit, visible}
 use Rattle.branch_history.specs.History.{Store, store_of}
 use Rattle.branch_machine.specs.Fixed.{Form, FixedIn}
 
--- the objects of one commit: of its value, and its own
+-- the objects of one commit: that of its value, which is empty where there is none, and its own
 pub record Pair : Type 0 where
   pub value : List ℕ
   pub commit : List ℕ
 
+-- an object, where there is one
+abbrev pub given : List ℕ → Stored
+given [] = []
+given (b ∷ bs) = (b ∷ bs) ∷ []
+
+-- the object of the value, where there is one, and that of the commit
 abbrev pub both : Pair → Stored
-both p = p.value ∷ p.commit ∷ []
+both p = given p.value ++ p.commit ∷ []
+
+-- a layout keeps the object of a value, or none
+abbrev pub kept_value : Layout → List ℕ → List ℕ
+kept_value Whole spelling = value_object spelling
+kept_value Changes spelling = []
+
+-- and so its address
+abbrev pub kept_address : Layout → List ℕ → Option (List ℕ)
+kept_address Whole address = Some address
+kept_address Changes address = None
 
 -- the object of the commit of this number
 abbrev pub commit_text : List Pair → ℕ → List ℕ
 commit_text pairs n = option_map_or (λ p. p.commit) (slice_get pairs n) []
 
--- the object of its value
+-- the object of its value, where there is one
 abbrev pub value_text : List Pair → ℕ → List ℕ
 value_text pairs n = option_map_or (λ p. p.value) (slice_get pairs n) []
 
@@ -49,13 +67,13 @@ fields_of fixed pairs value c = record {
   parents = map (address_at fixed.address pairs) c.parents;
   branch = c.origin;
   clock = c.clock;
-  value = fixed.address value;
+  value = kept_address fixed.terms.layout (fixed.address value);
   action = action_of fixed c.parents c.event;
 }
 
--- the object of the value of the commit of this number: the spelling of what is visible there
+-- the object of the value of the commit of this number, where the layout keeps it: the spelling of what is visible there
 abbrev pub value_at : {S O R Q A : Type 0} {form : Form} → FixedIn form S O R Q A → List (Commit O R) → ℕ → List ℕ
-value_at fixed commits n = value_object (fixed.meaning.spelling_of (visible commits n))
+value_at fixed commits n = kept_value fixed.terms.layout (fixed.meaning.spelling_of (visible commits n))
 
 -- the objects of a commit that comes behind others, given the objects of those
 abbrev pub pair_at : {S O R Q A : Type 0} {form : Form} → FixedIn form S O R Q A → List (Commit O R) → List Pair → Commit O R → Pair

@@ -10,12 +10,20 @@ use Rattle.branch_history.specs.Machine.{turn, operation_refusal, merge_refusal,
 use Rattle.branch_machine.specs.Objects.{pairs_of, objects_of, new_objects}
 use Rattle.branch_machine.specs.Machine.{collision_refusal, commit_at, full_turn}
 use Rattle.branch_files.specs.Records.{records_of, new_address}
-use Rattle.branch_rows.specs.Rows.{WritesFreshStore, WritesOneOperation, WritesReceived, RefusesTwoValues, RefusesTwoCommits, WritesMaps, WritesJoin}
+use Rattle.branch_rows.specs.Rows.{WritesFreshStore, WritesFreshChanges, WritesOneChange, WritesOneOperation, WritesReceived, RefusesTwoValues, RefusesTwoCommits, WritesMaps, WritesJoin}
 use Rattle.branch_rows.specs.Turns.{JoinsBranches, ReceivesOperations, RefusesOwnOrigins, DropsBranches}
 
 pub fresh_store : WritesFreshStore
 unfolding objects_of pairs_of store_of visible reaches records_of number short_number signed_number wide_number wide_signed_number
 fresh_store terms = (refl, refl, refl)
+
+pub fresh_changes : WritesFreshChanges
+unfolding objects_of pairs_of store_of visible reaches records_of number short_number signed_number wide_number wide_signed_number
+fresh_changes terms = (refl, refl, refl)
+
+pub one_change : WritesOneChange
+unfolding objects_of pairs_of store_of visible reaches records_of new_address number short_number signed_number wide_number wide_signed_number
+one_change in_range origins = (refl, refl, refl)
 
 pub one_operation : WritesOneOperation
 unfolding objects_of pairs_of store_of visible reaches records_of new_address number short_number signed_number wide_number wide_signed_number

@@ -27,6 +27,10 @@ fresh_value = 1 ∷ eight 104 ++ no_keys ++ other_maps
 abbrev pub root : List ℕ
 root = 2 ∷ eight 53 ++ zeros 8 ++ zeros 4 ++ zeros 8 ++ address_of 113 ++ 0 ∷ []
 
+-- the object of the root commit in the layout that keeps no values
+abbrev pub bare_root : List ℕ
+bare_root = 3 ∷ eight 21 ++ zeros 8 ++ zeros 4 ++ zeros 8 ++ 0 ∷ []
+
 -- the header of the objects
 abbrev pub letters : List ℕ
 letters = codes "MRDTOBJS" ++ 0 ∷ 0 ∷ 0 ∷ 2 ∷ zeros 4
@@ -45,7 +49,17 @@ hits_commit origin n =
     2 ∷ eight 123 ++ eight 1 ++ address_of 62 ++ zeros 3 ++ origin ∷ eight 1 ++ address_of 161
     ++ 1 ∷ eight 21 ++ 1 ∷ eight 4 ++ codes "hits" ++ eight n ++ eight 1 ++ 1 ∷ []
 
--- the record of that commit on `main`, behind its gate: the objects end at 484
+-- and in the layout that keeps no values
+abbrev pub bare_commit : ℕ → ℕ → List ℕ
+bare_commit origin n =
+    3 ∷ eight 91 ++ eight 1 ++ address_of 30 ++ zeros 3 ++ origin ∷ eight 1
+    ++ 1 ∷ eight 21 ++ 1 ∷ eight 4 ++ codes "hits" ++ eight n ++ eight 1 ++ 1 ∷ []
+
+-- the record of the commit without a value on `main`, behind its gate: the objects end at 146
+abbrev pub bare_record : List ℕ
+bare_record = 1 ∷ 2 ∷ zeros 4 ++ zeros 4 ++ zeros 7 ++ 146 ∷ address_of 100 ++ zeros 14
+
+-- the record of the commit with a value on `main`, behind its gate: the objects end at 484
 abbrev pub hits_record : List ℕ
 hits_record = 1 ∷ 2 ∷ zeros 4 ++ zeros 4 ++ zeros 6 ++ 1 ∷ 228 ∷ address_of 132 ++ zeros 14
 
@@ -54,6 +68,12 @@ abbrev pub header_of_100 : List ℕ
 header_of_100 =
     1 ∷ codes "MRDTHEAD" ++ zeros 3 ++ 2 ∷ zeros 6 ++ 3 ∷ 232 ∷ zeros 2 ++ 3 ∷ 232 ∷ zeros 2 ++ 3 ∷ 232 ∷ zeros 6 ++ 3 ∷ 232 ∷ zeros 6
     ++ 3 ∷ 232 ∷ 0 ∷ zeros 3 ++ 100 ∷ zeros 14
+
+-- and of a store that keeps no values
+abbrev pub bare_header_of_100 : List ℕ
+bare_header_of_100 =
+    1 ∷ codes "MRDTHEAD" ++ zeros 3 ++ 2 ∷ zeros 6 ++ 3 ∷ 232 ∷ zeros 2 ++ 3 ∷ 232 ∷ zeros 2 ++ 3 ∷ 232 ∷ zeros 6 ++ 3 ∷ 232 ∷ zeros 6
+    ++ 3 ∷ 232 ∷ 0 ∷ zeros 3 ++ 100 ∷ 1 ∷ zeros 13
 
 -- the record of a commit that was received: the objects end at 484
 abbrev pub received_record : List ℕ

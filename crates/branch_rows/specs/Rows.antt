@@ -10,6 +10,8 @@ use Rattle.mrdt_both.specs.declared.both.Side.TheVariants.{First}
 use Rattle.branch_doc.specs.Document.{DocState, document}
 use Rattle.branch_doc.specs.Forms.{DocOp, DocReply, DocQuery, DocAnswer}
 use Rattle.branch_address.specs.Weak.{weak_address}
+use Rattle.branch_names.specs.declared.layout.Layout.{Layout}
+use Rattle.branch_names.specs.declared.layout.Layout.TheVariants.{Whole, Changes}
 use Rattle.branch_names.specs.declared.limits.Limits.{Limits}
 use Rattle.branch_names.specs.declared.terms.Terms.{Terms}
 use Rattle.branch_names.specs.Ranges.{AreInRange, AreOrigins}
@@ -21,14 +23,18 @@ use Rattle.branch_machine.specs.Fixed.{Fixed, fix}
 use Rattle.branch_machine.specs.Objects.{objects_text, end_of}
 use Rattle.branch_machine.specs.Machine.{full_turn}
 use Rattle.branch_files.specs.Records.{header_for, history_text}
-use Rattle.branch_rows.specs.Bytes.{address_of, letters, fresh_value, root, hits_value, hits_commit, hits_record, header_of_100, received_record, place_record, drop_record, fresh_map, map_root, map_value, map_commit, map_record, joined_value, joined_commit, join_record, letter_value, letter_commit}
+use Rattle.branch_rows.specs.Bytes.{address_of, letters, fresh_value, root, bare_root, bare_commit, bare_record, bare_header_of_100, hits_value, hits_commit, hits_record, header_of_100, received_record, place_record, drop_record, fresh_map, map_root, map_value, map_commit, map_record, joined_value, joined_commit, join_record, letter_value, letter_commit}
 
 abbrev pub store : Terms → Fixed DocState DocOp DocReply DocQuery DocAnswer
 store terms = fix document terms weak_address
 
 -- limits, with a first origin
 abbrev pub from : (origin : ℕ) (limits : Limits) → AreOrigins origin limits.branches → Terms
-from origin limits in_range = record { limits = limits; origin = origin; kind = 0; small = le_intro 1 255 refl; in_range = in_range }
+from origin limits in_range = record { limits = limits; origin = origin; kind = 0; layout = Whole; small = le_intro 1 255 refl; in_range = in_range }
+
+-- terms with another layout
+abbrev pub laid_out : Layout → Terms → Terms
+laid_out layout terms = record { limits = terms.limits; origin = terms.origin; kind = terms.kind; layout = layout; small = terms.small; in_range = terms.in_range }
 
 -- limits of a thousand each
 abbrev pub thousands : AreInRange 1000 1000 1000 1000 1000 → Limits
@@ -64,9 +70,27 @@ joined =
 -- a fresh store
 abbrev pub WritesFreshStore : Type 0
 WritesFreshStore =
-    (terms : Terms) → (objects_text (store terms) [] ≡ letters ++ fresh_value ++ root)
-    × (end_of (store terms) [] ≡ 191)
-    × (history_text (store terms) [] ≡ 1 ∷ header_fields (header_for terms))
+    (terms : Terms) → let whole = laid_out Whole terms in
+    (objects_text (store whole) [] ≡ letters ++ fresh_value ++ root)
+    × (end_of (store whole) [] ≡ 191)
+    × (history_text (store whole) [] ≡ 1 ∷ header_fields (header_for whole))
+
+-- a fresh store that keeps no values
+abbrev pub WritesFreshChanges : Type 0
+WritesFreshChanges =
+    (terms : Terms) → let bare = laid_out Changes terms in
+    (objects_text (store bare) [] ≡ letters ++ bare_root)
+    × (end_of (store bare) [] ≡ 46)
+    × (history_text (store bare) [] ≡ 1 ∷ header_fields (header_for bare))
+
+-- after one operation in such a store, whose first origin is 100
+abbrev pub WritesOneChange : Type 0
+WritesOneChange =
+    (in_range : AreInRange 1000 1000 1000 1000 1000) (origins : AreOrigins 100 1000)
+    → let bare = laid_out Changes (from 100 (thousands in_range) origins) in
+    (objects_text (store bare) hits ≡ letters ++ bare_root ++ bare_commit 100 5)
+    × (end_of (store bare) hits ≡ 146)
+    × (history_text (store bare) hits ≡ bare_header_of_100 ++ bare_record)
 
 -- after one operation
 abbrev pub WritesOneOperation : Type 0
@@ -103,7 +127,7 @@ RefusesTwoCommits =
 -- a store of the map of counters
 abbrev pub WritesMaps : Type 0
 WritesMaps =
-    (terms : Terms) → let maps = fix (map_meaning counter_meaning) terms weak_address in
+    (terms : Terms) → let maps = fix (map_meaning counter_meaning) (laid_out Whole terms) weak_address in
     (end_of maps [] ≡ 95) × (end_of maps (move.Operation 0 (adds (codes "hits") 5) tt ∷ []) ≡ 290)
 
 -- such a store after a join

@@ -1,10 +1,21 @@
 // The worked rows. Each stands on a function with an empty body, whose contract is the row.
-ghost use Rattle.branch_rows.specs.Rows.{WritesFreshStore, WritesOneOperation, WritesReceived, RefusesTwoValues, RefusesTwoCommits, WritesMaps, WritesJoin};
+ghost use Rattle.branch_rows.specs.Rows.{WritesFreshStore, WritesFreshChanges, WritesOneChange, WritesOneOperation, WritesReceived, RefusesTwoValues, RefusesTwoCommits, WritesMaps, WritesJoin};
 ghost use Rattle.branch_rows.specs.Turns.{JoinsBranches, ReceivesOperations, RefusesOwnOrigins, DropsBranches};
 
 /// A fresh store of documents has 191 bytes of objects and 64 of heads before the gate, and these they are.
 pub fn writes_fresh_store()
     ensures { WritesFreshStore }
+{}
+
+/// One that keeps no values has 46 bytes of objects, and these they are.
+pub fn writes_fresh_changes()
+    ensures { WritesFreshChanges }
+{}
+
+/// After an operation that adds 5 to the counter `hits`, a store that keeps no values, whose first origin is 100, has
+/// 146 bytes of objects and 128 of heads before the gate, and these they are.
+pub fn writes_one_change()
+    ensures { WritesOneChange }
 {}
 
 /// After an operation that adds 5 to the counter `hits`, the store has 484 bytes of objects and 128 of heads before

@@ -1,5 +1,5 @@
 -- The header's block, without its last byte.
-use Rattle.std.proofs.Common.{◌≡◌, ℕ, List, ◌∷◌, ◌++◌, ◌∙◌, ap, sym, append-nil}
+use Rattle.std.proofs.Common.{ℕ, List, ◌∷◌, ◌++◌, ◌∙◌, ap, sym, append-nil}
 use Rattle.heads_journal.specs.Format.{Header, header_fields}
 use Rattle.heads_journal.proofs.Fronts.{put-behind}
 use Rattle.heads_journal.proofs.Spelled.{length-header_fields}

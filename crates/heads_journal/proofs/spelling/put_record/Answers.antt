@@ -1,5 +1,5 @@
 -- The record's block, without its last byte.
-use Rattle.std.proofs.Common.{◌≡◌, ℕ, List, ◌∷◌, ◌++◌, ◌∙◌, ap, sym, []}
+use Rattle.std.proofs.Common.{ℕ, List, ◌∷◌, ◌++◌, ◌∙◌, ap, []}
 use Rattle.heads_journal.specs.declared.fields.Fields.{Fields}
 use Rattle.heads_journal.specs.Format.{fields_of, record_fields, spelled}
 use Rattle.heads_journal.proofs.Fronts.{put-behind}
