@@ -1,12 +1,13 @@
--- Objects framed by a kind and a length, and items of two of them, at the front of bytes.
+-- Objects framed by a kind and a length, and items of one or two of them, at the front of bytes.
 use Rattle.std.proofs.Common.{◌≡◌, ℕ, ◌+◌, List, [], ◌∷◌, ◌++◌, length, ap, sym, ◌∙◌, arith, append_assoc, length-append}
+use Rattle.branch_names.specs.declared.layout.Layout.{Layout}
 use Rattle.branch_wire.specs.Fields.{field}
 use Rattle.branch_wire.specs.Reading.{HasLength64}
 use Rattle.branch_wire.proofs.Numbers.{same_parts, length-field}
 use Rattle.branch_objects_codec.specs.Parts.{NoneAt}
 use Rattle.branch_objects_codec.proofs.Body.{own}
-use Rattle.branch_bundle_laws.specs.Text.{item_text, IsFramed, IsItemText}
-use Rattle.branch_bundle_laws.proofs.Text.{framed}
+use Rattle.branch_bundle_laws.specs.Text.{item_text, IsFramed, IsValueText, IsItemText}
+use Rattle.branch_bundle_laws.proofs.Text.{values}
 
 -- as many bytes as a kind, a length and a body have are these, where these stand
 pub framed-taken : (old ahead rest object more body : List ℕ) (kind : ℕ) → old ≡ kind ∷ ahead → ahead ≡ field body ++ rest → length object ≡ length body + 9 → old ≡ object ++ more → object ≡ kind ∷ field body
@@ -31,16 +32,16 @@ none-body old ahead kind first none x rest (k, body, short, is) there =
     let inner : ahead ≡ field body ++ rest = cc whole in
     none body rest short inner
 
--- no item stands where its first object does not
-pub none-value : (old : List ℕ) → NoneAt IsFramed own old → NoneAt IsItemText item_text old
-none-value old none item rest fit is = none item.value (item.commit ++ rest) fit.0 (is ∙ append_assoc item.value item.commit rest)
+-- no item stands where its first part does not
+pub none-value : (layout : Layout) (old : List ℕ) → NoneAt (IsValueText layout) own old → NoneAt (IsItemText layout) item_text old
+none-value layout old none item rest fit is = none item.value (item.commit ++ rest) fit.0 (is ∙ append_assoc item.value item.commit rest)
 
 -- nor where its second does not stand behind it
-pub none-commit : (old mid value : List ℕ) → IsFramed value → old ≡ value ++ mid → NoneAt IsFramed own mid → NoneAt IsItemText item_text old
-none-commit old mid value fits found none item rest fit is =
-    none item.commit rest fit.1 (framed.one value item.value mid (item.commit ++ rest) fits fit.0 (sym found ∙ is ∙ append_assoc item.value item.commit rest)).1
+pub none-commit : (layout : Layout) (old mid value : List ℕ) → IsValueText layout value → old ≡ value ++ mid → NoneAt IsFramed own mid → NoneAt (IsItemText layout) item_text old
+none-commit layout old mid value fits found none item rest fit is =
+    none item.commit rest fit.1 ((values layout).one value item.value mid (item.commit ++ rest) fits fit.0 (sym found ∙ is ∙ append_assoc item.value item.commit rest)).1
 
--- two objects, one behind the other
+-- two parts, one behind the other
 pub both-taken : (old mid rest value commit a b : List ℕ) → old ≡ value ++ mid → mid ≡ commit ++ rest → a ≡ value → b ≡ commit → old ≡ (a ++ b) ++ rest
 both-taken old mid rest value commit a b first second p q =
     first ∙ ap (λ (l : List ℕ). value ++ l) second ∙ sym (append_assoc value commit rest) ∙ ap (λ (l : List ℕ). (l ++ commit) ++ rest) (sym p) ∙ ap (λ (l : List ℕ). (a ++ l) ++ rest) (sym q)

@@ -6,7 +6,7 @@ use mrdt_model::{Bytes, Listing};
 pub struct Item {
     /// Its place in the bundle, from 1.
     pub number: u64,
-    /// The bytes of the object of its value.
+    /// The bytes of the object of its value; none where the layout keeps no values.
     pub value: Bytes,
     /// The bytes of its own object.
     pub commit: Bytes,

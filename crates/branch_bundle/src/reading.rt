@@ -3,37 +3,38 @@ ghost use Rattle.std.specs.Prelude.{◌≡◌, ◌<◌, ◌++◌, ◌∷◌, [],
 ghost use Rattle.branch_wire.specs.Fields.{counted};
 ghost use Rattle.branch_wire.specs.Reading.{HasLength, AreCounted};
 ghost use Rattle.branch_objects_codec.specs.Parts.{NoneAt};
-ghost use Rattle.branch_bundle_laws.specs.Text.{item_text, IsFramed, IsItemText};
+ghost use Rattle.branch_bundle_laws.specs.Text.{item_text, IsFramed, IsValueText, IsItemText};
 ghost use Rattle.branch_bundle.specs.declared.errors.BundleRefused.TheVariants as refused;
 ghost use Rattle.branch_bundle.specs.Held.{pair_of, held_text, items_text, numbered, front, IsReadAs, IsNoBundle};
 
 use crate::bundle::{Bundle, Item};
 use crate::errors::BundleRefused;
-use crate::writing::FRONT;
+use crate::writing::front_of;
+use branch_names::Layout;
 use branch_wire::{Cursor, Short};
 use mrdt_model::{Bytes, Listing, Memory, Unread};
 use std::alloc::Global;
 
-/// Reads the bundle whose spelling is the whole of the bytes, with its items numbered from 1. `BadBundle` comes exactly
-/// where they are the spelling of none, and always of item 0. Of the objects the kind, the length and the body are cut
-/// out, and nothing more is looked at.
-pub fn read_bundle(alloc: Global, bytes: &[u8]) -> Result<Bundle, BundleRefused>
-    ensures read { IfOk result (IsReadAs bytes.now) }
+/// Reads the bundle of a layout whose spelling is the whole of the bytes, with its items numbered from 1. `BadBundle`
+/// comes exactly where they are the spelling of none in this layout, and always of item 0. Of the objects the kind, the
+/// length and the body are cut out, and nothing more is looked at.
+pub fn read_bundle(alloc: Global, layout: Layout, bytes: &[u8]) -> Result<Bundle, BundleRefused>
+    ensures read { IfOk result (IsReadAs layout bytes.now) }
     ensures outside { (item : ℕ) → IsErrOf result (refused.BadBundle item)
-        → (item ≡ 0) × IsNoBundle bytes.now }
+        → (item ≡ 0) × IsNoBundle layout bytes.now }
 {
-    Ok(get_bundle(alloc, bytes)?)
+    Ok(get_bundle(alloc, layout, bytes)?)
 }
 
 // The bundle whose spelling is the whole of the bytes.
-fn get_bundle(alloc: Global, bytes: &[u8]) -> Result<Bundle, Unread>
-    ensures read { IfOk result (IsReadAs bytes.now) }
-    ensures outside { IsErrOf result Unread.NotCanonical → IsNoBundle bytes.now }
+fn get_bundle(alloc: Global, layout: Layout, bytes: &[u8]) -> Result<Bundle, Unread>
+    ensures read { IfOk result (IsReadAs layout bytes.now) }
+    ensures outside { IsErrOf result Unread.NotCanonical → IsNoBundle layout bytes.now }
 {
     let mut cursor = Cursor::new(bytes);
-    take_front(&mut cursor)?;
+    take_front(layout, &mut cursor)?;
     let tip = take_tip(&mut cursor)?;
-    let items = take_items(alloc, &mut cursor)?;
+    let items = take_items(alloc, layout, &mut cursor)?;
     if cursor.is_at_end() {
         Ok(Bundle { tip, items })
     } else {
@@ -42,12 +43,13 @@ fn get_bundle(alloc: Global, bytes: &[u8]) -> Result<Bundle, Unread>
 }
 
 // Takes the letters and the version.
-fn take_front(cursor: &mut Cursor<'_>) -> Result<(), Short>
-    ensures ok { OnOk result (cursor.old ≡ front ++ cursor.new) }
-    ensures outside { OnErr result ((rest : List ℕ) → cursor.old ≡ front ++ rest → ⊥) }
+fn take_front(layout: Layout, cursor: &mut Cursor<'_>) -> Result<(), Short>
+    ensures ok { OnOk result (cursor.old ≡ front layout ++ cursor.new) }
+    ensures outside { OnErr result ((rest : List ℕ) → cursor.old ≡ front layout ++ rest → ⊥) }
 {
     let bytes = cursor.take_exact(12)?;
-    if bytes == FRONT.as_slice() {
+    let wanted = front_of(layout);
+    if bytes == wanted.as_slice() {
         Ok(())
     } else {
         Err(Short)
@@ -77,14 +79,32 @@ fn take_framed<'a>(cursor: &mut Cursor<'a>) -> Result<&'a [u8], Short>
     cursor.take_exact(body.len() + 9)
 }
 
-// Takes the two objects of an item.
-fn take_item(alloc: Global, number: u64, cursor: &mut Cursor<'_>) -> Result<Item, Unread>
-    ensures known { IfOk result (λ item. IsItemText (pair_of item)) }
+// Takes the object of a value, where the layout keeps values.
+fn take_value<'a>(layout: Layout, cursor: &mut Cursor<'a>) -> Result<&'a [u8], Short>
+    ensures known { IfOk result (λ value. IsValueText layout value.now) }
+    ensures ok { IfOk result (λ value. cursor.old ≡ value.now ++ cursor.new) }
+    ensures outside { OnErr result (NoneAt (IsValueText layout) (λ value. value) cursor.old) }
+{
+    match layout {
+        Layout::Whole => take_framed(cursor),
+        Layout::Changes => Ok(&[]),
+    }
+}
+
+// Takes the objects of an item.
+fn take_item(
+    alloc: Global,
+    layout: Layout,
+    number: u64,
+    cursor: &mut Cursor<'_>,
+) -> Result<Item, Unread>
+    ensures known { IfOk result (λ item. IsItemText layout (pair_of item)) }
     ensures number { IfOk result (λ item. item.number ≡ number) }
     ensures ok { IfOk result (λ item. cursor.old ≡ held_text item ++ cursor.new) }
-    ensures outside { IsErrOf result Unread.NotCanonical → NoneAt IsItemText item_text cursor.old }
+    ensures outside { IsErrOf result Unread.NotCanonical
+        → NoneAt (IsItemText layout) item_text cursor.old }
 {
-    let value = take_framed(cursor)?;
+    let value = take_value(layout, cursor)?;
     let commit = take_framed(cursor)?;
     Ok(Item {
         number,
@@ -101,17 +121,21 @@ fn push_item(item: Item, list: &mut Vec<Item>) -> Result<(), Memory>
 }
 
 // Takes a count, and that many items. The count is not believed before they are there.
-fn take_items(alloc: Global, cursor: &mut Cursor<'_>) -> Result<Listing<Item>, Unread>
-    ensures known { IfOk result (λ items. AreCounted IsItemText (map pair_of items)) }
+fn take_items(
+    alloc: Global,
+    layout: Layout,
+    cursor: &mut Cursor<'_>,
+) -> Result<Listing<Item>, Unread>
+    ensures known { IfOk result (λ items. AreCounted (IsItemText layout) (map pair_of items)) }
     ensures numbers { IfOk result (λ items. items ≡ numbered 1 (map pair_of items)) }
     ensures ok { IfOk result (λ items. cursor.old ≡ items_text items ++ cursor.new) }
     ensures outside { IsErrOf result Unread.NotCanonical
-        → NoneAt (AreCounted IsItemText) (counted item_text) cursor.old }
+        → NoneAt (AreCounted (IsItemText layout)) (counted item_text) cursor.old }
 {
     let count = cursor.take_u64()?;
     let mut items = Vec::new(alloc);
     for index in 0..count {
-        let item = take_item(alloc, index + 1, cursor)?;
+        let item = take_item(alloc, layout, index + 1, cursor)?;
         push_item(item, &mut items)?;
     }
     Ok(Listing::from_vec(items))

@@ -6,11 +6,14 @@ use Rattle.std.specs.List.{AllByRecursion, position_from, range_with_len}
 use Rattle.std.proofs.lemmas.Bool.{eqb-true, or_left, or_right, both_ways, cases_lt}
 use Rattle.mrdt_model.specs.Laws.{Meaning, KeepsLaws}
 use Rattle.branch_wire.specs.StoredObjects.{same}
+use Rattle.branch_wire.specs.Objects.{commit_object}
+use Rattle.branch_wire.specs.declared.action.Action.TheVariants as wire
 use Rattle.branch_graph.specs.Graph.{parents_of, IsRanked, reaches, any_reaches}
 use Rattle.branch_history.specs.declared.moves.Move.{Move}
 use Rattle.branch_history.specs.declared.moves.Move.TheVariants as move
+use Rattle.branch_names.specs.declared.layout.Layout.{Layout}
 use Rattle.branch_names.specs.declared.terms.Terms.{Terms}
-use Rattle.branch_history.specs.Commits.{Commit, graph_of}
+use Rattle.branch_history.specs.Commits.{Commit, graph_of, visible}
 use Rattle.branch_names.specs.Heads.{branch_named}
 use Rattle.branch_history.specs.Steps.{Step, Here, Forked, Place, Turn}
 use Rattle.branch_history.specs.Machine.{answers, fork_refusal}
@@ -21,7 +24,7 @@ use Rattle.branch_history.proofs.Later.{commits-longer}
 use Rattle.branch_history.proofs.Valid.{store_of-none}
 use Rattle.branch_history.proofs.Kept.{IsKept}
 use Rattle.branch_machine.specs.Fixed.{Fixed, fix}
-use Rattle.branch_machine.specs.Objects.{Pair, commit_text, value_text, pair_at, pairs_of, store_after}
+use Rattle.branch_machine.specs.Objects.{Pair, kept_value, kept_address, commit_text, value_text, pair_at, pairs_of, store_after}
 use Rattle.branch_machine.specs.Machine.{commit_at, full_turn}
 use Rattle.branch_machine.specs.Laws.{HasSize}
 use Rattle.branch_machine.specs.Validity.{IsFullyValid, IsItem, Receives}
@@ -84,7 +87,7 @@ get-pair [] k lt = absurd (omega arith)
 get-pair (q ∷ qs) zero lt = (q, refl, refl, refl)
 get-pair (q ∷ qs) (suc k) lt = get-pair qs k (omega arith)
 
--- commit 0 has the same objects in all histories
+-- commit 0 has the same objects in all histories of a layout
 module _ {S O R Q A : Type 0} (fixed : Fixed S O R Q A) where
   abbrev root : Commit O R
   root = record { parents = []; origin = 0; clock = 0; event = None }
@@ -104,7 +107,7 @@ module _ {S O R Q A : Type 0} (fixed : Fixed S O R Q A) where
       let grown = pairs_of-longer fixed (root ∷ []) longer.more in
       (grown.more, ap (pairs_of fixed) commits ∙ grown.is ∙ ap (λ (l : List Pair). l ++ grown.more) root-alone)
 
-module _ {S O R Q A : Type 0} (meaning : Meaning S O R Q A) (laws : KeepsLaws meaning) (address : List ℕ → List ℕ) (size : HasSize address) (terms others : Terms) (moves : List (Move O R)) (valid : IsFullyValid (fix meaning terms address) moves) (tip : ℕ) (stands : tip < length (store_after (fix meaning terms address) moves).commits) (here : List ℕ) where
+module _ {S O R Q A : Type 0} (meaning : Meaning S O R Q A) (laws : KeepsLaws meaning) (address : List ℕ → List ℕ) (size : HasSize address) (terms others : Terms) (moves : List (Move O R)) (valid : IsFullyValid (fix meaning terms address) moves) (tip : ℕ) (stands : tip < length (store_after (fix meaning terms address) moves).commits) (here : List ℕ) (layouts : terms.layout ≡ others.layout) where
   abbrev one : Fixed S O R Q A
   one = fix meaning terms address
 
@@ -126,16 +129,23 @@ module _ {S O R Q A : Type 0} (meaning : Meaning S O R Q A) (laws : KeepsLaws me
   kept-one : IsKept meaning terms (store_after one moves)
   kept-one = kept one laws size moves valid
 
+  -- the objects of commit 0 in a layout
+  abbrev root_in : Layout → Pair
+  root_in layout =
+      let value = kept_value layout (meaning.spelling_of (visible (root one ∷ []) 0)) in
+      record { value = value; commit = commit_object (record { parents = []; branch = 0; clock = 0; value = kept_address layout (address value); action = wire.Root }) }
+
   root-held : (later : List (Move O R)) → Held other later (item 0)
   unfolding commit_at
   root-held later =
       let first = root-first one moves in
       let second = root-first other later in
       let r : Pair = root_pair one in
+      let alike : pairs_of other (store_after other later).commits ≡ r ∷ second.0 = second.1 ∙ ap (λ (p : Pair). p ∷ second.0) (sym (ap root_in layouts)) in
       let test : Pair → Pair → Bool = λ p q. same q.value p.value && same q.commit p.commit in
       let passes : test r r ≡ true = ap (λ b. b && same r.commit r.commit) (same-refl r.value) ∙ same-refl r.commit in
       let found : position_from (test r) 0 (r ∷ second.0) ≡ Some 0 = ap (λ b. cond b (Some 0) (position_from (test r) 1 second.0)) passes in
-      (0, ap (position_from (test (item 0)) 0) second.1 ∙ ap (λ (l : List Pair). position_from (test (item_at l 0)) 0 (r ∷ second.0)) first.1 ∙ found)
+      (0, ap (position_from (test (item 0)) 0) alike ∙ ap (λ (l : List Pair). position_from (test (item_at l 0)) 0 (r ∷ second.0)) first.1 ∙ found)
 
   -- what is held so far: the commits below a number, and those that are not sent
   record Known (from : ℕ) (later : List (Move O R)) : Type 0 where
@@ -342,10 +352,10 @@ module _ {S O R Q A : Type 0} (meaning : Meaning S O R Q A) (laws : KeepsLaws me
 
     -- and so are its bytes
     pub bytes-taken : (ts : List (Turn O R A)) → let b : Bundle = record { tip = address (commit_text ps tip); items = map item (sent g tip here) } in
-        IsBundle b → ReceivesAll other more b.items ts → MeetsNothing ts → (name : List ℕ) → branch_named (store_after other more).branches name ≡ None → fork_refusal others (more ++ made_by ts) ≡ None
+        IsBundle terms.layout b → ReceivesAll other more b.items ts → MeetsNothing ts → (name : List ℕ) → branch_named (store_after other more).branches name ≡ None → fork_refusal others (more ++ made_by ts) ≡ None
         → let number = length (store_after other more).branches in
         let qs = pairs_of other (store_after other (more ++ made_by ts)).commits in
-        (k : ℕ) × ReceivesBytes other more (bundle_text b) name (Placed (length (made_by ts)) number k) (made_by ts ++ move.Place name number k ∷ []) × (item_at qs k ≡ item tip)
+        (k : ℕ) × ReceivesBytes other more (bundle_text terms.layout b) name (Placed (length (made_by ts)) number k) (made_by ts ++ move.Place name number k ∷ []) × (item_at qs k ≡ item tip)
     bytes-taken ts fits received none name named room =
         let b : Bundle = record { tip = address (commit_text ps tip); items = map item (sent g tip here) } in
         let all = accepted ts received in
@@ -356,4 +366,5 @@ module _ {S O R Q A : Type 0} (meaning : Meaning S O R Q A) (laws : KeepsLaws me
         let makes_one = free other after name there.0 (ap (λ bs. branch_named bs name) grown.branches ∙ named) room in
         let outcome = ap (λ (u : Turn O R A). u.outcome) makes_one ∙ ap (λ bs. Forked (length bs) there.0) grown.branches in
         let made = ap (λ (u : Turn O R A). u.made) makes_one ∙ ap (λ bs. move.Place name (length bs) there.0 ∷ []) grown.branches in
-        (there.0, inr (named, inr (b, fits, refl, (ts, (move.Place name (length (store_after other more).branches) there.0 ∷ []), received, (taken, there.1, outcome, refl, sym made), refl))), there.2)
+        let good : IsBundle others.layout b = subst (λ l. IsBundle l b) layouts fits in
+        (there.0, inr (named, inr (b, good, ap (λ l. bundle_text l b) layouts, (ts, (move.Place name (length (store_after other more).branches) there.0 ∷ []), received, (taken, there.1, outcome, refl, sym made), refl))), there.2)

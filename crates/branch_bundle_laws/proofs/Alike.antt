@@ -29,7 +29,7 @@ use Rattle.branch_bundle_laws.proofs.Made.{IsOperationOn, IsMadeOn}
 use Rattle.branch_bundle_laws.proofs.Behind.{fields_at}
 use Rattle.branch_bundle_laws.proofs.Chosen.{HasSame, hold-chosen}
 use Rattle.branch_machine.proofs.Distinct.{addresses-same}
-use Rattle.branch_bundle_laws.proofs.Fields.{kept, sound, made, behind, fits, one-address, later-event, same-object}
+use Rattle.branch_bundle_laws.proofs.Fields.{kept, sound, made, behind, fits, one-address, later-event, layouts-told, same-object}
 
 -- a commit of the second pairs has the objects of one of the first
 pub record IsAlike (ps qs : List Pair) (n k : ℕ) : Type 0 where
@@ -91,6 +91,10 @@ module _ {S O R Q A : Type 0} (meaning : Meaning S O R Q A) (laws : KeepsLaws me
         let less = (alike n d).0 in
         same-object (fields_at one cs ps n) (fields_at other ds qs (to n)) (fits one laws size moves valid n lt) (fits other laws size more also (to n) less)
         (sym (behind one laws size moves valid n lt).text ∙ (alike n d).1.text ∙ (behind other laws size more also (to n) less).text)
+
+    -- a commit of both tells that they have one layout
+    pub layout-to : (n : ℕ) → D n → terms.layout ≡ others.layout
+    layout-to n d = layouts-told terms.layout others.layout (address (value_text ps n)) (address (value_text qs (to n))) (ap (λ (c : CommitFields). c.value) (fields-same n d))
 
     -- parents are mapped to parents
     pub parents-to : (n : ℕ) → D n → parents_of h (to n) ≡ map to (parents_of g n)

@@ -89,9 +89,9 @@ module _ {S O R Q A : Type 0} (fixed : Fixed S O R Q A) where
       (ap (λ i. Placed i n h) (x.3 ∙ sym y.3) ∙ ap (λ i. Placed d i h) numbers ∙ ap (λ i. Placed d k i) tip_is, x.4 ∙ ap (λ i. (full_turn fixed after (Place name i)).made) tip_is ∙ sym y.4)
 
   module _ (laws : KeepsLaws fixed.meaning) (size : HasSize fixed.address) (moves : List (Move O R)) (valid : IsFullyValid fixed moves) (bytes name : List ℕ) (short : HasLength64 bytes) where
-    commits-short : (b : Bundle) → IsBundle b → bytes ≡ bundle_text b → AllByRecursion (λ item. HasLength64 item.commit) b.items
+    commits-short : (b : Bundle) → IsBundle fixed.terms.layout b → bytes ≡ bundle_text fixed.terms.layout b → AllByRecursion (λ item. HasLength64 item.commit) b.items
     commits-short b fits is =
-        let whole = bundle-length b fits.0 in
+        let whole = bundle-length fixed.terms.layout b fits.0 in
         AllByRecursion-more (λ item. length (item_text item) ≤ length (flat_map item_text b.items)) (λ item. HasLength64 item.commit) b.items
         (λ item le. omega (arith, le, length-append item.value item.commit, whole, ap length is, short)) (flat_map-each item_text b.items)
 
@@ -100,7 +100,7 @@ module _ {S O R Q A : Type 0} (fixed : Fixed S O R Q A) where
     one-free p q l m (inl (none, is, made)) (inr (b, fits, text, rest)) = absurd (none b fits text)
     one-free p q l m (inr (b, fits, text, rest)) (inl (none, is, made)) = absurd (none b fits text)
     one-free p q l m (inr (b, fits, text, (ts, last, received, ends, made))) (inr (c, fits_c, text_c, (us, final, received_c, ends_c, made_c))) =
-        let same_b : c ≡ b = (bundles-one.one c b [] [] fits_c fits (ap (λ x. x ++ []) (sym text_c ∙ text))).0 in
+        let same_b : c ≡ b = ((bundles-one fixed.terms.layout).one c b [] [] fits_c fits (ap (λ x. x ++ []) (sym text_c ∙ text))).0 in
         let items : ReceivesAll fixed moves b.items us = subst (λ (x : Bundle). ReceivesAll fixed moves x.items us) same_b received_c in
         let turns : us ≡ ts = sym (one-fold fixed laws size moves valid b.items (commits-short b fits text) ts us received items) in
         let ends_b : EndsAs fixed (moves ++ made_by us) b.tip name us q final = subst (λ (x : Bundle). EndsAs fixed (moves ++ made_by us) x.tip name us q final) same_b ends_c in
@@ -163,7 +163,7 @@ module _ {S O R Q A : Type 0} (fixed : Fixed S O R Q A) where
   pub some-bytes : (moves : List (Move O R)) (bytes name : List ℕ) → ((p : Receipt) (made : List (Move O R)) → ¬ ReceivesBytes fixed moves bytes name p made) → ⊥
   some-bytes moves bytes name none = at (branch_named (store_after fixed moves).branches name) refl
     where
-      no-bundle : branch_named (store_after fixed moves).branches name ≡ None → (b : Bundle) → IsBundle b → ¬ (bytes ≡ bundle_text b)
+      no-bundle : branch_named (store_after fixed moves).branches name ≡ None → (b : Bundle) → IsBundle fixed.terms.layout b → ¬ (bytes ≡ bundle_text fixed.terms.layout b)
       no-bundle named b fits is =
           some-answers moves b.items
           (λ ts received.

@@ -4,10 +4,14 @@ use Rattle.std.specs.List.{AllByRecursion}
 use Rattle.mrdt_model.specs.Executions.{Event}
 use Rattle.mrdt_model.specs.Laws.{KeepsLaws}
 use Rattle.branch_wire.specs.Fields.{number, field}
-use Rattle.branch_wire.specs.Objects.{CommitFields, commit_body, commit_object}
+use Rattle.branch_wire.specs.Objects.{CommitFields, commit_kind, commit_body, commit_object}
 use Rattle.branch_wire.proofs.Numbers.{same_parts, length-number}
 use Rattle.branch_objects_codec.specs.Parts.{ActionFits}
 use Rattle.branch_objects_codec.proofs.Body.{Five_fits, five_of, fives, from_five}
+use Rattle.branch_names.specs.declared.layout.Layout.{Layout}
+use Rattle.branch_names.specs.declared.layout.Layout.TheVariants.{Whole, Changes}
+use Rattle.branch_wire.specs.Reading.{HasLength}
+use Rattle.branch_objects_codec.specs.Grammar.{IsValueAddress}
 use Rattle.branch_graph.specs.Graph.{parents_of}
 use Rattle.branch_history.specs.declared.moves.Move.{Move}
 use Rattle.branch_history.specs.Commits.{Commit, graph_of, clock_of, event_of, greatest_clock}
@@ -19,7 +23,7 @@ use Rattle.branch_history.proofs.Reach.{parents_of-zero}
 use Rattle.branch_history.proofs.Kept.{IsKept}
 use Rattle.branch_history.proofs.Histories.{valid-kept}
 use Rattle.branch_machine.specs.Fixed.{Fixed}
-use Rattle.branch_machine.specs.Objects.{Pair, commit_text, value_text, silent_action, action_of, pairs_of, store_after, objects_of}
+use Rattle.branch_machine.specs.Objects.{Pair, kept_value, kept_address, commit_text, value_text, silent_action, action_of, pairs_of, store_after, objects_of}
 use Rattle.branch_machine.specs.Laws.{HasSize}
 use Rattle.branch_machine.specs.Validity.{IsFullyValid}
 use Rattle.branch_machine.proofs.Valid.{valid-before}
@@ -27,12 +31,32 @@ use Rattle.branch_machine.proofs.Distinct.{IsSound, valid-sound, all-sized, few-
 use Rattle.branch_bundle_laws.proofs.Made.{IsMadeOn, AreMade, valid-made}
 use Rattle.branch_bundle_laws.proofs.Behind.{fields_at, IsBehind, is-behind}
 
+-- the address of a value, where it is kept, has 32 bytes
+kept-sized : (layout : Layout) (a : List ℕ) → HasLength 32 a → IsValueAddress (kept_address layout a)
+kept-sized Whole a long = long
+kept-sized Changes a long = tt
+
+-- whether it is kept tells the layout
+pub layouts-told : (l m : Layout) (a b : List ℕ) → kept_address l a ≡ kept_address m b → l ≡ m
+layouts-told Whole Whole a b is = refl
+layouts-told Whole Changes a b is = absurd (cc is)
+layouts-told Changes Whole a b is = absurd (cc is)
+layouts-told Changes Changes a b is = refl
+
+-- values whose addresses are kept alike are the same, where addresses tell them apart
+pub values-told : (l m : Layout) (address : List ℕ → List ℕ) (v w s t : List ℕ) → kept_address l (address v) ≡ kept_address m (address w) → v ≡ kept_value l s → w ≡ kept_value m t → (address v ≡ address w → v ≡ w) → v ≡ w
+values-told Whole Whole address v w s t is p q told = let same : address v ≡ address w = cc is in told same
+values-told Whole Changes address v w s t is p q told = absurd (cc is)
+values-told Changes Whole address v w s t is p q told = absurd (cc is)
+values-told Changes Changes address v w s t is p q told = p ∙ sym q
+
 -- equal objects are of equal fields
-pub same-object : (c d : CommitFields) → Five_fits (five_of c) → Five_fits (five_of d) → commit_object c ≡ commit_object d → c ≡ d
+pub same-object : (c d : CommitFields) → Five_fits (commit_kind c.value) (five_of c) → Five_fits (commit_kind d.value) (five_of d) → commit_object c ≡ commit_object d → c ≡ d
 same-object c d p q is =
+    let kinds : commit_kind c.value ≡ commit_kind d.value = cc is in
     let inner : field (commit_body c) ≡ field (commit_body d) = cc is in
     let bodies = (same_parts (number (length (commit_body c))) (commit_body c) (number (length (commit_body d))) (commit_body d) (length-number (length (commit_body c)) ∙ sym (length-number (length (commit_body d)))) inner).1 in
-    from_five c d (fives.one (five_of c) (five_of d) [] [] p q (append-nil (commit_body c) ∙ bodies ∙ sym (append-nil (commit_body d)))).0
+    from_five c d ((fives (commit_kind d.value)).one (five_of c) (five_of d) [] [] (subst (λ (k : ℕ). Five_fits k (five_of c)) kinds p) q (append-nil (commit_body c) ∙ bodies ∙ sym (append-nil (commit_body d)))).0
 
 -- what is known of a valid history
 module _ {S O R Q A : Type 0} (fixed : Fixed S O R Q A) (laws : KeepsLaws fixed.meaning) (size : HasSize fixed.address) (moves : List (Move O R)) (valid : IsFullyValid fixed moves) where
@@ -78,12 +102,12 @@ module _ {S O R Q A : Type 0} (fixed : Fixed S O R Q A) (laws : KeepsLaws fixed.
       let high = fixed.terms.limits.in_range.value_high in
       (omega arith, omega arith)
 
-  pub fits : (n : ℕ) → n < length commits → Five_fits (five_of (fields_at fixed commits pairs n))
+  pub fits : (n : ℕ) → n < length commits → Five_fits (commit_kind (fields_at fixed commits pairs n).value) (five_of (fields_at fixed commits pairs n))
   fits n lt =
       let few = (sound.spelled n lt).few in
       let low = kept.low n in
       let high = fixed.terms.limits.in_range.clock_high in
-      (((((omega (arith, few-sized fixed.address size pairs (parents_of (graph_of commits) n)), all-sized fixed.address size pairs (parents_of (graph_of commits) n)), kept.ordered.small n lt), omega arith), size (value_text pairs n)), action-fits n lt (event_of commits n) refl)
+      (((((omega (arith, few-sized fixed.address size pairs (parents_of (graph_of commits) n)), all-sized fixed.address size pairs (parents_of (graph_of commits) n)), kept.ordered.small n lt), omega arith), (refl, kept-sized fixed.terms.layout (fixed.address (value_text pairs n)) (size (value_text pairs n)))), action-fits n lt (event_of commits n) refl)
 
   greatest-low : (b : ℕ) (ns : List ℕ) → AllByRecursion (λ p. clock_of commits p ≤ b) ns → greatest_clock commits ns ≤ b
   greatest-low b [] all = omega arith

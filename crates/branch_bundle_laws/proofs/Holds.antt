@@ -8,7 +8,7 @@ use Rattle.branch_wire.specs.StoredObjects.{same}
 use Rattle.branch_graph.specs.Graph.{parents_of, reaches, any_reaches}
 use Rattle.branch_history.specs.declared.moves.Move.{Move}
 use Rattle.branch_names.specs.declared.terms.Terms.{Terms}
-use Rattle.branch_history.specs.Commits.{Commit, graph_of}
+use Rattle.branch_history.specs.Commits.{Commit, graph_of, visible}
 use Rattle.branch_history.proofs.Lists.{any_at, AllByRecursion-more, AllByRecursion-both}
 use Rattle.branch_history.proofs.Merging.{filter-all, filter-passes}
 use Rattle.branch_history.proofs.Reach.{reaches-step}
@@ -24,7 +24,7 @@ use Rattle.branch_machine.proofs.Items.{at-found}
 use Rattle.branch_bundle_laws.specs.Bundles.{item_at, commits_here, is_sent}
 use Rattle.branch_bundle_laws.specs.Laws.{AreTold, HasAddresses, HoldsLeftOut}
 use Rattle.branch_bundle_laws.proofs.Behind.{fields_at}
-use Rattle.branch_bundle_laws.proofs.Fields.{kept, behind, fits, same-object}
+use Rattle.branch_bundle_laws.proofs.Fields.{kept, behind, fits, values-told, same-object}
 use Rattle.branch_bundle_laws.proofs.Folds.{Held}
 use Rattle.branch_bundle_laws.proofs.Accept.{unsent, position-some, get-pair}
 use Rattle.branch_bundle_laws.proofs.Text.{row-below}
@@ -84,7 +84,9 @@ module _ {S O R Q A : Type 0} (meaning : Meaning S O R Q A) (laws : KeepsLaws me
     unfolding commit_at
     held-from n k lt less is =
         let texts : commit_text ps n ≡ commit_text qs k = told.commits n k lt less is in
-        let values : value_text ps n ≡ value_text qs k = told.values n k lt less (ap (λ (c : CommitFields). c.value) (fields-same n k lt less texts)) in
+        let values : value_text ps n ≡ value_text qs k =
+        values-told terms.layout others.layout address (value_text ps n) (value_text qs k) (meaning.spelling_of (visible cs n)) (meaning.spelling_of (visible ds k)) (ap (λ (c : CommitFields). c.value) (fields-same n k lt less texts))
+        (behind one laws size moves valid n lt).value (behind other laws size more also k less).value (told.values n k lt less) in
         let get = get-pair qs k (omega (arith, less, length-pairs_of other ds)) in
         let q : Pair = get.0 in
         let first : same q.value (value_text ps n) ≡ true = ap (λ (x : List ℕ). same x (value_text ps n)) (get.2 ∙ sym values) ∙ same-refl (value_text ps n) in

@@ -7,7 +7,6 @@ use Rattle.mrdt_model.specs.Executions.{Event, event_at, IsSameEvent, AreSameEve
 use Rattle.mrdt_model.specs.Laws.{Meaning, KeepsLaws, Lawful}
 use Rattle.mrdt_model.proofs.Executions.{next-lawful}
 use Rattle.mrdt_model.proofs.SameEvents.{times-alike}
-use Rattle.branch_wire.specs.Objects.{value_object}
 use Rattle.branch_wire.specs.declared.action.Action.TheVariants as wire
 use Rattle.branch_history.specs.Laws.{IsEventAt}
 use Rattle.branch_graph.specs.Graph.{parents_of, reaches}
@@ -22,7 +21,7 @@ use Rattle.branch_history.proofs.Grown.{visible-chosen, visible_at_all-one, visi
 use Rattle.branch_history.proofs.Kept.{IsKept, visible-after, visible_at_all-closed, closed-lawful}
 use Rattle.branch_history.proofs.Histories.{visible-lawful, few_chosen}
 use Rattle.branch_machine.specs.Fixed.{Fixed, fix}
-use Rattle.branch_machine.specs.Objects.{Pair, commit_text, value_text, address_at, silent_action, action_of, pair_at, pairs_of, store_after}
+use Rattle.branch_machine.specs.Objects.{Pair, kept_value, kept_address, commit_text, value_text, address_at, silent_action, action_of, pair_at, pairs_of, store_after}
 use Rattle.branch_machine.specs.Machine.{pair_next}
 use Rattle.branch_machine.specs.Laws.{HasSize}
 use Rattle.branch_machine.specs.Validity.{IsFullyValid, IsItem}
@@ -32,7 +31,7 @@ use Rattle.branch_bundle_laws.proofs.Mapped.{few-mapped, apart-mapped}
 use Rattle.branch_bundle_laws.proofs.Made.{IsOperationOn, IsMergeOn, IsMadeOn}
 use Rattle.branch_bundle_laws.proofs.Behind.{object}
 use Rattle.branch_bundle_laws.proofs.Fields.{kept, made, behind}
-use Rattle.branch_bundle_laws.proofs.Alike.{IsAlike, one-to, addresses-to, within-to, clock-to, greatest-to, reach-same, hold-same, hold-all}
+use Rattle.branch_bundle_laws.proofs.Alike.{IsAlike, layout-to, one-to, addresses-to, within-to, clock-to, greatest-to, reach-same, hold-same, hold-all}
 
 -- one more event that is the same
 hold-more : {O R : Type 0} (e f : Event O R) (x y : List (Event O R)) → IsSameEvent e f → HoldSameEvents x y → HoldSameEvents (e ∷ x) (f ∷ y)
@@ -79,20 +78,22 @@ module _ {S O R Q A : Type 0} (meaning : Meaning S O R Q A) (laws : KeepsLaws me
 
   module _ (D : ℕ → Type 0) (to : ℕ → ℕ) (inside : (n : ℕ) → D n → n < length cs) (down : (n : ℕ) → D n → AllByRecursion D (parents_of g n)) (alike : (n : ℕ) → D n → (to n < length ds) × IsAlike ps qs n (to n)) (n : ℕ) (lt : n < length cs) where
     -- a commit that would come next has the objects of commit n, if it has its fields and shows the same
-    same-objects : (c : Commit O R) (ns : List ℕ) → AllByRecursion D ns → parents_of g n ≡ ns → c.parents ≡ map to ns → c.origin ≡ origin_of cs n → c.clock ≡ clock_of cs n
+    same-objects : terms.layout ≡ others.layout → (c : Commit O R) (ns : List ℕ) → AllByRecursion D ns → parents_of g n ≡ ns → c.parents ≡ map to ns → c.origin ≡ origin_of cs n → c.clock ≡ clock_of cs n
         → action_of other c.parents c.event ≡ action_of one (parents_of g n) (event_of cs n) → meaning.spelling_of (visible (ds ++ c ∷ []) (length ds)) ≡ meaning.spelling_of (visible cs n)
         → pair_next other more c ≡ item_at ps n
-    same-objects c ns all parents_are parents origins clocks actions spellings =
+    same-objects layouts c ns all parents_are parents origins clocks actions spellings =
         let p : Pair = pair_at other ds qs c in
-        let values : p.value ≡ value_text ps n = ap value_object spellings ∙ sym (behind one laws size moves valid n lt).value in
+        let values : p.value ≡ value_text ps n =
+        ap (kept_value others.layout) spellings ∙ ap (λ l. kept_value l (meaning.spelling_of (visible cs n))) (sym layouts) ∙ sym (behind one laws size moves valid n lt).value in
         let lists : map (address_at address qs) c.parents ≡ map (address_at address ps) (parents_of g n) =
         ap (map (address_at address qs)) parents ∙ sym (addresses-to meaning laws address size terms others moves more valid also D to inside down alike ns all) ∙ ap (map (address_at address ps)) (sym parents_are) in
         let texts : p.commit ≡ commit_text ps n =
-        ap (λ l. object l c.origin c.clock (address p.value) (action_of other c.parents c.event)) lists
-        ∙ ap (λ k. object (map (address_at address ps) (parents_of g n)) k c.clock (address p.value) (action_of other c.parents c.event)) origins
-        ∙ ap (λ k. object (map (address_at address ps) (parents_of g n)) (origin_of cs n) k (address p.value) (action_of other c.parents c.event)) clocks
-        ∙ ap (λ v. object (map (address_at address ps) (parents_of g n)) (origin_of cs n) (clock_of cs n) (address v) (action_of other c.parents c.event)) values
-        ∙ ap (λ a. object (map (address_at address ps) (parents_of g n)) (origin_of cs n) (clock_of cs n) (address (value_text ps n)) a) actions
+        ap (λ l. object l c.origin c.clock (kept_address others.layout (address p.value)) (action_of other c.parents c.event)) lists
+        ∙ ap (λ k. object (map (address_at address ps) (parents_of g n)) k c.clock (kept_address others.layout (address p.value)) (action_of other c.parents c.event)) origins
+        ∙ ap (λ k. object (map (address_at address ps) (parents_of g n)) (origin_of cs n) k (kept_address others.layout (address p.value)) (action_of other c.parents c.event)) clocks
+        ∙ ap (λ v. object (map (address_at address ps) (parents_of g n)) (origin_of cs n) (clock_of cs n) (kept_address others.layout (address v)) (action_of other c.parents c.event)) values
+        ∙ ap (λ l. object (map (address_at address ps) (parents_of g n)) (origin_of cs n) (clock_of cs n) (kept_address l (address (value_text ps n))) (action_of other c.parents c.event)) (sym layouts)
+        ∙ ap (λ a. object (map (address_at address ps) (parents_of g n)) (origin_of cs n) (clock_of cs n) (kept_address terms.layout (address (value_text ps n))) a) actions
         ∙ sym (behind one laws size moves valid n lt).text in
         ap (λ v. record { value = v; commit = p.commit }) values ∙ ap (λ t. record { value = value_text ps n; commit = t }) texts
 
@@ -190,7 +191,7 @@ module _ {S O R Q A : Type 0} (meaning : Meaning S O R Q A) (laws : KeepsLaws me
           commit = c;
           received = refl;
           clock = omega (arith, clocks, in-range);
-          objects = same-objects c (p ∷ []) known ea.parents refl refl (sym clocks) actions spellings;
+          objects = same-objects (layout-to meaning laws address size terms others moves more valid also D to inside down alike p known.0) c (p ∷ []) known ea.parents refl refl (sym clocks) actions spellings;
         },
       )
 
@@ -244,7 +245,7 @@ module _ {S O R Q A : Type 0} (meaning : Meaning S O R Q A) (laws : KeepsLaws me
           commit = merged;
           received = refl;
           clock = omega (arith, merge-clocks, in-range);
-          objects = same-objects merged (a ∷ ms) known-all mo.parents_are refl refl (sym merge-clocks) merge-actions spelled;
+          objects = same-objects (layout-to meaning laws address size terms others moves more valid also D to inside down alike a known-all.0) merged (a ∷ ms) known-all mo.parents_are refl refl (sym merge-clocks) merge-actions spelled;
         },
       )
 

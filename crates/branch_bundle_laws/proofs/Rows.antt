@@ -2,6 +2,7 @@
 use Rattle.std.proofs.Common.{◌≡◌, ◌<◌, ◌^◌, ℕ, List, [], ◌∷◌, ◌++◌, Some, None, refl, sum, map, codes, arith, rules}
 use Rattle.mrdt_model.specs.Executions.{Event}
 use Rattle.mrdt_model.specs.Laws.{Meaning}
+use Rattle.branch_names.specs.declared.layout.Layout.TheVariants.{Whole}
 use Rattle.branch_names.specs.Ranges.{AreInRange, AreOrigins}
 use Rattle.branch_history.specs.declared.moves.Move.{Move}
 use Rattle.branch_history.specs.declared.moves.Move.TheVariants as move
@@ -82,7 +83,7 @@ small_kind = omega arith
 
 -- a store whose first origin is this, where each object is its own address
 abbrev store : (origin : ℕ) → AreOrigins origin 1000 → Fixed ℕ ℕ NoReply NoReply ℕ
-store origin in_range = fix counter (record { limits = record { clock = 1000; commits = 1000; branches = 1000; value = 1000; moves = 1000; in_range = ample_range }; origin = origin; kind = 0; small = small_kind; in_range = in_range }) (λ bytes. bytes)
+store origin in_range = fix counter (record { limits = record { clock = 1000; commits = 1000; branches = 1000; value = 1000; moves = 1000; in_range = ample_range }; origin = origin; kind = 0; layout = Whole; small = small_kind; in_range = in_range }) (λ bytes. bytes)
 
 -- the one that sends, and the one that receives
 abbrev here : Fixed ℕ ℕ NoReply NoReply ℕ

@@ -6,22 +6,25 @@ use Rattle.std.proofs.lemmas.List.FromFn.{length-range_with_len}
 use Rattle.mrdt_model.specs.Laws.{KeepsLaws}
 use Rattle.branch_wire.specs.Fields.{short_number, field, counted}
 use Rattle.branch_wire.specs.Reading.{HasLength, HasLength64, ReadsOneWay, AreCounted}
-use Rattle.branch_wire.specs.Objects.{commit_body}
+use Rattle.branch_wire.specs.Objects.{commit_kind, commit_body}
 use Rattle.branch_wire.proofs.Numbers.{same_parts, length-short_number, length-field}
 use Rattle.branch_wire.proofs.OneWay.{fields, pairs}
 use Rattle.branch_wire.proofs.Lists.{counted-one_way, length-counted, flat_map-each}
 use Rattle.branch_objects_codec.proofs.Body.{own, addresses}
+use Rattle.branch_names.specs.declared.layout.Layout.{Layout}
+use Rattle.branch_names.specs.declared.layout.Layout.TheVariants.{Whole, Changes}
 use Rattle.branch_history.specs.declared.moves.Move.{Move}
 use Rattle.branch_history.specs.Commits.{Commit, visible, graph_of}
 use Rattle.branch_history.proofs.Lists.{AllByRecursion-more}
 use Rattle.branch_history.proofs.Merging.{filter-all, filter-shorter}
 use Rattle.branch_history.proofs.Grown.{length-graph}
 use Rattle.branch_machine.specs.Fixed.{Fixed}
-use Rattle.branch_machine.specs.Objects.{Pair, pairs_of, store_after}
+use Rattle.branch_machine.specs.Objects.{Pair, kept_value, pairs_of, store_after}
 use Rattle.branch_machine.specs.Laws.{HasSize}
 use Rattle.branch_machine.specs.Validity.{IsFullyValid}
 use Rattle.branch_bundle_laws.specs.Bundles.{Bundle, item_at, commits_here, is_sent, sent, bundle_of}
-use Rattle.branch_bundle_laws.specs.Text.{item_text, bundle_text, IsFramed, IsItemText, IsBundle}
+use Rattle.branch_bundle_laws.specs.Text.{item_text, bundle_version, bundle_text, IsFramed, IsValueText, IsItemText, IsBundle}
+use Rattle.branch_bundle_laws.specs.Laws.{HasRowLength}
 use Rattle.branch_bundle_laws.proofs.Mapped.{length-mapped}
 use Rattle.branch_bundle_laws.proofs.Behind.{fields_at}
 use Rattle.branch_bundle_laws.proofs.Fields.{kept, behind}
@@ -37,41 +40,72 @@ framed-one x y a b (k, v, short, p) (j, w, also, q) is =
 pub framed : ReadsOneWay IsFramed own
 framed = record { one = framed-one }
 
-pub items-one : ReadsOneWay IsItemText item_text
-items-one = record {
+-- a layout has an object for a value, or nothing
+pub values : (layout : Layout) → ReadsOneWay (IsValueText layout) own
+values Whole = framed
+values Changes = record { one = λ x y a b none also is. (none ∙ sym also, ap (λ (l : List ℕ). l ++ a) (sym none) ∙ is ∙ ap (λ (l : List ℕ). l ++ b) also) }
+
+pub items-one : (layout : Layout) → ReadsOneWay (IsItemText layout) item_text
+items-one layout = record {
   one = λ x y a b p q is.
-      let one = (pairs IsFramed IsFramed own own framed framed).one (x.value, x.commit) (y.value, y.commit) a b p q is in
+      let one = (pairs (IsValueText layout) IsFramed own own (values layout) framed).one (x.value, x.commit) (y.value, y.commit) a b p q is in
       (ap (λ (z : List ℕ × List ℕ). record { value = z.0; commit = z.1 }) one.0, one.1);
 }
 
 -- the letters and the version
-abbrev front : List ℕ
-front = codes "MRDTBNDL" ++ short_number 1
+abbrev front : Layout → List ℕ
+front layout = codes "MRDTBNDL" ++ short_number (bundle_version layout)
 
 abbrev rest_of : Bundle → List ℕ
 rest_of b = b.tip ++ counted item_text b.items
 
-grouped : (b : Bundle) (a : List ℕ) → bundle_text b ++ a ≡ front ++ (rest_of b ++ a)
-grouped b a = ap (λ l. l ++ a) (sym (append_assoc (codes "MRDTBNDL") (short_number 1) (rest_of b))) ∙ append_assoc front (rest_of b) a
+grouped : (layout : Layout) (b : Bundle) (a : List ℕ) → bundle_text layout b ++ a ≡ front layout ++ (rest_of b ++ a)
+grouped layout b a =
+    ap (λ l. l ++ a) (sym (append_assoc (codes "MRDTBNDL") (short_number (bundle_version layout)) (rest_of b))) ∙ append_assoc (front layout) (rest_of b) a
 
-pub bundles-one : ReadsOneWay IsBundle bundle_text
-bundles-one = record {
+pub bundles-one : (layout : Layout) → ReadsOneWay (IsBundle layout) (bundle_text layout)
+bundles-one layout = record {
   one = λ x y a b p q is.
-      let inner = (same_parts front (rest_of x ++ a) front (rest_of y ++ b) refl (sym (grouped x a) ∙ is ∙ grouped y b)).1 in
-      let one = (pairs (HasLength 32) (AreCounted IsItemText) own (counted item_text) addresses (counted-one_way IsItemText item_text items-one)).one (x.tip, x.items) (y.tip, y.items) a b p q inner in
+      let inner = (same_parts (front layout) (rest_of x ++ a) (front layout) (rest_of y ++ b) refl (sym (grouped layout x a) ∙ is ∙ grouped layout y b)).1 in
+      let one = (pairs (HasLength 32) (AreCounted (IsItemText layout)) own (counted item_text) addresses (counted-one_way (IsItemText layout) item_text (items-one layout))).one (x.tip, x.items) (y.tip, y.items) a b p q inner in
       (ap (λ (z : List ℕ × List Pair). record { tip = z.0; items = z.1 }) one.0, one.1);
 }
 
-pub bundle-length : (b : Bundle) → length b.tip ≡ 32 → length (bundle_text b) ≡ 52 + length (flat_map item_text b.items)
-bundle-length b is =
-    let first : length (bundle_text b) ≡ 8 + length (short_number 1 ++ rest_of b) = omega arith in
-    omega (arith, first, length-append (short_number 1) (rest_of b), length-short_number 1, length-append b.tip (counted item_text b.items), length-counted item_text b.items, is)
+-- the versions have as many bytes, and other ones
+front-length : (layout : Layout) → length (front layout) ≡ 12
+front-length layout = omega (arith, length-short_number (bundle_version layout), length-append (codes "MRDTBNDL") (short_number (bundle_version layout)))
 
-pub row-length-is : (tip value commit : List ℕ) → length tip ≡ 32 → length value ≡ 161 → length commit ≡ 132 → length (bundle_text (record { tip = tip; items = (record { value = value; commit = commit }) ∷ [] })) ≡ 345
-row-length-is tip value commit is first second =
-    let whole = bundle-length (record { tip = tip; items = (record { value = value; commit = commit }) ∷ [] }) is in
-    let items : length (flat_map item_text ((record { value = value; commit = commit }) ∷ [])) ≡ length (value ++ commit) + 0 = length-append (value ++ commit) [] in
-    omega (arith, whole, items, length-append value commit, first, second)
+fronts-told : (l m : Layout) → front l ≡ front m → l ≡ m
+unfolding short_number
+fronts-told Whole Whole is = refl
+fronts-told Whole Changes is = absurd (cc is)
+fronts-told Changes Whole is = absurd (cc is)
+fronts-told Changes Changes is = refl
+
+pub versions-told : (l m : Layout) (b c : Bundle) (x y : List ℕ) → bundle_text l b ++ x ≡ bundle_text m c ++ y → l ≡ m
+versions-told l m b c x y is =
+    fronts-told l m (same_parts (front l) (rest_of b ++ x) (front m) (rest_of c ++ y) (front-length l ∙ sym (front-length m)) (sym (grouped l b x) ∙ is ∙ grouped m c y)).0
+
+pub bundle-length : (layout : Layout) (b : Bundle) → length b.tip ≡ 32 → length (bundle_text layout b) ≡ 52 + length (flat_map item_text b.items)
+bundle-length layout b is =
+    let version : List ℕ = short_number (bundle_version layout) in
+    let first : length (bundle_text layout b) ≡ 8 + length (version ++ rest_of b) = omega arith in
+    omega (arith, first, length-append version (rest_of b), length-short_number (bundle_version layout), length-append b.tip (counted item_text b.items), length-counted item_text b.items, is)
+
+abbrev of_one : List ℕ → List ℕ → List ℕ → Bundle
+of_one tip value commit = record { tip = tip; items = (record { value = value; commit = commit }) ∷ [] }
+
+one-length : (layout : Layout) (tip value commit : List ℕ) → length tip ≡ 32 → length (bundle_text layout (of_one tip value commit)) ≡ 52 + length value + length commit
+one-length layout tip value commit is =
+    let whole = bundle-length layout (of_one tip value commit) is in
+    let items : length (flat_map item_text (of_one tip value commit).items) ≡ length (value ++ commit) + 0 = length-append (value ++ commit) [] in
+    omega (arith, whole, items, length-append value commit)
+
+pub row-length-is : HasRowLength
+row-length-is tip value commit is = (
+  λ first second. omega (arith, one-length Whole tip value commit is, first, second),
+  λ alone. omega (arith, one-length Changes tip [] commit is, alone),
+)
 
 -- numbers in a row
 pub row-below : (a n : ℕ) → AllByRecursion (λ k. k < a + n) (range_with_len a n)
@@ -91,30 +125,34 @@ module _ {S O R Q A : Type 0} (fixed : Fixed S O R Q A) (laws : KeepsLaws fixed.
   abbrev ns : List ℕ
   ns = sent (graph_of commits) tip (commits_here fixed.address ps list)
 
+  value-framed : (layout : Layout) (v text : List ℕ) → HasLength64 text → text ≡ kept_value layout v → IsValueText layout text
+  value-framed Whole v text short is = (1, v, omega (arith, short, ap length is, length-field v), is)
+  value-framed Changes v text short is = is
+
   -- the item of a commit is framed, if it is short
-  item-framed : (n : ℕ) → n < length commits → HasLength64 (item_text (item_at ps n)) → IsItemText (item_at ps n)
+  item-framed : (n : ℕ) → n < length commits → HasLength64 (item_text (item_at ps n)) → IsItemText fixed.terms.layout (item_at ps n)
   item-framed n lt short =
       let at = behind fixed laws size moves valid n lt in
       let v : List ℕ = fixed.meaning.spelling_of (visible commits n) in
-      let body : List ℕ = commit_body (fields_at fixed commits ps n) in
+      let fields = fields_at fixed commits ps n in
+      let body : List ℕ = commit_body fields in
       let all : length (item_text (item_at ps n)) ≡ length (item_at ps n).value + length (item_at ps n).commit = length-append (item_at ps n).value (item_at ps n).commit in
-      let first : length (item_at ps n).value ≡ 1 + (8 + length v) = ap length at.value ∙ ap suc (length-field v) ∙ omega arith in
       let second : length (item_at ps n).commit ≡ 1 + (8 + length body) = ap length at.text ∙ ap suc (length-field body) ∙ omega arith in
-      ((1, v, omega (arith, all, first, short), at.value), (2, body, omega (arith, all, second, short), at.text))
+      (value-framed fixed.terms.layout v (item_at ps n).value (omega (arith, all, short)) at.value, (commit_kind fields.value, body, omega (arith, all, second, short), at.text))
 
   sent-below : AllByRecursion (λ n. n < length commits) ns
   sent-below =
       filter-all (is_sent (graph_of commits) tip (commits_here fixed.address ps list)) (λ n. n < length commits) (range_with_len 0 (length (graph_of commits)))
       (AllByRecursion-more (λ k. k < 0 + length (graph_of commits)) (λ k. k < length commits) (range_with_len 0 (length (graph_of commits))) (λ k lt. omega (arith, lt, length-graph commits)) (row-below 0 (length (graph_of commits))))
 
-  all-framed : (most : ℕ) → most < 2 ^ 64 → (ks : List ℕ) → AllByRecursion (λ n. n < length commits) ks → AllByRecursion (λ (p : Pair). length (item_text p) ≤ most) (map (item_at ps) ks) → AllByRecursion IsItemText (map (item_at ps) ks)
+  all-framed : (most : ℕ) → most < 2 ^ 64 → (ks : List ℕ) → AllByRecursion (λ n. n < length commits) ks → AllByRecursion (λ (p : Pair). length (item_text p) ≤ most) (map (item_at ps) ks) → AllByRecursion (IsItemText fixed.terms.layout) (map (item_at ps) ks)
   all-framed most small [] below short = tt
   all-framed most small (k ∷ ks) below short = (item-framed k below.0 (omega (arith, short.0)), all-framed most small ks below.1 short.1)
 
   -- what is sent is a bundle
-  pub sent-bundle : HasLength64 (bundle_text b) → IsBundle b
+  pub sent-bundle : HasLength64 (bundle_text fixed.terms.layout b) → IsBundle fixed.terms.layout b
   sent-bundle short =
-      let whole = bundle-length b (size _) in
+      let whole = bundle-length fixed.terms.layout b (size _) in
       let few = (kept fixed laws size moves valid).few_commits in
       let high = fixed.terms.limits.in_range.commits_high in
       let less = filter-shorter (is_sent (graph_of commits) tip (commits_here fixed.address ps list)) (range_with_len 0 (length (graph_of commits))) in

@@ -7,6 +7,8 @@ use Rattle.branch_wire.specs.Reading.{HasLength64, ReadsOneWay}
 use Rattle.branch_names.specs.Names.{is_name}
 use Rattle.branch_graph.specs.Graph.{parents_of, reaches}
 use Rattle.branch_history.specs.declared.moves.Move.{Move}
+use Rattle.branch_names.specs.declared.layout.Layout.{Layout}
+use Rattle.branch_names.specs.declared.layout.Layout.TheVariants.{Whole, Changes}
 use Rattle.branch_names.specs.declared.terms.Terms.{Terms}
 use Rattle.branch_names.specs.Heads.{head_of, branch_named, with_branch}
 use Rattle.branch_history.specs.Commits.{graph_of, clock_of, visible}
@@ -25,22 +27,28 @@ use Rattle.branch_bundle_laws.specs.Receiving.{IsTaken, IsReceiving, made_by, Re
 
 -- a bundle's bytes are read in one way, and nothing else begins with them
 abbrev pub ReadsBundles : Type 0
-ReadsBundles = ReadsOneWay IsBundle bundle_text
+ReadsBundles = (layout : Layout) → ReadsOneWay (IsBundle layout) (bundle_text layout)
+
+-- bytes that begin with a bundle of one layout begin with none of another
+abbrev pub TellsLayouts : Type 0
+TellsLayouts = (l m : Layout) (b c : Bundle) (x y : List ℕ) → bundle_text l b ++ x ≡ bundle_text m c ++ y → l ≡ m
 
 -- a bundle has 52 bytes, and those of its items
 abbrev pub HasBundleLength : Type 0
-HasBundleLength = (b : Bundle) → length b.tip ≡ 32 → length (bundle_text b) ≡ 52 + length (flat_map item_text b.items)
+HasBundleLength = (layout : Layout) (b : Bundle) → length b.tip ≡ 32 → length (bundle_text layout b) ≡ 52 + length (flat_map item_text b.items)
 
--- one item whose objects have 161 and 132 bytes make a bundle of 345
+-- one item whose objects have 161 and 132 bytes make a bundle of 345, and one of a commit's object of 100 alone makes one of 152
 abbrev pub HasRowLength : Type 0
-HasRowLength = (tip value commit : List ℕ) → length tip ≡ 32 → length value ≡ 161 → length commit ≡ 132 → length (bundle_text (record { tip = tip; items = (record { value = value; commit = commit }) ∷ [] })) ≡ 345
+HasRowLength = (tip value commit : List ℕ) → length tip ≡ 32
+    → (length value ≡ 161 → length commit ≡ 132 → length (bundle_text Whole (record { tip = tip; items = (record { value = value; commit = commit }) ∷ [] })) ≡ 345)
+    × (length commit ≡ 100 → length (bundle_text Changes (record { tip = tip; items = (record { value = []; commit = commit }) ∷ [] })) ≡ 152)
 
 -- what is sent of a valid history is a bundle, if it is not too long
 abbrev pub SendsBundles : {S O R Q A : Type 0} → Meaning S O R Q A → Type 0
 SendsBundles {S} {O} {R} m =
     (terms : Terms) (address : List ℕ → List ℕ) → HasSize address → (moves : List (Move O R)) → IsFullyValid (fix m terms address) moves → (tip : ℕ) (addresses : List (List ℕ))
     → let b = bundle_of (fix m terms address) moves tip addresses in
-    HasLength64 (bundle_text b) → IsBundle b
+    HasLength64 (bundle_text terms.layout b) → IsBundle terms.layout b
 
 -- items, one after another, have one list of answers at most
 abbrev pub ReceivesAllInOneWay : {S O R Q A : Type 0} → Meaning S O R Q A → Type 0
@@ -83,12 +91,12 @@ HasLowClocks {S} {O} {R} m =
     → let commits = (store_after (fix m terms address) moves).commits in
     (n : ℕ) → n < length commits → clock_of commits n ≤ n
 
--- commits of two histories that see the same events, in whatever order, have values of the same bytes
+-- commits of two histories of one layout that see the same events, in whatever order, have values of the same bytes
 abbrev pub HasSameValues : {S O R Q A : Type 0} → Meaning S O R Q A → Type 0
 HasSameValues {S} {O} {R} m =
     (terms others : Terms) (address another : List ℕ → List ℕ) (moves more : List (Move O R)) → let one = fix m terms address in
     let other = fix m others another in
-    IsFullyValid one moves → IsFullyValid other more
+    terms.layout ≡ others.layout → IsFullyValid one moves → IsFullyValid other more
     → let cs = (store_after one moves).commits in
     let ds = (store_after other more).commits in
     (n k : ℕ) → n < length cs → k < length ds → HoldSameEvents (visible cs n) (visible ds k) → value_text (pairs_of one cs) n ≡ value_text (pairs_of other ds) k
@@ -199,8 +207,9 @@ HoldsWhatItNames {S} {O} {R} m =
     → HoldsLeftOut one moves tip [] other more
     × (AreTold one moves other more → (addresses : List (List ℕ)) → HasAddresses other more addresses → HoldsLeftOut one moves tip addresses other more)
 
--- a valid history sends a bundle of one of its commits to a valid history that holds what is left out
+-- a valid history sends a bundle of one of its commits to a valid history of the same layout that holds what is left out
 pub record Sends {S O R Q A : Type 0} (one : Fixed S O R Q A) (moves : List (Move O R)) (tip : ℕ) (addresses : List (List ℕ)) (other : Fixed S O R Q A) (more : List (Move O R)) : Type 0 where
+  pub layouts : one.terms.layout ≡ other.terms.layout
   pub valid : IsFullyValid one moves
   pub also : IsFullyValid other more
   pub there : tip < length (store_after one moves).commits
@@ -244,9 +253,9 @@ TakesBytes {S} {O} {R} {Q} {A} m =
     let b = bundle_of one moves tip addresses in
     let later = more ++ made_by turns in
     let number = length (store_after other more).branches in
-    Sends one moves tip addresses other more → HasLength64 (bundle_text b) → ReceivesAll other more b.items turns → MeetsNothing turns
+    Sends one moves tip addresses other more → HasLength64 (bundle_text terms.layout b) → ReceivesAll other more b.items turns → MeetsNothing turns
     → branch_named (store_after other more).branches name ≡ None → fork_refusal others later ≡ None
-    → (k : ℕ) × ReceivesBytes other more (bundle_text b) name (Placed (length (made_by turns)) number k) (made_by turns ++ move.Place name number k ∷ []) × IsTip one moves tip other later k
+    → (k : ℕ) × ReceivesBytes other more (bundle_text terms.layout b) name (Placed (length (made_by turns)) number k) (made_by turns ++ move.Place name number k ∷ []) × IsTip one moves tip other later k
 
 -- where commits have the objects of all items, they are taken, and nothing is made
 abbrev pub ReceivesHeld : {S O R Q A : Type 0} → Meaning S O R Q A → Type 0

@@ -83,11 +83,11 @@ ReceivesItems {S} {O} {R} {Q} {A} fixed moves b name receipt made =
     (turns : List (Turn O R A)) × (last : List (Move O R)) × ReceivesAll fixed moves b.items turns
     × EndsAs fixed (moves ++ made_by turns) b.tip name turns receipt last × (made ≡ made_by turns ++ last)
 
--- the receiving of bytes under a free name: they are no bundle, or they are one, and its items are received
+-- the receiving of bytes under a free name: they are no bundle of the store's layout, or they are one, and its items are received
 abbrev pub ReceivesFree : {S O R Q A : Type 0} → Fixed S O R Q A → List (Move O R) → List ℕ → List ℕ → Receipt → List (Move O R) → Type 0
 ReceivesFree fixed moves bytes name receipt made =
-    (((b : Bundle) → IsBundle b → ¬ (bytes ≡ bundle_text b)) × (receipt ≡ NoBundle) × (made ≡ []))
-    ⊎ ((b : Bundle) × IsBundle b × (bytes ≡ bundle_text b) × ReceivesItems fixed moves b name receipt made)
+    (((b : Bundle) → IsBundle fixed.terms.layout b → ¬ (bytes ≡ bundle_text fixed.terms.layout b)) × (receipt ≡ NoBundle) × (made ≡ []))
+    ⊎ ((b : Bundle) × IsBundle fixed.terms.layout b × (bytes ≡ bundle_text fixed.terms.layout b) × ReceivesItems fixed moves b name receipt made)
 
 -- the receiving of bytes under a name: where it is taken, nothing is looked at
 abbrev pub ReceivesBytes : {S O R Q A : Type 0} → Fixed S O R Q A → List (Move O R) → List ℕ → List ℕ → Receipt → List (Move O R) → Type 0

@@ -1,5 +1,5 @@
 // The laws of bundles. Each stands on a function with an empty body, whose contract is the law.
-ghost use Rattle.branch_bundle_laws.specs.Laws.{ReadsBundles, HasBundleLength, SendsBundles, ReceivesAllInOneWay, ReceivesBytesInOneWay, AnswersBytes, ReceivesMoves, HasRowLength, HasLowClocks, HasSameValues, MatchesShared, ReceivesNext, AddsItems, AddsAllItems, PlacesBranches, HoldsWhatItNames, AcceptsBundles, TakesBundles, TakesBytes, ReceivesHeld, AnswersBundles, PlacesFreeNames};
+ghost use Rattle.branch_bundle_laws.specs.Laws.{ReadsBundles, TellsLayouts, HasBundleLength, SendsBundles, ReceivesAllInOneWay, ReceivesBytesInOneWay, AnswersBytes, ReceivesMoves, HasRowLength, HasLowClocks, HasSameValues, MatchesShared, ReceivesNext, AddsItems, AddsAllItems, PlacesBranches, HoldsWhatItNames, AcceptsBundles, TakesBundles, TakesBytes, ReceivesHeld, AnswersBundles, PlacesFreeNames};
 
 use mrdt_model::Mrdt;
 
@@ -8,12 +8,18 @@ pub fn reads_bundles()
     ensures { ReadsBundles }
 {}
 
+/// What begins with a bundle of one layout begins with none of another.
+pub fn tells_layouts()
+    ensures { TellsLayouts }
+{}
+
 /// A bundle has 52 bytes, and those of its items.
 pub fn has_bundle_length()
     ensures { HasBundleLength }
 {}
 
-/// One item whose objects have 161 and 132 bytes make a bundle of 345.
+/// One item whose objects have 161 and 132 bytes make a bundle of 345. One of a commit's object of 100 alone makes one
+/// of 152.
 pub fn has_row_length()
     ensures { HasRowLength }
 {}

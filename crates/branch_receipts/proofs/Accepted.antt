@@ -1,9 +1,10 @@
 -- What is answered to the bytes that a valid history sent.
-use Rattle.std.proofs.Common.{◌≡◌, inl, inr, ℕ, List, [], ◌∷◌, ◌++◌, ap, sym, refl, ◌∙◌, subst, Some, None, append_assoc}
+use Rattle.std.proofs.Common.{◌≡◌, inl, inr, ℕ, List, [], ◌∷◌, ◌++◌, ap, sym, ◌∙◌, subst, Some, None, append_assoc}
 use Rattle.std.specs.List.{AllByRecursion}
 use Rattle.mrdt_model.specs.Laws.{Meaning}
 use Rattle.branch_wire.specs.Reading.{HasLength64}
 use Rattle.branch_names.specs.declared.branch.Branch.{Branch}
+use Rattle.branch_names.specs.declared.layout.Layout.{Layout}
 use Rattle.branch_names.specs.declared.terms.Terms.{Terms}
 use Rattle.branch_names.specs.Heads.{branch_named}
 use Rattle.branch_history.specs.declared.moves.Move.{Move}
@@ -13,7 +14,7 @@ use Rattle.branch_machine.specs.Fixed.{Fixed, fix}
 use Rattle.branch_machine.specs.Objects.{pairs_of, store_after}
 use Rattle.branch_machine.specs.Laws.{HasSize}
 use Rattle.branch_bundle_laws.specs.Bundles.{Bundle, item_at, bundle_of}
-use Rattle.branch_bundle_laws.specs.Text.{bundle_text}
+use Rattle.branch_bundle_laws.specs.Text.{bundle_text, IsBundle}
 use Rattle.branch_bundle_laws.specs.Receiving.{made_by, ReceivesAll, Receipt, NoBundle, Stopped, NotPlaced, Placed, EndsRefused, EndsAs, ReceivesItems, ReceivesFree}
 use Rattle.branch_bundle_laws.specs.Laws.{ReadsBundles, SendsBundles, AddsAllItems, AcceptsBundles, MayMeet, IsAnswered, Sends}
 use Rattle.branch_receipts.specs.Receipts.{IsAcceptable}
@@ -66,10 +67,20 @@ module _ {S O R Q A : Type 0} (meaning : Meaning S O R Q A) (reads : ReadsBundle
       ap (λ (l : List (Move O R)). (store_after other l).commits) (sym joined) ∙ ap (λ (l : List (Move O R)). (store_after other (after ++ l)).commits) ends.4 ∙ stood in
       ap (λ (cs : List (Commit O R)). item_at (pairs_of other cs) head) commits ∙ ap (item_at (pairs_of other (store_after other after).commits)) (sym at) ∙ there.2
 
-  pub accepted : HasLength64 (bundle_text b) → (receipt : Receipt) (made : List (Move O R)) → ReceivesFree other more (bundle_text b) name receipt made → Accepted made receipt
-  accepted short receipt made (inl (never, is, none)) = absurd (never b (sends terms address size moves from.valid tip addresses short) refl)
-  accepted short receipt made (inr (c, fits, text, received)) =
-      let same : c ≡ b = (reads.one c b [] [] fits (sends terms address size moves from.valid tip addresses short) (ap (λ x. x ++ []) (sym text))).0 in
+  abbrev text : List ℕ
+  text = bundle_text terms.layout b
+
+  -- the layouts are the same
+  good : HasLength64 text → IsBundle others.layout b
+  good short = subst (λ (l : Layout). IsBundle l b) from.layouts (sends terms address size moves from.valid tip addresses short)
+
+  read : text ≡ bundle_text others.layout b
+  read = ap (λ (l : Layout). bundle_text l b) from.layouts
+
+  pub accepted : HasLength64 text → (receipt : Receipt) (made : List (Move O R)) → ReceivesFree other more text name receipt made → Accepted made receipt
+  accepted short receipt made (inl (never, is, none)) = absurd (never b (good short) read)
+  accepted short receipt made (inr (c, fits, is, received)) =
+      let same : c ≡ b = ((reads others.layout).one c b [] [] fits (good short) (ap (λ x. x ++ []) (sym is ∙ read))).0 in
       by-items receipt made (subst (λ (x : Bundle). ReceivesItems other more x name receipt made) same received)
     where
       by-items : (receipt : Receipt) (made : List (Move O R)) → ReceivesItems other more b name receipt made → Accepted made receipt

@@ -141,7 +141,7 @@ module _ {S O R Q A : Type 0} (meaning : Meaning S O R Q A) (terms : Terms) (add
       Has receipt made = HasReceived fixed moves bytes name made receipt
 
       -- the branch that was placed
-      placed-has : (b : Bundle) → IsBundle b → bytes ≡ bundle_text b → (ts : List (Turn O R A)) → ReceivesAll fixed moves b.items ts
+      placed-has : (b : Bundle) → IsBundle terms.layout b → bytes ≡ bundle_text terms.layout b → (ts : List (Turn O R A)) → ReceivesAll fixed moves b.items ts
           → (count number head : ℕ) (last : List (Move O R)) → EndsAs fixed (moves ++ made_by ts) b.tip name ts (Placed count number head) last → Has (Placed count number head) (made_by ts ++ last)
       placed-has b fits text ts received count number head last ends =
           let after : List (Move O R) = moves ++ made_by ts in
@@ -178,7 +178,7 @@ module _ {S O R Q A : Type 0} (meaning : Meaning S O R Q A) (terms : Terms) (add
       unplaced-branches : (items : List Pair) (ts : List (Turn O R A)) → ReceivesAll fixed moves items ts → (last : List (Move O R)) → last ≡ [] → branches_at (moves ++ (made_by ts ++ last)) ≡ branches_at moves
       unplaced-branches items ts received last none = ap (λ (l : List (Move O R)). branches_at l) (none-more fixed moves (made_by ts) last none) ∙ (all terms address moves valid items ts received).branches
 
-      ends-have : (b : Bundle) → IsBundle b → bytes ≡ bundle_text b → (ts : List (Turn O R A)) → ReceivesAll fixed moves b.items ts
+      ends-have : (b : Bundle) → IsBundle terms.layout b → bytes ≡ bundle_text terms.layout b → (ts : List (Turn O R A)) → ReceivesAll fixed moves b.items ts
           → (receipt : Receipt) (last : List (Move O R)) → EndsAs fixed (moves ++ made_by ts) b.tip name ts receipt last → Has receipt (made_by ts ++ last)
       ends-have b fits text ts received NoBundle last ends = record { commits = commits-kept fixed moves (made_by ts ++ last); branches = unplaced-branches b.items ts received last ends.2; placed = tt }
       ends-have b fits text ts received (Stopped i r) last ends = record { commits = commits-kept fixed moves (made_by ts ++ last); branches = unplaced-branches b.items ts received last ends.2; placed = tt }

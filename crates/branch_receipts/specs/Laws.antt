@@ -47,7 +47,7 @@ AcceptsSent {S} {O} {R} m =
     → (moves more : List (Move O R)) (tip : ℕ) (addresses : List (List ℕ))
     → let one = fix m terms address in
     let other = fix m others address in
-    let bytes = bundle_text (bundle_of one moves tip addresses) in
+    let bytes = bundle_text terms.layout (bundle_of one moves tip addresses) in
     Sends one moves tip addresses other more → HasLength64 bytes
     → (name : List ℕ) → branch_named (store_after other more).branches name ≡ None
     → (receipt : Receipt) (made : List (Move O R))

@@ -57,7 +57,8 @@ HasNew fixed moves made count = length (store_after fixed (moves ++ made)).commi
 abbrev pub HasPlaced : {S O R Q A : Type 0} → Fixed S O R Q A → List (Move O R) → List ℕ → List ℕ
     → List (Move O R) → Receipt → Type 0
 HasPlaced fixed moves bytes name made (Placed count number head) = HasNew fixed moves made count
-    × (bundle : Bundle) × IsBundle bundle × (bytes ≡ bundle_text bundle)
+    × (bundle : Bundle) × IsBundle fixed.terms.layout bundle
+    × (bytes ≡ bundle_text fixed.terms.layout bundle)
     × HasBundle fixed (moves ++ made) bundle name number head
 HasPlaced fixed moves bytes name made receipt = Unit {0}
 
