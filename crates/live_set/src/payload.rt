@@ -1,6 +1,6 @@
 // What a live set holds at a time.
-ghost use Rattle.std.specs.Prelude.{◌≡◌, ◌↔◌, ◌++◌, [], List, ℕ, IsTrue, IfOk, OnOk, OnErr, IsErrOf};
-ghost use Rattle.mrdt_model.specs.Spelled.{AppendsPart};
+ghost use Rattle.std.specs.Prelude.{◌≡◌, ◌↔◌, ◌++◌, [], List, ℕ, length, IsTrue, IfOk, OnOk, OnErr, IsErrOf};
+ghost use Rattle.mrdt_model.specs.Spelled.{AppendsPart, capped};
 ghost use Rattle.branch_wire.specs.Fields.{field, signed_number};
 ghost use Rattle.branch_wire.specs.Reading.{ReadsOneWay};
 ghost use Rattle.live_set.specs.Payloads.{IsNothing, nothing_spelling, IsAmount, IsShortText, nothing_way, amount_way, text_way};
@@ -32,6 +32,10 @@ pub trait Payload: Sized + Drop {
         ensures ok { OnOk result (out.new.items ≡ out.old.items ++ spelling self.now) }
         ensures err { OnErr result (AppendsPart out.old.items out.new.items (spelling self.now)) };
 
+    /// How many bytes the spelling has, or 2^64 - 1 where it has more. It takes no memory.
+    fn spelled_length(&self) -> u64
+        ensures { result ≡ capped (length (spelling self.now)) };
+
     /// Takes a payload that is spelled at the front, and leaves all bytes where it refuses. `NotCanonical` comes
     /// exactly where none is spelled there.
     fn take(alloc: Global, cursor: &mut Cursor<'_>) -> Result<Self, Unread>
@@ -62,6 +66,10 @@ impl Payload for () {
         Ok(())
     }
 
+    fn spelled_length(&self) -> u64 {
+        0
+    }
+
     fn take(_alloc: Global, _cursor: &mut Cursor<'_>) -> Result<(), Unread> {
         Ok(())
     }
@@ -84,6 +92,10 @@ impl Payload for i64 {
 
     fn put(&self, out: &mut Vec<u8>) -> Result<(), Memory> {
         put_i64(*self, out)
+    }
+
+    fn spelled_length(&self) -> u64 {
+        8
     }
 
     fn take(_alloc: Global, cursor: &mut Cursor<'_>) -> Result<i64, Unread> {
@@ -139,6 +151,10 @@ impl Payload for Shared<Bytes> {
 
     fn put(&self, out: &mut Vec<u8>) -> Result<(), Memory> {
         put_bytes(self.get().as_slice(), out)
+    }
+
+    fn spelled_length(&self) -> u64 {
+        (self.get().as_slice().len() as u64).saturating_add(8)
     }
 
     fn take(alloc: Global, cursor: &mut Cursor<'_>) -> Result<Shared<Bytes>, Unread> {

@@ -1,6 +1,7 @@
 // Live sets as bytes: a count, and that many times and payloads.
-ghost use Rattle.std.specs.Prelude.{◌≡◌, ◌++◌, List, ℕ, IfOk, OnOk, OnErr, IsErrOf};
-ghost use Rattle.mrdt_model.specs.Spelled.{AppendsPart};
+ghost use Rattle.std.specs.Prelude.{◌≡◌, ◌++◌, List, ℕ, length, IfOk, OnOk, OnErr, IsErrOf};
+ghost use Rattle.std.specs.List.{flat_map};
+ghost use Rattle.mrdt_model.specs.Spelled.{AppendsPart, capped};
 ghost use Rattle.live_set.specs.declared.kept.Kept.{Kept as SpecKept};
 ghost use Rattle.live_set.specs.Entries.{kept_times, AllBefore};
 ghost use Rattle.live_set.specs.Spelling.{kept_spelling, live_spelling, KeptFits, AreLive, IsLiveSpelling};
@@ -21,6 +22,25 @@ fn put_kept<V: Payload>(kept: &Kept<V>, out: &mut Vec<u8>) -> Result<(), Memory>
 {
     put_time(kept.time, out)?;
     kept.payload.put(out)
+}
+
+/// How many bytes a time and its payload have, or 2^64 - 1 where they have more. It takes no memory.
+pub fn kept_length<V: Payload>(kept: &Kept<V>) -> u64
+    ensures { result ≡ capped (length (kept_spelling V.spelling kept.now)) }
+{
+    kept.payload.spelled_length().saturating_add(12)
+}
+
+/// How many bytes the times and the payloads of entries have together, or 2^64 - 1 where they have more. It takes
+/// no memory.
+pub fn entries_length<V: Payload>(entries: &[Kept<V>]) -> u64
+    ensures { result ≡ capped (length (flat_map (kept_spelling V.spelling) entries.now)) }
+{
+    let mut length = 0u64;
+    for kept in entries {
+        length = length.saturating_add(kept_length(kept));
+    }
+    length
 }
 
 // Takes an entry that is later than all others, and puts it behind them.
@@ -74,6 +94,13 @@ impl<V: Payload> Live<V> {
             put_kept(kept, out)?;
         }
         Ok(())
+    }
+
+    /// How many bytes the spelling has, or 2^64 - 1 where it has more. It takes no memory.
+    pub fn spelled_length(&self) -> u64
+        ensures { result ≡ capped (length (live_spelling V.spelling self.now)) }
+    {
+        entries_length(self.items()).saturating_add(8)
     }
 
     /// Takes a live set that is spelled at the front, and leaves all bytes where it refuses. `NotCanonical` comes

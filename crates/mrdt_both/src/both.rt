@@ -135,6 +135,12 @@ impl<A: Mrdt, B: Mrdt> Mrdt for Both<A, B> {
         self.second.get().put(out)
     }
 
+    fn spelled_length(&self) -> u64 {
+        let first = self.first.get().spelled_length();
+        let second = self.second.get().spelled_length();
+        first.saturating_add(second).saturating_add(8)
+    }
+
     fn get(alloc: Global, bytes: &[u8]) -> Result<Both<A, B>, Unread> {
         let mut cursor = Cursor::new(bytes);
         let first = A::get(alloc, cursor.take_bytes()?)?;

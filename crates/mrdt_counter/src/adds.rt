@@ -2,7 +2,7 @@
 ghost use Rattle.std.specs.Prelude.{◌≡◌, List, ℕ, ℤ, ◌↔◌, ◌++◌, ◌∷◌, [], IsTrue, IfOk, OnOk, OnErr, IsErrOf, length};
 ghost use Rattle.std.specs.List.{flat_map};
 ghost use Rattle.std.specs.Option.{option_copied};
-ghost use Rattle.mrdt_model.specs.Spelled.{AppendsPart};
+ghost use Rattle.mrdt_model.specs.Spelled.{AppendsPart, capped};
 ghost use Rattle.branch_wire.specs.Fields.{signed_number};
 ghost use Rattle.live_set.specs.declared.kept.Kept.{Kept as SpecKept};
 ghost use Rattle.live_set.specs.Entries.{kept_times, IsRising, AllBefore, MergesEntries};
@@ -249,6 +249,15 @@ impl Adds {
             put_kept(entries.get(index).get(), out)?;
         }
         Ok(())
+    }
+
+    // How many bytes that spelling has, or 2^64 - 1 where it has more. It takes no memory.
+    pub(crate) fn spelled_length(&self) -> u64
+        ensures { result ≡ capped (length (live_spelling signed_number self.now)) }
+    {
+        (self.items().len() as u64)
+            .saturating_mul(20)
+            .saturating_add(8)
     }
 
     // Reads amounts whose spelling is the whole of the bytes. `NotCanonical` comes exactly where they are none.

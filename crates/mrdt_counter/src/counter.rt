@@ -132,6 +132,10 @@ impl Mrdt for Counter {
         self.adds.put(out)
     }
 
+    fn spelled_length(&self) -> u64 {
+        self.adds.spelled_length()
+    }
+
     fn get(alloc: Global, bytes: &[u8]) -> Result<Counter, Unread> {
         Ok(Counter {
             alloc,

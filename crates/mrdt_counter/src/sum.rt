@@ -118,6 +118,10 @@ impl Mrdt for Sum {
         put_i128(self.total, out)
     }
 
+    fn spelled_length(&self) -> u64 {
+        16
+    }
+
     fn get(_alloc: Global, bytes: &[u8]) -> Result<Sum, Unread> {
         let mut cursor = Cursor::new(bytes);
         let total = cursor.take_i128()?;

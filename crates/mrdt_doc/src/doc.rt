@@ -67,6 +67,10 @@ impl Mrdt for Doc {
         self.product.put(out)
     }
 
+    fn spelled_length(&self) -> u64 {
+        self.product.spelled_length()
+    }
+
     fn get(alloc: Global, bytes: &[u8]) -> Result<Doc, Unread> {
         Ok(Doc {
             product: Product::get(alloc, bytes)?,

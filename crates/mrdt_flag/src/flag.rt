@@ -133,6 +133,10 @@ impl Mrdt for Flag {
         self.enabled.put(out)
     }
 
+    fn spelled_length(&self) -> u64 {
+        self.enabled.spelled_length()
+    }
+
     fn get(alloc: Global, bytes: &[u8]) -> Result<Flag, Unread> {
         Ok(Flag {
             alloc,

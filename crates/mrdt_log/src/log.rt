@@ -150,6 +150,10 @@ impl Mrdt for Log {
         self.entries.put(out)
     }
 
+    fn spelled_length(&self) -> u64 {
+        self.entries.spelled_length()
+    }
+
     fn get(alloc: Global, bytes: &[u8]) -> Result<Log, Unread> {
         Ok(Log {
             alloc,

@@ -119,6 +119,10 @@ impl<T: Mrdt> Mrdt for Map<T> {
         T::put_entries(self.alloc, &self.entries, out)
     }
 
+    fn spelled_length(&self) -> u64 {
+        T::table_length(&self.entries)
+    }
+
     fn get(alloc: Global, bytes: &[u8]) -> Result<Map<T>, Unread> {
         let mut cursor = Cursor::new(bytes);
         let count = cursor.take_u64()?;

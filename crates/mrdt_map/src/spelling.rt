@@ -4,7 +4,7 @@ ghost use Rattle.std.specs.List.{AllByRecursion, flat_map};
 ghost use Rattle.std.specs.BTreeMap.{IsOrdered, keys};
 ghost use Rattle.std.specs.Cmp.Lexicographic.{slice_cmp};
 ghost use Rattle.std.specs.Ordering.{nat_cmp};
-ghost use Rattle.mrdt_model.specs.Spelled.{AppendsPart};
+ghost use Rattle.mrdt_model.specs.Spelled.{AppendsPart, capped};
 ghost use Rattle.mrdt_map.specs.Keyed.{entry_spelling, entries_spelling, as_spelled, IsEntry, AreInOrder};
 ghost use Rattle.mrdt_map.specs.Reading.{IsAbove, TakesEntry, AreTaken};
 
@@ -74,6 +74,30 @@ pub(crate) trait Entries: Mrdt {
             Self::put_entry(alloc, key, value, out)?;
         }
         Ok(())
+    }
+
+    // How many bytes a key and its value's spelling have, each behind its length, or 2^64 - 1 where they have more.
+    fn entry_length(key: &Shared<Bytes>, value: &Shared<Self>) -> u64
+        ensures { result ≡ capped (length
+            (entry_spelling Self.meaning.state_spelling (key.now, value.now))) }
+    {
+        let own = value.get();
+        let name = key.get();
+        own.spelled_length()
+            .saturating_add(name.as_slice().len() as u64)
+            .saturating_add(16)
+    }
+
+    // How many bytes the count and the entries have, or 2^64 - 1 where they have more.
+    fn table_length(table: &Table<Self>) -> u64
+        ensures { result ≡ capped (length
+            (entries_spelling Self.meaning.state_spelling table.now.entries)) }
+    {
+        let mut length = 8u64;
+        for (key, value) in table.iter() {
+            length = length.saturating_add(Self::entry_length(key, value));
+        }
+        length
     }
 
     // Takes an entry whose key is above all keys of the table, and puts it there.

@@ -3,3 +3,4 @@ pub mod Parts
 pub mod Executions
 pub mod SameEvents
 pub mod Tables
+pub mod Counted

@@ -87,6 +87,10 @@ impl Mrdt for Doc1 {
         self.product.put(out)
     }
 
+    fn spelled_length(&self) -> u64 {
+        self.product.spelled_length()
+    }
+
     fn get(alloc: Global, bytes: &[u8]) -> Result<Doc1, Unread> {
         Ok(Doc1 {
             product: OldProduct::get(alloc, bytes)?,

@@ -136,6 +136,10 @@ impl Mrdt for Elements {
         self.set.put(out)
     }
 
+    fn spelled_length(&self) -> u64 {
+        self.set.spelled_length()
+    }
+
     fn get(alloc: Global, bytes: &[u8]) -> Result<Elements, Unread> {
         Ok(Elements {
             set: Set::get(alloc, bytes)?,

@@ -10,6 +10,7 @@ ghost use Rattle.mrdt_queue.specs.Queue.{IsReply, TakesFirst, first_of, reply_to
 use crate::entries::{Entry, copies, reversed, take_first};
 use crate::op::{QueueAnswer, QueueOp, QueueQuery, QueueReply};
 use crate::spelling::{get_op, get_reply, put_op, put_reply};
+use live_set::spelled::entries_length;
 use live_set::texts::{own_copy, push_texts};
 use live_set::{Kept, Live, shared_text};
 use mrdt_model::{Bytes, Listing, Memory, Mrdt, Shared, Time, Unread};
@@ -271,6 +272,12 @@ impl Mrdt for Queue {
 
     fn put(&self, out: &mut Vec<u8>) -> Result<(), Memory> {
         self.as_live()?.put(out)
+    }
+
+    fn spelled_length(&self) -> u64 {
+        entries_length(&self.front)
+            .saturating_add(entries_length(&self.back))
+            .saturating_add(8)
     }
 
     fn get(alloc: Global, bytes: &[u8]) -> Result<Queue, Unread> {

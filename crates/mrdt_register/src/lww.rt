@@ -1,12 +1,13 @@
 // The register that keeps the last write, and its laws.
-ghost use Rattle.std.specs.Prelude.{◌≡◌, ◌↔◌, ◌∷◌, ◌++◌, Option, IsTrue, IfOk, OnOk, OnErr, IsErrOf, List, ℕ};
-ghost use Rattle.mrdt_model.specs.Spelled.{AppendsPart};
+ghost use Rattle.std.specs.Prelude.{◌≡◌, ◌↔◌, ◌∷◌, ◌++◌, Option, length, IsTrue, IfOk, OnOk, OnErr, IsErrOf, List, ℕ};
+ghost use Rattle.mrdt_model.specs.Spelled.{AppendsPart, capped};
 ghost use Rattle.branch_wire.specs.Fields.{time_field, field};
 ghost use Rattle.live_set.specs.declared.kept.Kept.{Kept as SpecKept};
 ghost use Rattle.mrdt_register.specs.Lww.{later, lww_spelling, IsLast};
 
 use crate::op::RegisterOp;
 use branch_wire::{Cursor, put_time};
+use live_set::spelled::kept_length;
 use live_set::{Kept, Payload, shared_text, unit_reply, whole_text};
 use mrdt_model::{Bytes, Memory, Mrdt, Shared, Time, Unread};
 use std::alloc::Global;
@@ -91,6 +92,16 @@ fn put_last(last: &Option<Kept<Shared<Bytes>>>, out: &mut Vec<u8>) -> Result<(),
     }
 }
 
+// How many bytes a payload and its time have, or 2^64 - 1 where they have more.
+fn length_of(last: &Option<Kept<Shared<Bytes>>>) -> u64
+    ensures { result ≡ capped (length (lww_spelling last.now)) }
+{
+    match last {
+        None => 1,
+        Some(kept) => kept_length(kept).saturating_add(1),
+    }
+}
+
 // Reads a payload and its time that are the whole of the bytes.
 fn get_last(alloc: Global, bytes: &[u8]) -> Result<Kept<Shared<Bytes>>, Unread>
     ensures spelled { IfOk result (λ kept. time_field kept.time ++ field kept.payload ≡ bytes.now) }
@@ -167,6 +178,10 @@ impl Mrdt for Lww {
 
     fn put(&self, out: &mut Vec<u8>) -> Result<(), Memory> {
         put_last(&self.last, out)
+    }
+
+    fn spelled_length(&self) -> u64 {
+        length_of(&self.last)
     }
 
     fn get(alloc: Global, bytes: &[u8]) -> Result<Lww, Unread> {

@@ -102,6 +102,10 @@ impl Mrdt for Multi {
         self.live.put(out)
     }
 
+    fn spelled_length(&self) -> u64 {
+        self.live.spelled_length()
+    }
+
     fn get(alloc: Global, bytes: &[u8]) -> Result<Multi, Unread> {
         Ok(Multi {
             alloc,

@@ -1,5 +1,5 @@
 // Nodes in chunks, which the versions of a sequence share.
-ghost use Rattle.std.specs.Prelude.{◌≡◌, ◌++◌, ◌∷◌, [], List, IfOk, OnOk, OnErr, MatchOption};
+ghost use Rattle.std.specs.Prelude.{◌≡◌, ◌++◌, ◌∷◌, [], List, length, IfOk, OnOk, OnErr, MatchOption};
 ghost use Rattle.std.specs.List.{flat_map};
 ghost use Rattle.mrdt_model.specs.Spelled.{AppendsPart};
 ghost use Rattle.mrdt_sequence.specs.declared.node.Node.{Node as SpecNode};
@@ -51,7 +51,9 @@ impl Chunk {
     }
 
     // How many bytes the nodes' spelling has.
-    pub(crate) fn text_len(&self) -> usize {
+    pub(crate) fn text_len(&self) -> usize
+        ensures { result ≡ length (flat_map node_spelling self.now) }
+    {
         self.text.len()
     }
 

@@ -1,7 +1,7 @@
 // The nodes of a sequence.
 ghost use Rattle.std.specs.Prelude.{◌≡◌, ◌++◌, ◌∷◌, [], Some, take, drop, length, IfOk, OnOk, OnErr};
 ghost use Rattle.std.specs.List.{flat_map};
-ghost use Rattle.mrdt_model.specs.Spelled.{AppendsPart};
+ghost use Rattle.mrdt_model.specs.Spelled.{AppendsPart, capped};
 ghost use Rattle.mrdt_sequence.specs.Chunks.{all_of, end_to_end};
 ghost use Rattle.mrdt_sequence.specs.Order.{insert_behind, woven};
 ghost use Rattle.mrdt_sequence.specs.Sequence.{hide_at, node_spelling, sequence_spelling};
@@ -149,6 +149,13 @@ impl Nodes {
         put_u64(self.count as u64, out)?;
         put_chunks(&self.chunks, out)
     }
+
+    // How many bytes that has, or 2^64 - 1 where it has more. It takes no memory.
+    pub(crate) fn spelled_length(&self) -> u64
+        ensures { result ≡ capped (length (sequence_spelling self.now)) }
+    {
+        text_len(&self.chunks) as u64
+    }
 }
 
 // Writes the nodes of chunks.
@@ -164,8 +171,10 @@ fn put_chunks(chunks: &[Shared<Chunk>], out: &mut Vec<u8>) -> Result<(), Memory>
     Ok(())
 }
 
-// How many bytes the chunks take, and the number of their nodes.
-fn text_len(chunks: &[Shared<Chunk>]) -> usize {
+// How many bytes the chunks and the number of their nodes take, or the greatest number where they take more.
+fn text_len(chunks: &[Shared<Chunk>]) -> usize
+    ensures { result ≡ capped (length (sequence_spelling (end_to_end chunks.now))) }
+{
     let mut len: usize = 8;
     for chunk in chunks {
         len = len.saturating_add(chunk.get().text_len());

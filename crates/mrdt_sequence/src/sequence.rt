@@ -143,6 +143,10 @@ impl Mrdt for Sequence {
         self.nodes.put(out)
     }
 
+    fn spelled_length(&self) -> u64 {
+        self.nodes.spelled_length()
+    }
+
     fn get(alloc: Global, bytes: &[u8]) -> Result<Sequence, Unread> {
         Ok(Sequence {
             nodes: Nodes::of(alloc, &get_nodes(alloc, bytes)?)?,

@@ -7,7 +7,7 @@ ghost use Rattle.mrdt_set.specs.Set.{IsSetOp, element_of, op_spelling, IsOpSpell
 
 use crate::members::{Sides, elements_in_order, first_times, merged, with_times};
 use crate::same::same_tables;
-use crate::spelled::{put_members, take_members};
+use crate::spelled::{members_length, put_members, take_members};
 use crate::table::{Table, Times};
 use branch_wire::Cursor;
 use live_set::{unit_reply, whole_text};
@@ -228,6 +228,10 @@ impl Mrdt for Set {
 
     fn put(&self, out: &mut Vec<u8>) -> Result<(), Memory> {
         put_members(&self.members, out)
+    }
+
+    fn spelled_length(&self) -> u64 {
+        members_length(&self.members)
     }
 
     fn get(alloc: Global, bytes: &[u8]) -> Result<Set, Unread> {

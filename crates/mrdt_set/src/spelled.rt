@@ -16,7 +16,7 @@ ghost use Rattle.std.specs.Prelude.{
 };
 ghost use Rattle.std.specs.List.{flat_map};
 ghost use Rattle.std.specs.Map.{keys_of};
-ghost use Rattle.mrdt_model.specs.Spelled.{AppendsPart};
+ghost use Rattle.mrdt_model.specs.Spelled.{AppendsPart, capped};
 ghost use Rattle.mrdt_set.specs.Members.{Times as SpecTimes};
 ghost use Rattle.mrdt_set.specs.Members.{member_spelling, set_spelling, IsMember, AreInOrder};
 ghost use Rattle.mrdt_set.specs.Reading.{IsAbove, TakesMember, AreTaken, AreRising};
@@ -50,6 +50,27 @@ pub(crate) fn put_members(members: &Table, out: &mut Vec<u8>) -> Result<(), Memo
         put_member(element.as_slice(), times, out)?;
     }
     Ok(())
+}
+
+// How many bytes an element and its times have, or 2^64 - 1 where they have more.
+fn member_length(element: &[u8], times: &Times) -> u64
+    ensures { result ≡ capped (length (member_spelling (element.now, times.now))) }
+{
+    let length = times.get().spelled_length();
+    length
+        .saturating_add(element.len() as u64)
+        .saturating_add(8)
+}
+
+// How many bytes the count and the members have, or 2^64 - 1 where they have more.
+pub(crate) fn members_length(members: &Table) -> u64
+    ensures { result ≡ capped (length (set_spelling members.now)) }
+{
+    let mut length = 8u64;
+    for (element, times) in members.in_order().iter() {
+        length = length.saturating_add(member_length(element.as_slice(), times));
+    }
+    length
 }
 
 // Whether the element is above all elements of the table.

@@ -85,6 +85,10 @@ impl Mrdt for Wide {
         self.product.put(out)
     }
 
+    fn spelled_length(&self) -> u64 {
+        self.product.spelled_length()
+    }
+
     fn get(alloc: Global, bytes: &[u8]) -> Result<Wide, Unread> {
         Ok(Wide {
             product: WideProduct::get(alloc, bytes)?,

@@ -76,6 +76,10 @@ impl Mrdt for Watched {
         self.counter.put(out)
     }
 
+    fn spelled_length(&self) -> u64 {
+        self.counter.spelled_length()
+    }
+
     fn get(alloc: Global, bytes: &[u8]) -> Result<Watched, Unread> {
         Ok(Watched {
             counter: Counter::get(alloc, bytes)?,
