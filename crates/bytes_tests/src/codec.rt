@@ -48,7 +48,7 @@ fn commit(
         parents: Listing::from_vec(Vec::from_slice(alloc, parents)?),
         branch,
         clock,
-        value: [b'v'; 32],
+        value: Some([b'v'; 32]),
         action,
     })
 }
@@ -120,6 +120,6 @@ fn objects_are_read(rt: HostRuntime) {
         return;
     };
     assert!(rt; parents.as_slice() == [[b'p'; 32]].as_slice());
-    assert!(rt; *branch == 3 && *clock == 258 && *value == [b'v'; 32]);
+    assert!(rt; *branch == 3 && *clock == 258 && *value == Some([b'v'; 32]));
     assert!(rt; op.as_slice() == b"op".as_slice() && reply.as_slice() == b"r".as_slice());
 }

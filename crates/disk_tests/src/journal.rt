@@ -1,6 +1,6 @@
 // A journal over a disk in memory: its bytes, written and read again.
 use branch_disk::{MemoryDisk, Part, read_whole};
-use branch_names::{Limits, Name, Terms};
+use branch_names::{Layout, Limits, Name, Terms};
 use heads_journal::{Joined, Journal, Record, kind, read_all};
 use std::process::Abort;
 use std::test::Fail;
@@ -47,7 +47,7 @@ fn records_of_four_kinds(rt: &impl Abort) -> [Record; 4] {
 
 #[test]
 fn records_are_written_and_read(rt: HostRuntime) -> Result<(), Fail> {
-    let terms = Terms::new(Limits::default(), 0xffff_0000, 1).expect(&rt, "terms");
+    let terms = Terms::new(Limits::default(), 0xffff_0000, 1, Layout::Whole).expect(&rt, "terms");
     let mut disk = MemoryDisk::new(vec![in rt.alloc()]?);
     let mut journal = Journal::create(&mut disk, &terms)?;
     let records = records_of_four_kinds(&rt);

@@ -25,15 +25,19 @@ fn weak(last: u8) -> [u8; 32] {
     address
 }
 
-// A store of a value of 104 bytes and of the root commit.
-fn started(alloc: Global, disk: &mut MemoryDisk) -> Result<Objects<Sha256Address>, PutRefused>
-    ensures stored { IfOk result (λ objects.
-        AllBegin (file_of objects.stored) (⟦<MemoryDisk as Disk>⟧.may_leave disk.new)) }
-    ensures staged { IfOk result (λ objects. objects.staged ≡ []) }
+// A store of the root commit, and of its value where one is kept; and the address of that commit.
+fn started(
+    alloc: Global,
+    disk: &mut MemoryDisk,
+    value: Option<&[u8]>,
+) -> Result<(Objects<Sha256Address>, [u8; 32]), PutRefused>
+    ensures stored { IfOk result (λ made.
+        AllBegin (file_of made.0.stored) (⟦<MemoryDisk as Disk>⟧.may_leave disk.new)) }
+    ensures staged { IfOk result (λ made. made.0.staged ≡ []) }
 {
-    let (objects, _) = Objects::<Sha256Address>::fresh(alloc, &[0; 104])?;
+    let (objects, root) = Objects::<Sha256Address>::fresh(alloc, value)?;
     objects.create_in(disk)?;
-    Ok(objects)
+    Ok((objects, root))
 }
 
 // A value of 140 bytes, and a commit of an operation of 21 that replied one.
@@ -43,7 +47,7 @@ fn region(alloc: Global) -> Result<[Object; 2], Memory> {
         parents: Listing::from_vec(Vec::from_slice(alloc, &[[b'p'; 32]])?),
         branch: 0,
         clock: 1,
-        value: [b'v'; 32],
+        value: Some([b'v'; 32]),
         action: Action::Operation {
             op: Bytes::from_slice(alloc, &[1; 21])?,
             reply: Bytes::from_slice(alloc, b"\x01")?,
@@ -56,7 +60,8 @@ fn region(alloc: Global) -> Result<[Object; 2], Memory> {
 fn a_region_is_written_behind_the_root(rt: HostRuntime) {
     let alloc = rt.alloc();
     let mut disk = MemoryDisk::new(Vec::new(alloc));
-    let mut objects = started(alloc, &mut disk).expect(&rt, "objects");
+    let value = [0; 104];
+    let (mut objects, _) = started(alloc, &mut disk, Some(&value)).expect(&rt, "objects");
     let list = region(alloc).expect(&rt, "a region");
     assert!(rt; objects.end() == 191);
     let addresses = objects.put_all(&mut disk, &list).expect(&rt, "addresses");
@@ -65,6 +70,33 @@ fn a_region_is_written_behind_the_root(rt: HostRuntime) {
     assert!(rt; addresses.as_slice()[0] == Sha256Address::of(&text));
     let file = read_whole(alloc, &mut disk, Part::Objects).expect(&rt, "a file");
     assert!(rt; file.len() == 472 && &file[..16] == HEADER && &file[191..340] == text.as_slice());
+}
+
+// An operation of 21 bytes that replied one.
+fn operation(alloc: Global) -> Result<Action, Memory> {
+    let op = Bytes::from_slice(alloc, &[1; 21])?;
+    let reply = Bytes::from_slice(alloc, b"\x01")?;
+    Ok(Action::Operation { op, reply })
+}
+
+#[test]
+fn commits_alone_are_written_behind_the_root(rt: HostRuntime) {
+    let alloc = rt.alloc();
+    let mut disk = MemoryDisk::new(Vec::new(alloc));
+    let (mut objects, root) = started(alloc, &mut disk, None).expect(&rt, "objects");
+    assert!(rt; objects.end() == 46);
+    let parents = Listing::from_vec(Vec::from_slice(alloc, &[root]).expect(&rt, "parents"));
+    let action = operation(alloc).expect(&rt, "an operation");
+    let address = objects
+        .stage(None, None, parents, 0, 1, action)
+        .expect(&rt, "an address");
+    assert!(rt; objects.end() == 146);
+    objects.write(&mut disk).expect(&rt, "a region");
+    let file = read_whole(alloc, &mut disk, Part::Objects).expect(&rt, "a file");
+    assert!(rt; file.len() == 146 && file[16] == 3 && file[46] == 3);
+    assert!(rt;
+        root == Sha256Address::of(&file[16..46]) && address == Sha256Address::of(&file[46..])
+    );
 }
 
 // A file of one value.
