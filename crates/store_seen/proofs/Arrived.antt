@@ -28,7 +28,7 @@ use Rattle.store_seen.specs.declared.answers.ReceiveRefused.{ReceiveRefused}
 use Rattle.store_seen.specs.declared.answers.ReceiveRefused.TheVariants as receive_refusal
 use Rattle.store_seen.specs.Answers.{not_received}
 use Rattle.store_seen.specs.Arrivals.{receive_merge, ReceiveRefusedBy, IsRemadeOperation, IsRemadeMerge, IsWrittenOperation}
-use Rattle.store_seen.specs.Keeps.{AreSpelled}
+use Rattle.store_seen.specs.Keeps.{kept_spelling, AreSpelled}
 use Rattle.store_seen.specs.Nodes.{AddsReceived}
 use Rattle.store_seen.specs.Times.{received_at}
 use Rattle.store_seen.specs.Turns.{Steps}
@@ -126,12 +126,13 @@ module _ {S O R Q A : Type 0} (meaning : Meaning S O R Q A) (laws : KeepsLaws me
           ∙ ap (λ r. length (meaning.spelling_of (e ∷ x)) + length (meaning.op_spelling op) + length (meaning.reply_spelling r)) replies
 
       -- what is written of it
-      pub operation-written : (clock : ℕ) (value : S) (reply : R) (spelled : SpelledView) → IsRemadeOperation meaning s.commits origin h clock value op reply → AreSpelled meaning value op reply spelled
-          → IsWrittenOperation meaning s.commits origin h op h clock spelled.value spelled.op spelled.reply
+      pub operation-written : (clock : ℕ) (value : S) (reply : R) (spelled : SpelledView) → IsRemadeOperation meaning s.commits origin h clock value op reply → AreSpelled meaning terms.layout value op reply spelled
+          → IsWrittenOperation meaning terms.layout s.commits origin h op h clock spelled.size spelled.value spelled.op spelled.reply
       operation-written clock value reply spelled is are = record {
         parent_is = refl;
         clock_is = is.timed;
-        value_is = are.value_is ∙ laws.one_spelling value (e ∷ x) arrived-lawful is.stands;
+        size_is = are.size_is ∙ ap length (laws.one_spelling value (e ∷ x) arrived-lawful is.stands);
+        value_is = are.value_is ∙ ap (kept_spelling terms.layout) (laws.one_spelling value (e ∷ x) arrived-lawful is.stands);
         op_is = are.op_is;
         reply_is = are.reply_is ∙ ap meaning.reply_spelling is.replies;
       }

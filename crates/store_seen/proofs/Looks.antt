@@ -4,6 +4,7 @@ use mathlib.Core.List.{IsPrefix}
 use Rattle.mrdt_model.specs.declared.time.Time.{Time}
 use Rattle.mrdt_model.specs.Executions.{Event, IsAfter, next_event}
 use Rattle.mrdt_model.specs.Laws.{Meaning, Lawful, KeepsLaws, Applies, Answers}
+use Rattle.branch_names.specs.declared.layout.Layout.{Layout}
 use Rattle.branch_history.specs.declared.moves.Move.{Move}
 use Rattle.branch_history.specs.Commits.{Commit, clock_of, visible}
 use Rattle.branch_history.specs.History.{store_of}
@@ -19,11 +20,11 @@ use Rattle.store_seen.specs.Turns.{Refuses, FromOn}
 use Rattle.store_seen.specs.Views.{SeenView, SpelledView}
 
 -- how many bytes the spellings have
-pub spelled-size : {S O R Q A : Type 0} (meaning : Meaning S O R Q A) (value : S) (op : O) (reply : R) (s : SpelledView) → AreSpelled meaning value op reply s → (size : ℕ) → size ≡ length s.value + length s.op + length s.reply
+pub spelled-size : {S O R Q A : Type 0} (meaning : Meaning S O R Q A) (layout : Layout) (value : S) (op : O) (reply : R) (s : SpelledView) → AreSpelled meaning layout value op reply s → (size : ℕ) → size ≡ s.size + length s.op + length s.reply
     → size ≡ length (meaning.state_spelling value) + length (meaning.op_spelling op) + length (meaning.reply_spelling reply)
-spelled-size meaning value op reply s are size is =
+spelled-size meaning layout value op reply s are size is =
     is
-    ∙ ap (λ l. length l + length s.op + length s.reply) are.value_is
+    ∙ ap (λ n. n + length s.op + length s.reply) are.size_is
     ∙ ap (λ l. length (meaning.state_spelling value) + length l + length s.reply) are.op_is
     ∙ ap (λ l. length (meaning.state_spelling value) + length (meaning.op_spelling op) + length l) are.reply_is
 

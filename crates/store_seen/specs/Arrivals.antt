@@ -2,6 +2,7 @@
 use Rattle.std.specs.Prelude.{◌≡◌, ℕ, ◌+◌, List, [], ◌∷◌, length, Some}
 use Rattle.std.specs.declared.option.Option.{Option}
 use Rattle.mrdt_model.specs.Laws.{Meaning}
+use Rattle.branch_names.specs.declared.layout.Layout.{Layout}
 use Rattle.branch_names.specs.declared.terms.Terms.{Terms}
 use Rattle.branch_history.specs.declared.moves.Move.{Move}
 use Rattle.branch_history.specs.Commits.{Commit, clock_of, greatest_clock, visible, visible_at_all}
@@ -17,7 +18,7 @@ use Rattle.store_seen.specs.declared.arrival.Arriving.{Arriving}
 use Rattle.store_seen.specs.declared.arrival.Arriving.TheVariants as arriving
 use Rattle.store_seen.specs.declared.arrival.WrittenArrival.{WrittenArrival}
 use Rattle.store_seen.specs.declared.arrival.WrittenArrival.TheVariants as written
-use Rattle.store_seen.specs.Keeps.{AreSpelled}
+use Rattle.store_seen.specs.Keeps.{kept_spelling, bytes_at, IsSpelledValue, AreSpelled}
 use Rattle.store_seen.specs.Views.{CoreView, ArrivalView}
 
 -- the step that receives a merge of an origin with these parents, of which there are some
@@ -50,39 +51,41 @@ pub record IsRemadeMerge {S O R Q A : Type 0} (meaning : Meaning S O R Q A) (com
   pub timed : clock ≡ greatest_clock commits parents
   pub stands : meaning.stands value (visible_at_all commits parents)
 
--- what was made anew, with the spellings of what is to be written of it
-abbrev pub IsRemade : {S O R Q A : Type 0} → Meaning S O R Q A → List (Commit O R) → ℕ → Arriving S O R → Type 0
-IsRemade meaning commits origin (arriving.Operation parent clock value op reply spelled) = IsRemadeOperation meaning commits origin parent clock value op reply × AreSpelled meaning value op reply spelled
-IsRemade meaning commits origin (arriving.Merge parents clock value spelled) = IsRemadeMerge meaning commits parents clock value × (spelled ≡ meaning.state_spelling value)
+-- what was made anew in a layout, with the spellings of what is to be written of it, and the length of that of the value
+abbrev pub IsRemade : {S O R Q A : Type 0} → Meaning S O R Q A → Layout → List (Commit O R) → ℕ → Arriving S O R → Type 0
+IsRemade meaning layout commits origin (arriving.Operation parent clock value op reply spelled) = IsRemadeOperation meaning commits origin parent clock value op reply × AreSpelled meaning layout value op reply spelled
+IsRemade meaning layout commits origin (arriving.Merge parents clock value spelled) = IsRemadeMerge meaning commits parents clock value × IsSpelledValue meaning layout value spelled
 
 -- a valid history, a step that may receive, and what it receives made anew
 pub record IsArrival {S O R Q A : Type 0} (meaning : Meaning S O R Q A) (terms : Terms) (history : List (Move O R)) (origin : ℕ) (made : Arriving S O R) : Type 0 where
   pub valid : IsValid meaning terms history
   pub is_step : IsStep meaning (store_of terms.origin history) (step_in {Q = Q} origin made)
-  pub remade : IsRemade meaning (store_of terms.origin history).commits origin made
+  pub remade : IsRemade meaning terms.layout (store_of terms.origin history).commits origin made
 
--- what is written of an operation: its parent, the clock after the parent's, and the spellings of the value, of the operation and of the reply
-pub record IsWrittenOperation {S O R Q A : Type 0} (meaning : Meaning S O R Q A) (commits : List (Commit O R)) (origin h : ℕ) (op : O) (parent clock : ℕ) (value_bytes op_bytes reply_bytes : List ℕ) : Type 0 where
+-- what is written of an operation: its parent, the clock after the parent's, the length of the spelling of the value, this spelling where the layout keeps it, and the spellings of the operation and of the reply
+pub record IsWrittenOperation {S O R Q A : Type 0} (meaning : Meaning S O R Q A) (layout : Layout) (commits : List (Commit O R)) (origin h : ℕ) (op : O) (parent clock size : ℕ) (value_bytes : Option (List ℕ)) (op_bytes reply_bytes : List ℕ) : Type 0 where
   pub parent_is : parent ≡ h
   pub clock_is : clock ≡ clock_of commits h + 1
-  pub value_is : value_bytes ≡ meaning.spelling_of (event_made meaning commits origin h op ∷ visible commits h)
+  pub size_is : size ≡ length (meaning.spelling_of (event_made meaning commits origin h op ∷ visible commits h))
+  pub value_is : value_bytes ≡ kept_spelling layout (meaning.spelling_of (event_made meaning commits origin h op ∷ visible commits h))
   pub op_is : op_bytes ≡ meaning.op_spelling op
   pub reply_is : reply_bytes ≡ meaning.reply_spelling (meaning.reply_of (visible commits h) op)
 
--- of a merge: its parents, the greatest of their clocks, and the spelling of the value of what is visible at one of them
-pub record IsWrittenMerge {S O R Q A : Type 0} (meaning : Meaning S O R Q A) (commits : List (Commit O R)) (all parents : List ℕ) (clock : ℕ) (value_bytes : List ℕ) : Type 0 where
+-- of a merge: its parents, the greatest of their clocks, the length of the spelling of the value of what is visible at one of them, and this spelling where the layout keeps it
+pub record IsWrittenMerge {S O R Q A : Type 0} (meaning : Meaning S O R Q A) (layout : Layout) (commits : List (Commit O R)) (all parents : List ℕ) (clock size : ℕ) (value_bytes : Option (List ℕ)) : Type 0 where
   pub parents_are : parents ≡ all
   pub clock_is : clock ≡ greatest_clock commits all
-  pub value_is : value_bytes ≡ meaning.spelling_of (visible_at_all commits all)
+  pub size_is : size ≡ length (meaning.spelling_of (visible_at_all commits all))
+  pub value_is : value_bytes ≡ kept_spelling layout (meaning.spelling_of (visible_at_all commits all))
 
--- what is written is that of the commit that a step receives
-abbrev pub IsWrittenOf : {S O R Q A : Type 0} → Meaning S O R Q A → List (Commit O R) → machine.Step O Q → WrittenArrival → Type 0
-IsWrittenOf meaning commits (machine.ReceiveOperation origin h op) (written.Operation parent clock value_bytes op_bytes reply_bytes) = IsWrittenOperation meaning commits origin h op parent clock value_bytes.now op_bytes.now reply_bytes.now
-IsWrittenOf meaning commits (machine.ReceiveMerge origin h ms) (written.Merge parents clock value_bytes) = IsWrittenMerge meaning commits (h ∷ ms) parents.now clock value_bytes.now
-IsWrittenOf meaning commits step is = ⊥
+-- what is written in a layout is that of the commit that a step receives
+abbrev pub IsWrittenOf : {S O R Q A : Type 0} → Meaning S O R Q A → Layout → List (Commit O R) → machine.Step O Q → WrittenArrival → Type 0
+IsWrittenOf meaning layout commits (machine.ReceiveOperation origin h op) (written.Operation parent clock size value_bytes op_bytes reply_bytes) = IsWrittenOperation meaning layout commits origin h op parent clock size (bytes_at value_bytes) op_bytes.now reply_bytes.now
+IsWrittenOf meaning layout commits (machine.ReceiveMerge origin h ms) (written.Merge parents clock size value_bytes) = IsWrittenMerge meaning layout commits (h ∷ ms) parents.now clock size (bytes_at value_bytes)
+IsWrittenOf meaning layout commits step is = ⊥
 
 abbrev pub IsWrittenArrival : {S O R Q A : Type 0} → Meaning S O R Q A → ArrivalView O R Q → WrittenArrival → Type 0
-IsWrittenArrival meaning arrival is = IsWrittenOf meaning (store_of arrival.terms.origin arrival.history).commits arrival.step is
+IsWrittenArrival meaning arrival is = IsWrittenOf meaning arrival.terms.layout (store_of arrival.terms.origin arrival.history).commits arrival.step is
 
 -- the commit has this origin
 abbrev pub HasOrigin : {O Q : Type 0} → machine.Step O Q → ℕ → Type 0

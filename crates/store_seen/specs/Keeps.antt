@@ -1,8 +1,14 @@
 -- What looks and prepared works keep of a history.
-use Rattle.std.specs.Prelude.{◌≡◌, ℕ, ◌+◌, ◌<◌, ◌≤◌, All, false, List, [], ◌∷◌, length, None, IsTrue}
+use Rattle.std.specs.Prelude.{◌≡◌, ℕ, ◌+◌, ◌<◌, ◌≤◌, All, false, List, [], ◌∷◌, length, IsTrue, IfSome}
+use Rattle.std.specs.declared.option.Option.{Option}
+use Rattle.std.specs.declared.option.Option.TheVariants.{Some, None}
+use Rattle.std.specs.Borrow.{Bor}
+use Rattle.std.specs.Option.{option_map}
 use Rattle.mrdt_model.specs.declared.time.Time.{Time}
 use Rattle.mrdt_model.specs.Laws.{Meaning}
 use Rattle.branch_graph.specs.Graph.{reaches}
+use Rattle.branch_names.specs.declared.layout.Layout.{Layout}
+use Rattle.branch_names.specs.declared.layout.Layout.TheVariants.{Whole, Changes}
 use Rattle.branch_names.specs.declared.terms.Terms.{Terms}
 use Rattle.branch_names.specs.Heads.{head_of}
 use Rattle.branch_history.specs.declared.moves.Move.{Move}
@@ -13,7 +19,9 @@ use Rattle.branch_history.specs.Machine.{event_made, operation_refusal, merge_re
 use Rattle.branch_history.specs.Validity.{IsValid}
 use Rattle.store_seen.specs.declared.prepared.Ready.{Ready}
 use Rattle.store_seen.specs.declared.prepared.Ready.TheVariants as ready
+use Rattle.store_seen.specs.declared.spelled.SpelledValue.{SpelledValue}
 use Rattle.virtual_base.specs.Nodes.{NodesView, AreNodesOf}
+use Rattle.store_seen.specs.Pairs.{IsBaseAt}
 use Rattle.store_seen.specs.Views.{SeenView, PairView, look_in, SpelledView, Work, Operation, Merge, Join, Forward}
 
 -- a clock and a value are those of a commit: the value stands for what is visible there
@@ -76,23 +84,38 @@ pub record IsReadyForward {O R : Type 0} (terms : Terms) (history : List (Move O
   pub above : reaches (graph_of (store_of terms.origin history).commits) head commit ≡ false
   pub below : IsTrue (reaches (graph_of (store_of terms.origin history).commits) commit head)
 
--- the bytes are the spellings of these three
-pub record AreSpelled {S O R Q A : Type 0} (meaning : Meaning S O R Q A) (value : S) (op : O) (reply : R) (spelled : SpelledView) : Type 0 where
-  pub value_is : spelled.value ≡ meaning.state_spelling value
+-- a layout keeps the spelling of a value, or none
+abbrev pub kept_spelling : Layout → List ℕ → Option (List ℕ)
+kept_spelling Whole spelling = Some spelling
+kept_spelling Changes spelling = None
+
+-- the bytes behind a reference, where there is one
+abbrev pub bytes_at : Option (Bor (List ℕ)) → Option (List ℕ)
+bytes_at bytes = option_map (λ b. b.now) bytes
+
+-- how many bytes the spelling of a value has, and the spelling where the layout keeps it
+pub record IsSpelledValue {S O R Q A : Type 0} (meaning : Meaning S O R Q A) (layout : Layout) (value : S) (spelled : SpelledValue) : Type 0 where
+  pub size_is : spelled.size ≡ length (meaning.state_spelling value)
+  pub bytes_are : spelled.bytes ≡ kept_spelling layout (meaning.state_spelling value)
+
+-- the same, and the spellings of an operation and its reply
+pub record AreSpelled {S O R Q A : Type 0} (meaning : Meaning S O R Q A) (layout : Layout) (value : S) (op : O) (reply : R) (spelled : SpelledView) : Type 0 where
+  pub size_is : spelled.size ≡ length (meaning.state_spelling value)
+  pub value_is : spelled.value ≡ kept_spelling layout (meaning.state_spelling value)
   pub op_is : spelled.op ≡ meaning.op_spelling op
   pub reply_is : spelled.reply ≡ meaning.reply_spelling reply
 
--- what is ready on a look, with the spellings of what is to be written of it
+-- what is ready on a look, with the spellings of what is to be written of it, and the length of that of the value
 abbrev pub IsReady : {S O R Q A : Type 0} → Meaning S O R Q A → SeenView (Move O R) → Ready S O R → Type 0
-IsReady meaning seen (ready.Operation time value op reply spelled) = IsReadyOperation meaning seen time value op reply × AreSpelled meaning value op reply spelled
-IsReady meaning seen (ready.Merge commit clock value spelled) = IsReadyMerge meaning seen commit clock value × (spelled ≡ meaning.state_spelling value)
-IsReady meaning seen (ready.Join commits clock value spelled) = IsReadyJoin meaning seen commits clock value × (spelled ≡ meaning.state_spelling value)
+IsReady meaning seen (ready.Operation time value op reply spelled) = IsReadyOperation meaning seen time value op reply × AreSpelled meaning seen.terms.layout value op reply spelled
+IsReady meaning seen (ready.Merge commit clock value spelled) = IsReadyMerge meaning seen commit clock value × IsSpelledValue meaning seen.terms.layout value spelled
+IsReady meaning seen (ready.Join commits clock value spelled) = IsReadyJoin meaning seen commits clock value × IsSpelledValue meaning seen.terms.layout value spelled
 IsReady meaning seen (ready.Forward commit) = IsReadyForward seen.terms seen.history seen.head commit
 
 -- such a merge of this commit
 abbrev pub IsMergeReady : {S O R Q A : Type 0} → Meaning S O R Q A → SeenView (Move O R) → ℕ → Ready S O R → Type 0
 IsMergeReady meaning seen other (ready.Operation time value op reply spelled) = ⊥
-IsMergeReady meaning seen other (ready.Merge commit clock value spelled) = (commit ≡ other) × IsReadyMerge meaning seen commit clock value × (spelled ≡ meaning.state_spelling value)
+IsMergeReady meaning seen other (ready.Merge commit clock value spelled) = (commit ≡ other) × IsReadyMerge meaning seen commit clock value × IsSpelledValue meaning seen.terms.layout value spelled
 IsMergeReady meaning seen other (ready.Join commits clock value spelled) = ⊥
 IsMergeReady meaning seen other (ready.Forward commit) = ⊥
 
@@ -104,17 +127,18 @@ pub record IsPrepared {S O R Q A : Type 0} (meaning : Meaning S O R Q A) (seen :
   pub newest : head ≡ seen.head
   pub ready : IsReady meaning seen made
 
--- a look and another commit of its history, with that commit's clock, and the nodes of the history's commits
-pub record IsPair {S O R Q A : Type 0} (meaning : Meaning S O R Q A) (seen : SeenView (Move O R)) (other clock : ℕ) (nodes : NodesView S) : Type 0 where
+-- a look and another commit of its history, with that commit's clock, the nodes of the history's commits, and maybe the base of the two commits
+pub record IsPair {S O R Q A : Type 0} (meaning : Meaning S O R Q A) (seen : SeenView (Move O R)) (other clock : ℕ) (nodes : NodesView S) (base : Option S) : Type 0 where
   pub there : other < length (store_of seen.terms.origin seen.history).commits
   pub timed : clock ≡ clock_of (store_of seen.terms.origin seen.history).commits other
   pub nodes_are : AreNodesOf meaning (store_of seen.terms.origin seen.history).commits nodes
+  pub base_is : IfSome base (IsBaseAt meaning (store_of seen.terms.origin seen.history).commits seen.head other)
 
 -- such a join of these commits
 abbrev pub IsJoinReady : {S O R Q A : Type 0} → Meaning S O R Q A → SeenView (Move O R) → List ℕ → Ready S O R → Type 0
 IsJoinReady meaning seen others (ready.Operation time value op reply spelled) = ⊥
 IsJoinReady meaning seen others (ready.Merge commit clock value spelled) = ⊥
-IsJoinReady meaning seen others (ready.Join commits clock value spelled) = (commits ≡ others) × IsReadyJoin meaning seen commits clock value × (spelled ≡ meaning.state_spelling value)
+IsJoinReady meaning seen others (ready.Join commits clock value spelled) = (commits ≡ others) × IsReadyJoin meaning seen commits clock value × IsSpelledValue meaning seen.terms.layout value spelled
 IsJoinReady meaning seen others (ready.Forward commit) = ⊥
 
 -- a look and its pairs with one to eight commits, all at one history, and the nodes of the history's commits

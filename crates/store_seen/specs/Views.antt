@@ -1,5 +1,6 @@
 -- What a core, a look and a prepared step are to a contract.
 use Rattle.std.specs.Prelude.{ℕ, List}
+use Rattle.std.specs.declared.option.Option.{Option}
 use Rattle.branch_names.specs.declared.terms.Terms.{Terms}
 use Rattle.branch_history.specs.declared.moves.Move.{Move}
 use Rattle.branch_history.specs.Steps as machine
@@ -33,9 +34,10 @@ pub record PreparedView (O R : Type 0) : Type 0 where
   pub seen : SeenView (Move O R)
   pub work : Work O R
 
--- the spellings of a value, an operation and its reply
+-- how many bytes the spelling of a value has, and the spelling where it is kept; and those of an operation and its reply
 pub record SpelledView : Type 0 where
-  pub value : List ℕ
+  pub size : ℕ
+  pub value : Option (List ℕ)
   pub op : List ℕ
   pub reply : List ℕ
 

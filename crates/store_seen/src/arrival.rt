@@ -3,14 +3,15 @@ ghost use Rattle.std.specs.Prelude.{◌≡◌};
 ghost use Rattle.store_seen.specs.Arrivals.{HasOrigin, IsWrittenArrival};
 
 use crate::move_list::MoveList;
-use crate::spelled::Spelled;
+use crate::spelled::{Spelled, SpelledValue};
 use branch_names::Terms;
-use mrdt_model::{Bytes, Listing, Mrdt};
+use mrdt_model::{Listing, Mrdt};
 use std::marker::Model;
 use std::snapshot::Snapshot;
 
 // What was made anew: an operation on its parent, with its clock, its reply and the value that it makes, or a merge with
-// its clock and its value; and the spellings of what is written of it.
+// its clock and its value; and the spellings of what is written of it, with the length of the value's, which only the layout
+// that keeps values spells.
 #[derive(Drop)]
 pub(crate) enum Arriving<T, O, R> {
     Operation {
@@ -25,7 +26,7 @@ pub(crate) enum Arriving<T, O, R> {
         parents: Listing<u32>,
         clock: u64,
         value: T,
-        spelled: Bytes,
+        spelled: SpelledValue,
     },
 }
 
@@ -55,21 +56,25 @@ impl<T: Mrdt> Model for Arrival<T> {
     ghost invariant = { λ a. IsArrival T.meaning a.terms a.history.value.items a.origin a.made };
 }
 
-/// What is written of a commit that was made anew: of an operation its parent, its clock, and the spellings of the
-/// value, of the operation and of the reply; of a merge its parents, its clock, and the spelling of the value.
+/// What is written of a commit that was made anew: of an operation its parent, its clock, the length of the value's
+/// spelling, and the spellings of the value, of the operation and of the reply; of a merge its parents, its clock, the
+/// length of the value's spelling, and this spelling. The value's spelling is there exactly in the layout that keeps
+/// values.
 #[derive(Clone, Copy)]
 pub enum WrittenArrival<'a> {
     Operation {
         parent: u32,
         clock: u64,
-        value: &'a [u8],
+        size: u64,
+        value: Option<&'a [u8]>,
         op: &'a [u8],
         reply: &'a [u8],
     },
     Merge {
         parents: &'a [u32],
         clock: u64,
-        value: &'a [u8],
+        size: u64,
+        value: Option<&'a [u8]>,
     },
 }
 
@@ -94,6 +99,7 @@ impl<T: Mrdt> Arrival<T> {
             } => WrittenArrival::Operation {
                 parent: *parent,
                 clock: *clock,
+                size: spelled.size(),
                 value: spelled.value(),
                 op: spelled.op(),
                 reply: spelled.reply(),
@@ -106,7 +112,8 @@ impl<T: Mrdt> Arrival<T> {
             } => WrittenArrival::Merge {
                 parents: parents.as_slice(),
                 clock: *clock,
-                value: spelled.as_slice(),
+                size: spelled.size,
+                value: spelled.bytes(),
             },
         }
     }

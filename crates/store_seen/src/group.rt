@@ -10,8 +10,9 @@ use crate::answers::PairPrepareRefused;
 use crate::pair::{Pair, PairStep};
 use crate::prepared::{Prepared, Ready};
 use crate::seen::Seen;
+use crate::spelled::SpelledValue;
 use crate::versions::joined;
-use mrdt_model::{Bytes, Listing, Memory, Mrdt};
+use mrdt_model::{Listing, Memory, Mrdt};
 use std::marker::Model;
 use std::snapshot::Snapshot;
 use std::sync::Arc;
@@ -81,7 +82,7 @@ impl<T: Mrdt> Group<T> {
     }
 
     // The head that was seen. It and one to eight other commits are there.
-    fn head(&self) -> u32
+    pub(crate) fn head(&self) -> u32
         ensures head { result ≡ self.now.head }
         ensures seen { IsSeen T.meaning (look_of self.now) }
         ensures there { All (λ n.
@@ -106,8 +107,8 @@ impl<T: Mrdt> Group<T> {
         Ok(value)
     }
 
-    // The commits as they were given.
-    fn others(&self) -> Result<Vec<u32>, Memory>
+    // The commits as they were given. They are one to eight, and there.
+    pub(crate) fn others(&self) -> Result<Vec<u32>, Memory>
         ensures { IfOk result (λ others. others.items ≡ self.now.others) }
     {
         let mut others = Vec::new(self.seen.alloc);
@@ -205,9 +206,8 @@ impl<T: Mrdt> Group<T> {
     {
         let _head = self.head();
         let seen = &self.seen;
-        let mut bytes = Vec::new(seen.alloc);
-        value.put(&mut bytes)?;
-        let length = bytes.len() as u64;
+        let spelled = SpelledValue::new::<T>(seen.alloc, seen.terms.layout, &value)?;
+        let length = spelled.size;
         if length > seen.terms.limits.value {
             return Err(PairPrepareRefused::ValueTooLarge { length });
         }
@@ -216,7 +216,7 @@ impl<T: Mrdt> Group<T> {
             commits: Listing::from_vec(brought),
             clock,
             value,
-            spelled: Bytes::from_vec(bytes),
+            spelled,
         })
     }
 }

@@ -1,5 +1,5 @@
 // A look paired with another commit, for a merge.
-ghost use Rattle.std.specs.Prelude.{◌≡◌, ◌∷◌, [], false, IfOk, IfErr, IfSome, IsNone};
+ghost use Rattle.std.specs.Prelude.{◌≡◌, ◌<◌, ◌∷◌, [], false, length, IfOk, IfErr, IfSome, IsNone};
 ghost use Rattle.std.specs.Arc.{arc_value};
 ghost use Rattle.branch_graph.specs.Graph.{reaches};
 ghost use Rattle.branch_history.specs.Commits.{graph_of, visible_at_all};
@@ -10,8 +10,9 @@ ghost use Rattle.store_seen.specs.Pairs.{seen_of, IsApart, IsBaseAt, IsStepOf, M
 use crate::answers::PairPrepareRefused;
 use crate::prepared::{Prepared, Ready};
 use crate::seen::Seen;
+use crate::spelled::SpelledValue;
 use branch_history::laws::{merges_lists, sees_alone};
-use mrdt_model::{Bytes, Memory, Mrdt};
+use mrdt_model::{Memory, Mrdt};
 use std::marker::Model;
 use std::snapshot::Snapshot;
 use std::sync::Arc;
@@ -25,6 +26,8 @@ pub struct Pair<T: Mrdt> {
     pub(crate) other: u32,
     pub(crate) clock: u64,
     pub(crate) nodes: Arc<Nodes<T>>,
+    // the base of the two commits, where it was handed to the pair
+    pub(crate) base: Option<T>,
 }
 
 impl<T: Mrdt> Model for Pair<T> {
@@ -44,7 +47,8 @@ impl<T: Mrdt> Model for Pair<T> {
       other = p.other;
     } };
 
-    ghost invariant = { λ p. IsPair T.meaning p.seen p.other p.clock (arc_value p.nodes) };
+    ghost invariant = { λ p.
+        IsPair T.meaning p.seen p.other p.clock (arc_value p.nodes) p.base };
 }
 
 /// What a pair is for.
@@ -58,7 +62,7 @@ pub enum PairStep<T: Mrdt> {
 
 impl<T: Mrdt> Pair<T> {
     /// Makes the merge ready to land on the head that was seen. It is refused as the machine refuses it, now and
-    /// however the history goes on. All work of a merge is done here.
+    /// however the history goes on. All work of a merge is done here, but for a base that was handed to the pair.
     pub fn prepare(&self) -> Result<PairStep<T>, PairPrepareRefused>
         ensures step { IfOk result (IsStepOf T.meaning self.now) }
         ensures refused { IfErr result (MergeRefusedAs T.meaning self.now) }
@@ -66,8 +70,39 @@ impl<T: Mrdt> Pair<T> {
         if let Some(step) = self.unmerged()? {
             return Ok(step);
         }
+        if let Some(base) = &self.base {
+            return self.prepare_over(base);
+        }
         let base = self.base()?;
         self.prepare_over(&base)
+    }
+
+    // The head that was seen and the commit to merge into it. Both are there.
+    pub(crate) fn commits(&self) -> (u32, u32)
+        ensures commits { result ≡ (self.now.head, self.now.other) }
+        ensures head { self.now.head
+            < length (store_of self.now.terms.origin self.now.history).commits }
+        ensures other { self.now.other
+            < length (store_of self.now.terms.origin self.now.history).commits }
+    {
+        let seen = &self.seen;
+        (seen.head, self.other)
+    }
+
+    // The same pair, with the base of its commits, if there is one.
+    pub(crate) fn with_base(self, base: Option<T>) -> Pair<T>
+        requires { IfSome base
+            (IsBaseAt T.meaning (store_of self.terms.origin self.history).commits
+            self.head self.other) }
+        ensures { result ≡ self }
+    {
+        Pair {
+            seen: self.seen,
+            other: self.other,
+            clock: self.clock,
+            nodes: self.nodes,
+            base,
+        }
     }
 
     // What the pair is for where it needs no merge: nothing, or a move up.
@@ -138,9 +173,8 @@ impl<T: Mrdt> Pair<T> {
     {
         let seen = &self.seen;
         let value = self.merged_value(base)?;
-        let mut bytes = Vec::new(seen.alloc);
-        value.put(&mut bytes)?;
-        let length = bytes.len() as u64;
+        let spelled = SpelledValue::new::<T>(seen.alloc, seen.terms.layout, &value)?;
+        let length = spelled.size;
         if length > seen.terms.limits.value {
             return Err(PairPrepareRefused::ValueTooLarge { length });
         }
@@ -148,7 +182,7 @@ impl<T: Mrdt> Pair<T> {
             commit: self.other,
             clock: seen.clock.max(self.clock),
             value,
-            spelled: Bytes::from_vec(bytes),
+            spelled,
         })
     }
 

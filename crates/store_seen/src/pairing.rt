@@ -19,8 +19,21 @@ use std::sync::Arc;
 
 impl<T: Mrdt> Versions<T> {
     /// Pairs a look at this core, taken now or earlier, with the head that a branch has now. `UnknownBranch` comes
-    /// exactly where no branch has the name.
-    pub fn pair(&self, seen: &Seen<T>, from: &Name) -> Result<Pair<T>, PairRefused>
+    /// exactly where no branch has the name. Where neither commit reaches the other, the pair is handed their base, which
+    /// is made with the folds that are kept.
+    pub fn pair(&mut self, seen: &Seen<T>, from: &Name) -> Result<Pair<T>, PairRefused>
+        requires history { IsPrefix seen.now.history self.old.core.history }
+        requires terms { seen.now.terms ≡ self.old.core.terms }
+        ensures paired { IfOk result (IsPaired T.meaning self.old.core seen.now from.now) }
+        ensures refused { IfErr result (PairRefusedAs T.meaning self.old.core from.now) }
+        ensures same { self.new ≡ self.old }
+    {
+        let pair = self.pair_named(seen, from)?;
+        Ok(self.with_base(pair))
+    }
+
+    // The same, with no base.
+    fn pair_named(&self, seen: &Seen<T>, from: &Name) -> Result<Pair<T>, PairRefused>
         requires history { IsPrefix seen.now.history self.now.core.history }
         requires terms { seen.now.terms ≡ self.now.core.terms }
         ensures paired { IfOk result (IsPaired T.meaning self.now.core seen.now from.now) }
@@ -31,6 +44,21 @@ impl<T: Mrdt> Versions<T> {
         };
         let other = self.heads.head(source);
         Ok(self.pair_at(seen, other)?)
+    }
+
+    // The same pair, with the base of its commits, where neither reaches the other and memory is there.
+    fn with_base(&mut self, pair: Pair<T>) -> Pair<T>
+        requires history { pair.history ≡ self.old.core.history }
+        requires terms { pair.terms ≡ self.old.core.terms }
+        ensures pair { result ≡ pair }
+        ensures same { self.new ≡ self.old }
+    {
+        if let Ok(None) = pair.unmerged() {
+            let (head, other) = pair.commits();
+            let base = self.base_at(head, other).ok();
+            return pair.with_base(base);
+        }
+        pair
     }
 
     /// Pairs a look at this core, taken now or earlier, with a commit.
@@ -53,6 +81,7 @@ impl<T: Mrdt> Versions<T> {
             other,
             clock: self.clocks[other as usize],
             nodes: self.nodes.share()?,
+            base: None,
         })
     }
 
@@ -180,6 +209,20 @@ impl<T: Mrdt> Versions<T> {
                 group.prepare_join(brought, value)
             }
         }
+    }
+
+    /// Makes the merge of a group that was grouped at this history ready to land: what the group prepares, with the folds
+    /// that are kept.
+    pub fn prepare_group(&mut self, group: &Group<T>) -> Result<PairStep<T>, PairPrepareRefused>
+        requires history { group.now.history ≡ self.old.core.history }
+        requires terms { group.now.terms ≡ self.old.core.terms }
+        ensures step { IfOk result (IsStepOfAll T.meaning group.now) }
+        ensures refused { IfErr result (MergeAllRefusedAs T.meaning group.now) }
+        ensures same { self.new ≡ self.old }
+    {
+        let _head = group.head();
+        let others = group.others()?;
+        self.prepare_all_at(&group.seen, &others)
     }
 
     // The value of a head and several commits together.

@@ -5,15 +5,15 @@ ghost use Rattle.store_seen.specs.Keeps.{IsSeen};
 ghost use Rattle.store_seen.specs.Written.{IsWritten};
 
 use crate::seen::Seen;
-use crate::spelled::Spelled;
-use mrdt_model::{Bytes, Listing, Memory, Mrdt, Time, Unread};
+use crate::spelled::{Spelled, SpelledValue};
+use mrdt_model::{Listing, Memory, Mrdt, Time, Unread};
 use std::alloc::Global;
 use std::marker::Model;
 use std::snapshot::Snapshot;
 
 // What lands on a branch: an operation with its time, its reply and the value that it makes, a merge of a commit or
 // a join of several with the new commit's clock and value, or a commit that the branch moves up to; and the spellings of what is
-// written of it.
+// written of it, with the length of the value's, which only the layout that keeps values spells.
 #[derive(Drop)]
 pub(crate) enum Ready<T, O, R> {
     Operation {
@@ -27,13 +27,13 @@ pub(crate) enum Ready<T, O, R> {
         commit: u32,
         clock: u64,
         value: T,
-        spelled: Bytes,
+        spelled: SpelledValue,
     },
     Join {
         commits: Listing<u32>,
         clock: u64,
         value: T,
-        spelled: Bytes,
+        spelled: SpelledValue,
     },
     Forward {
         commit: u32,
@@ -63,26 +63,30 @@ impl<T: Mrdt> Model for Prepared<T> {
     ghost invariant = { λ p. IsPrepared T.meaning p.seen.value p.origin p.branch p.head p.ready };
 }
 
-/// What is written of a work that is ready: of an operation its commit's clock, and the spellings of the new value,
-/// the operation and the reply; of a merge the commit that is merged, its own commit's clock, and the spelling of the
-/// new value; of a join the same with the commits that are joined; of a move up the commit.
+/// What is written of a work that is ready: of an operation its commit's clock, the length of the new value's spelling,
+/// and the spellings of the new value, the operation and the reply; of a merge the commit that is merged, its own
+/// commit's clock, and the length of the new value's spelling, and this spelling; of a join the same with the commits
+/// that are joined; of a move up the commit. The value's spelling is there exactly in the layout that keeps values.
 #[derive(Clone, Copy)]
 pub enum Written<'a> {
     Operation {
         clock: u64,
-        value: &'a [u8],
+        size: u64,
+        value: Option<&'a [u8]>,
         op: &'a [u8],
         reply: &'a [u8],
     },
     Merge {
         other: u32,
         clock: u64,
-        value: &'a [u8],
+        size: u64,
+        value: Option<&'a [u8]>,
     },
     Join {
         others: &'a [u32],
         clock: u64,
-        value: &'a [u8],
+        size: u64,
+        value: Option<&'a [u8]>,
     },
     Forward {
         other: u32,
@@ -121,6 +125,7 @@ impl<T: Mrdt> Prepared<T> {
         match &self.ready {
             Ready::Operation { time, spelled, .. } => Written::Operation {
                 clock: time.clock,
+                size: spelled.size(),
                 value: spelled.value(),
                 op: spelled.op(),
                 reply: spelled.reply(),
@@ -133,7 +138,8 @@ impl<T: Mrdt> Prepared<T> {
             } => Written::Merge {
                 other: *commit,
                 clock: *clock,
-                value: spelled.as_slice(),
+                size: spelled.size,
+                value: spelled.bytes(),
             },
             Ready::Join {
                 commits,
@@ -143,7 +149,8 @@ impl<T: Mrdt> Prepared<T> {
             } => Written::Join {
                 others: commits.as_slice(),
                 clock: *clock,
-                value: spelled.as_slice(),
+                size: spelled.size,
+                value: spelled.bytes(),
             },
             Ready::Forward { commit } => Written::Forward { other: *commit },
         }

@@ -18,10 +18,10 @@ ghost use Rattle.store_seen.specs.Turns.{Steps, StoodBefore, GoesBack};
 use crate::answers::{ReceiveRefused, Received, RemakeRefused};
 use crate::arrival::{Arrival, Arriving};
 use crate::group::brought_of;
-use crate::spelled::Spelled;
+use crate::spelled::{Spelled, SpelledValue};
 use crate::versions::Versions;
 use branch_names::Terms;
-use mrdt_model::{Bytes, Listing, Memory, Mrdt, Time};
+use mrdt_model::{Listing, Memory, Mrdt, Time};
 use std::alloc::Global;
 use std::snapshot::Snapshot;
 use std::sync::Arc;
@@ -45,7 +45,7 @@ impl<T: Mrdt> Versions<T> {
         let clock = self.clock_of(parent) + 1;
         let value = self.nodes.value(parent)?;
         let (value, reply) = value.apply(&op, Time { clock, origin })?;
-        let spelled = Spelled::new::<T>(self.alloc, &value, &op, &reply)?;
+        let spelled = Spelled::new::<T>(self.alloc, self.terms.layout, &value, &op, &reply)?;
         Ok(Arrival {
             history: Snapshot::of(&self.moves),
             terms: self.terms,
@@ -86,8 +86,7 @@ impl<T: Mrdt> Versions<T> {
             return Err(RemakeRefused::NotApart);
         }
         let value = self.merged_at(parents)?;
-        let mut spelled = Vec::new(self.alloc);
-        value.put(&mut spelled)?;
+        let spelled = SpelledValue::new::<T>(self.alloc, self.terms.layout, &value)?;
         Ok(Arrival {
             history: Snapshot::of(&self.moves),
             terms: self.terms,
@@ -96,7 +95,7 @@ impl<T: Mrdt> Versions<T> {
                 parents: listing_of(self.alloc, parents)?,
                 clock: self.greatest_clock(parents),
                 value,
-                spelled: Bytes::from_vec(spelled),
+                spelled,
             },
         })
     }
@@ -189,11 +188,7 @@ impl<T: Mrdt> Versions<T> {
                 parents,
                 spelled,
                 ..
-            } => self.may_receive_merge(
-                origin,
-                parents.as_slice(),
-                spelled.as_slice().len() as u64,
-            ),
+            } => self.may_receive_merge(origin, parents.as_slice(), spelled.size),
         }
     }
 

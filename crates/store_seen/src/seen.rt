@@ -141,7 +141,7 @@ impl<T: Mrdt> Seen<T> {
             origin,
         };
         let (value, reply) = self.value.apply(&op, time)?;
-        let spelled = Spelled::new::<T>(self.alloc, &value, &op, &reply)?;
+        let spelled = Spelled::new::<T>(self.alloc, self.terms.layout, &value, &op, &reply)?;
         let length = spelled.len();
         if length > self.terms.limits.value {
             return Err(PrepareRefused::ValueTooLarge { length });

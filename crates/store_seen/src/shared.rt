@@ -17,7 +17,7 @@ use std::marker::{Brand, Model};
 use std::sync::Arc;
 use std::sync::ledger::{Blank, Ledger};
 use virtual_base::laws::keeps_memos;
-use virtual_base::{Memo, Nodes, base, base_kept, value_at_all, value_at_all_kept};
+use virtual_base::{Memo, Nodes, base_kept, value_at_all_kept};
 
 // The nodes of a history. Contracts see a `NodesView`. Behind the reference there may be more, which were taken off
 // again while a pair shared them.
@@ -214,7 +214,22 @@ fn note(
     Ok(())
 }
 
-// The base of two commits, by the folds that are kept, if any are.
+// How many folds are kept where nobody says how many.
+const FOLDS: u32 = 256;
+
+// The folds that are kept, taken out; new ones where none are.
+fn kept_folds<T: Mrdt>(nodes: &Nodes<T>, folds: &mut Option<Memo<T>>) -> Result<Memo<T>, Memory>
+    requires { AreFoldsOf T.meaning nodes.now folds.old }
+    ensures memo { IfOk result (IsMemoOf T.meaning nodes.now) }
+    ensures folds { AreFoldsOf T.meaning nodes.now folds.new }
+{
+    match folds.take() {
+        Some(memo) => Ok(memo),
+        None => Memo::new(nodes.alloc(), FOLDS),
+    }
+}
+
+// The base of two commits, by the folds that are kept. They are kept from now on.
 fn base_by_folds<T: Mrdt>(
     nodes: &Nodes<T>,
     left: u32,
@@ -229,13 +244,13 @@ fn base_by_folds<T: Mrdt>(
         (right ∷ []))) }
     ensures folds { AreFoldsOf T.meaning nodes.now folds.new }
 {
-    match folds {
-        Some(memo) => base_by::<T, Brand>(nodes, left, right, memo, Blank::new(1)),
-        None => base(nodes, &[left], &[right]),
-    }
+    let mut memo = kept_folds(nodes, folds)?;
+    let base = base_by::<T, Brand>(nodes, left, right, &mut memo, Blank::new(1));
+    *folds = Some(memo);
+    base
 }
 
-// The value of several commits together, by the folds that are kept, if any are.
+// The value of several commits together, by the folds that are kept. They are kept from now on.
 fn value_by_folds<T: Mrdt>(
     nodes: &Nodes<T>,
     commits: &[u32],
@@ -246,10 +261,12 @@ fn value_by_folds<T: Mrdt>(
     ensures folded { IfOk result (IsFold T.meaning nodes.now commits.now) }
     ensures folds { AreFoldsOf T.meaning nodes.now folds.new }
 {
-    match folds {
-        Some(memo) => value_by::<T, Brand>(nodes, commits, memo, Blank::new(1)),
-        None => value_at_all(nodes, commits),
+    let mut memo = kept_folds(nodes, folds)?;
+    let value = value_by::<T, Brand>(nodes, commits, &mut memo, Blank::new(1));
+    if nodes.count() > 0 {
+        *folds = Some(memo);
     }
+    value
 }
 
 // The value of several commits together, with a memo, and with steps that nobody counts.

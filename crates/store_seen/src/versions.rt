@@ -10,7 +10,7 @@ ghost use Rattle.branch_history.specs.History.{store_of};
 ghost use Rattle.branch_history.specs.Machine.{turn, answers, commit_refusal, forward_refusal};
 ghost use Rattle.branch_history.specs.Steps as machine;
 ghost use Rattle.branch_history.specs.Validity.{IsMove, IsValid};
-ghost use Rattle.store_seen.specs.Keeps.{IsReadyOperation, IsReadyMerge, IsReadyJoin, IsReadyForward, AreSpelled};
+ghost use Rattle.store_seen.specs.Keeps.{IsReadyOperation, IsReadyMerge, IsReadyJoin, IsReadyForward};
 ghost use Rattle.store_seen.specs.Nodes.{AddsCommit, commit_at};
 ghost use Rattle.store_seen.specs.Times.{IsOwn};
 ghost use Rattle.store_seen.specs.Turns.{at_head, outcome_of, addresses_after, Moves, LookRefusedAs, MayLand, LandsAs, LandRefusedAs, RefusedBy, BranchAdded, Forks, ForkRefusedAs, StoodBefore, Undone, GoesBack};
@@ -398,7 +398,7 @@ impl<T: Mrdt> Versions<T> {
             < length (store_of self.old.core.terms.origin self.old.core.history).branches }
         requires ready { IsReadyOperation T.meaning (at_head self.old.core place.branch place.head)
             time value op reply }
-        requires spelled { AreSpelled T.meaning value op reply spelled }
+        requires spelled { spelled.reply ≡ T.meaning.reply_spelling reply }
         ensures landed { IfOk result (λ landed.
             Moves T.meaning self.old.core self.new.core (machine.Land place.branch place.head op)
             (Move.Operation place.branch op reply) (outcome_of landed.kind) landed.moves) }

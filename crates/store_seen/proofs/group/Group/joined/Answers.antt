@@ -1,10 +1,10 @@
 -- The value stands for what the head or one of the commits sees.
-use Rattle.std.proofs.Common.{◌≡◌, ◌<◌, ◌≤◌, ◌++◌, ◌∷◌, length, ap, sym, ◌∙◌, subst, arith, All}
+use Rattle.std.proofs.Common.{◌<◌, ◌≤◌, ◌∷◌, ap, sym, ◌∙◌, subst, All}
 use Rattle.std.specs.Prelude.{Contains}
 use Rattle.branch_history.specs.Commits.{greatest_clock}
 use Rattle.branch_history.specs.History.{store_of}
 use Rattle.store_seen.specs.Groups.{look_of}
-use Rattle.store_seen.specs.Keeps.{IsReadyJoin}
+use Rattle.store_seen.specs.Keeps.{IsReadyJoin, IsSpelledValue}
 use Rattle.store_seen.proofs.Groups.{join-given, join-too_large, join-ready}
 use Rattle.store_seen.proofs.group.Group.joined.Goals as goal
 
@@ -13,11 +13,9 @@ returns-then-length-seen-clause-refused g c =
     let laws = (g.met.T.Mrdt g.world.𝓛 g.world.𝓜 g.world.𝓡 ((λ s x. x), (λ x. x), (λ x. x), λ x. x)).laws in
     let m = g.T.Mrdt.meaning in
     let head = c.head-head.ensures in
-    let spelled = c.in_ok-put.ensures.ok ∙ ap (λ l. l ++ m.state_spelling c.args.value) c.new-bytes.ensures.items in
-    let counted = ap length spelled in
-    let size : c.len-length.result ≡ length (m.state_spelling c.args.value) = omega (arith, counted) in
-    let large = subst (λ t. t.limits.value < c.len-length.result) (ap (λ v. v.terms) c.seen.view_is ∙ ap (λ v. v.terms) c.self.view_is) c.if-length-seen.true in
-    join-too_large m laws c.args.self.now head.seen head.there c.args.brought.items c.requires.brought c.requires.several c.args.value c.requires.value c.len-length.result size large
+    let size = c.in_ok-spelled.ensures.size_is in
+    let large = subst (λ t. t.limits.value < c.in_ok-spelled.spelled.size) (ap (λ v. v.terms) c.seen.view_is ∙ ap (λ v. v.terms) c.self.view_is) c.if-length-seen.true in
+    join-too_large m laws c.args.self.now head.seen head.there c.args.brought.items c.requires.brought c.requires.several c.args.value c.requires.value c.in_ok-spelled.spelled.size size large
 
 pub greatest_clock-clock-requires-after_bounds : goal.greatest_clock-clock-requires-after_bounds
 greatest_clock-clock-requires-after_bounds g c κs within =
@@ -32,10 +30,8 @@ returns-clause-ready g c =
     let now = c.args.self.now in
     let head = c.head-head.ensures in
     let clock = c.greatest_clock-clock.result in
-    let spelled = c.in_ok-put.ensures.ok ∙ ap (λ l. l ++ m.state_spelling c.args.value) c.new-bytes.ensures.items in
-    let counted = ap length spelled in
-    let size : c.len-length.result ≡ length (m.state_spelling c.args.value) = omega (arith, counted) in
-    let fits = subst (λ t. c.len-length.result ≤ t.limits.value) (ap (λ v. v.terms) c.seen.view_is ∙ ap (λ v. v.terms) c.self.view_is) c.if-length-seen.false in
+    let size = c.in_ok-spelled.ensures.size_is in
+    let fits = subst (λ t. c.in_ok-spelled.spelled.size ≤ t.limits.value) (ap (λ v. v.terms) c.seen.view_is ∙ ap (λ v. v.terms) c.self.view_is) c.if-length-seen.false in
     let timed = c.greatest_clock-clock.ensures ∙ ap (λ l. greatest_clock (store_of now.terms.origin now.history).commits (now.head ∷ l)) c.deref.ensures.value in
-    let ready = join-ready m laws now head.seen head.there c.args.brought.items c.requires.brought c.requires.several c.args.value c.requires.value head.few clock c.len-length.result timed size fits in
-    (c.from_vec.ensures, subst (λ l. IsReadyJoin m (look_of now) l clock c.args.value) (sym c.from_vec.ensures) ready, c.from_vec-2.ensures ∙ spelled)
+    let ready = join-ready m laws now head.seen head.there c.args.brought.items c.requires.brought c.requires.several c.args.value c.requires.value head.few clock c.in_ok-spelled.spelled.size timed size fits in
+    (c.from_vec.ensures, subst (λ l. IsReadyJoin m (look_of now) l clock c.args.value) (sym c.from_vec.ensures) ready, subst (λ t. IsSpelledValue m t.layout c.args.value c.in_ok-spelled.spelled) (ap (λ v. v.terms) c.seen.view_is ∙ ap (λ v. v.terms) c.self.view_is) c.in_ok-spelled.ensures)

@@ -14,8 +14,8 @@ returns-in-Operation g c =
     let is = c.self.invariant in
     let ready = subst (λ r. IsReady m seen r) c.in-Operation.is is.ready in
     let same = ap (λ r. record { seen = seen; work = work_of r }) (sym c.in-Operation.is) ∙ c.self.view_is in
-    subst (λ p. IsWritten m p (written.Operation c.in-Operation.time.clock c.value.result c.op.result c.reply.result)) same
-    (rw (c.value.ensures, c.op.ensures, c.reply.ensures) (operation-written m laws seen is.look _ _ _ _ _ ready.0 ready.1))
+    subst (λ p. IsWritten m p (written.Operation c.in-Operation.time.clock c.size.result c.value.result c.op.result c.reply.result)) same
+    (rw (c.size.ensures, c.value.ensures, c.op.ensures, c.reply.ensures) (operation-written m laws seen is.look _ _ _ _ _ ready.0 ready.1))
 
 pub returns-in-Merge : goal.returns-in-Merge
 returns-in-Merge g c =
@@ -25,8 +25,8 @@ returns-in-Merge g c =
     let is = c.self.invariant in
     let ready = subst (λ r. IsReady m seen r) c.in-Merge.is is.ready in
     let same = ap (λ r. record { seen = seen; work = work_of r }) (sym c.in-Merge.is) ∙ c.self.view_is in
-    subst (λ p. IsWritten m p (written.Merge c.in-Merge.commit c.in-Merge.clock c.as_slice.result)) same
-    (rw c.as_slice.ensures.bytes (merge-written m laws seen is.look _ _ _ _ _ refl ready.0 ready.1))
+    subst (λ p. IsWritten m p (written.Merge c.in-Merge.commit c.in-Merge.clock c.in-Merge.spelled.size c.bytes.result)) same
+    (rw c.bytes.ensures (merge-written m laws seen is.look _ _ _ _ _ refl ready.0 ready.1))
 
 pub returns-in-Join : goal.returns-in-Join
 returns-in-Join g c =
@@ -36,5 +36,5 @@ returns-in-Join g c =
     let is = c.self.invariant in
     let ready = subst (λ r. IsReady m seen r) c.in-Join.is is.ready in
     let same = ap (λ r. record { seen = seen; work = work_of r }) (sym c.in-Join.is) ∙ c.self.view_is in
-    subst (λ p. IsWritten m p (written.Join c.as_slice-in-Join.result c.in-Join.clock c.as_slice-in-Join-2.result)) same
-    (rw c.as_slice-in-Join-2.ensures.bytes (join-written m laws seen is.look _ _ _ _ _ c.as_slice-in-Join.ensures ready.0 ready.1))
+    subst (λ p. IsWritten m p (written.Join c.as_slice.result c.in-Join.clock c.in-Join.spelled.size c.bytes-in-Join.result)) same
+    (rw c.bytes-in-Join.ensures (join-written m laws seen is.look _ _ _ _ _ c.as_slice.ensures ready.0 ready.1))

@@ -23,7 +23,7 @@ returns-then-length-self-clause-refused g c =
     let made = c.in_ok-value.ensures in
     let own : c.origin-origin.result ≡ c.self.inside.terms.origin + c.self.inside.branch = c.origin-origin.ensures ∙ ap (λ v. v.terms.origin + v.branch) (sym c.self.view_is) in
     let applies = rw own at made.applies in
-    let sized = spelled-size g.T.Mrdt.meaning c.in_ok-value.value c.args.op c.in_ok-value.reply c.in_ok-spelled.spelled c.in_ok-spelled.ensures size c.len-length.ensures in
+    let sized = spelled-size g.T.Mrdt.meaning _ c.in_ok-value.value c.args.op c.in_ok-value.reply c.in_ok-spelled.spelled c.in_ok-spelled.ensures size c.len-length.ensures in
     rw (← c.self.view_is)
     (refused-later g.T.Mrdt.meaning laws _ look c.args.op (machine.ValueTooLarge size)
     (op-too_large g.T.Mrdt.meaning laws _ look c.args.op c.self.inside.clock _ c.self.invariant.node c.deref.result.now c.deref.ensures c.in_ok-value.value c.in_ok-value.reply applies made.known.0 c.if-self.false size sized c.if-length-self.true))
@@ -36,7 +36,7 @@ invariant_of-result g c =
     let made = c.in_ok-value.ensures in
     let own : c.origin-origin.result ≡ c.self.inside.terms.origin + c.self.inside.branch = c.origin-origin.ensures ∙ ap (λ v. v.terms.origin + v.branch) (sym c.self.view_is) in
     let applies = rw own at made.applies in
-    let sized = spelled-size g.T.Mrdt.meaning c.in_ok-value.value c.args.op c.in_ok-value.reply c.in_ok-spelled.spelled c.in_ok-spelled.ensures size c.len-length.ensures in
+    let sized = spelled-size g.T.Mrdt.meaning _ c.in_ok-value.value c.args.op c.in_ok-value.reply c.in_ok-spelled.spelled c.in_ok-spelled.ensures size c.len-length.ensures in
     rw (c.of.ensures, own, ← c.self.view_is)
     (record {
       look = look;
@@ -69,6 +69,6 @@ returns-clause-fits g c =
     let made = c.in_ok-value.ensures in
     let own : c.origin-origin.result ≡ c.self.inside.terms.origin + c.self.inside.branch = c.origin-origin.ensures ∙ ap (λ v. v.terms.origin + v.branch) (sym c.self.view_is) in
     let applies = rw own at made.applies in
-    let sized = spelled-size g.T.Mrdt.meaning c.in_ok-value.value c.args.op c.in_ok-value.reply c.in_ok-spelled.spelled c.in_ok-spelled.ensures size c.len-length.ensures in
+    let sized = spelled-size g.T.Mrdt.meaning _ c.in_ok-value.value c.args.op c.in_ok-value.reply c.in_ok-spelled.spelled c.in_ok-spelled.ensures size c.len-length.ensures in
     rw (← c.self.view_is)
     (op-fits g.T.Mrdt.meaning laws _ look c.args.op c.self.inside.clock _ c.self.invariant.node c.deref.result.now c.deref.ensures c.in_ok-value.value c.in_ok-value.reply applies made.known.0 c.if-self.false size sized c.if-length-self.false)

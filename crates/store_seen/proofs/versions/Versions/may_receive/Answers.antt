@@ -29,7 +29,7 @@ may_receive_operation-requires-clause-sized g c κs within =
     let now = arrival-now m a.terms a.history.value.items a.origin a.made c.arrival.invariant core (ap core_then c.arrival.view_is ∙ c.requires) _ o.is in
     let remade = now.remade.0 in
     let spelled = now.remade.1 in
-    let size = c.len.ensures ∙ ap (λ l. length l + length o.spelled.op + length o.spelled.reply) spelled.value_is ∙ ap (λ l. length (m.state_spelling o.value) + length l + length o.spelled.reply) spelled.op_is ∙ ap (λ l. length (m.state_spelling o.value) + length (m.op_spelling o.op) + length l) spelled.reply_is in
+    let size = c.len.ensures ∙ ap (λ n. n + length o.spelled.op + length o.spelled.reply) spelled.size_is ∙ ap (λ l. length (m.state_spelling o.value) + length l + length o.spelled.reply) spelled.op_is ∙ ap (λ l. length (m.state_spelling o.value) + length (m.op_spelling o.op) + length l) spelled.reply_is in
     arrived-size m laws core.terms core.history now.valid a.origin o.parent o.op now.is_step.0 now.is_step.1 now.is_step.2 o.value o.reply remade.stands remade.replies c.len.result size
 
 pub returns-in-Operation-clause-may : goal.returns-in-Operation-clause-may
@@ -69,10 +69,9 @@ may_receive_merge-requires-after_bounds g c κs within =
     let a = c.arrival.inside in
     let o = c.in-Merge in
     let now = arrival-now m a.terms a.history.value.items a.origin a.made c.arrival.invariant core (ap core_then c.arrival.view_is ∙ c.requires) _ o.is in
-    ap length
-    (c.as_slice-in-Merge.ensures.bytes
-    ∙ now.remade.1
-    ∙ merge-spelled m laws core.terms core.history now.valid o.parents o.value now.remade.0.stands
+    now.remade.1.size_is
+    ∙ ap length
+    (merge-spelled m laws core.terms core.history now.valid o.parents o.value now.remade.0.stands
     ∙ ap (λ ns. m.spelling_of (visible_at_all s.commits ns)) (sym c.as_slice.ensures))
 
 pub returns-in-Merge-clause-may : goal.returns-in-Merge-clause-may

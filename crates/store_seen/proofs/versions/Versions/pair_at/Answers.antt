@@ -28,4 +28,5 @@ invariant_of-result g c =
       there = c.requires.there;
       timed = subst (λ v. clock ≡ clock_of (store_of v.core.terms.origin v.core.history).commits other) c.self.view_is timed;
       nodes_are = subst (λ n. AreNodesOf m (store_of c.args.self.now.core.terms.origin c.args.self.now.core.history).commits n) (sym c.in_ok-share.ensures) (subst (λ v. AreNodesOf m (store_of v.core.terms.origin v.core.history).commits c.self.inside.nodes) c.self.view_is are);
+      base_is = tt;
     })

@@ -1,5 +1,5 @@
 -- The parents are apart, and the value is that of all of them.
-use Rattle.std.proofs.Common.{◌≡◌, ◌++◌, ap, sym, ◌∙◌, subst}
+use Rattle.std.proofs.Common.{◌≡◌, ap, sym, ◌∙◌, subst}
 use Rattle.branch_history.specs.Commits.{greatest_clock, visible_at_all}
 use Rattle.branch_history.specs.History.{store_of}
 use Rattle.branch_history.specs.Validity.{IsStep}
@@ -26,5 +26,5 @@ invariant_of-result g c =
     (record {
       valid = c.self.invariant.valid;
       is_step = is_step;
-      remade = (record { timed = timed; stands = stands }, c.from_vec.ensures ∙ c.in_ok-put.ensures.ok ∙ ap (λ l. l ++ m.state_spelling c.in_ok-value.value) c.new-spelled.ensures.items);
+      remade = (record { timed = timed; stands = stands }, c.in_ok-spelled.ensures);
     })

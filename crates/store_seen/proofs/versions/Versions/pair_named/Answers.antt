@@ -2,7 +2,7 @@
 use Rattle.std.proofs.Common.{◌<◌, length, refl, subst}
 use Rattle.branch_history.specs.History.{store_of}
 use Rattle.store_seen.proofs.Cores.{look-refused, head-there, head-sees}
-use Rattle.store_seen.proofs.versions.Versions.pair.Goals as goal
+use Rattle.store_seen.proofs.versions.Versions.pair_named.Goals as goal
 
 pub returns-in_default-clause-refused : goal.returns-in_default-clause-refused
 returns-in_default-clause-refused g c =
