@@ -1,20 +1,24 @@
--- The objects of a commit, but of the first one, are told from all other stored objects by their addresses.
-use Rattle.std.proofs.Common.{zero, suc, ◌≡◌, ◌⊎◌, inl, inr, ℕ, ◌+◌, ◌<◌, ◌≤◌, Bool, true, false, cond, ◌||◌, List, [], ◌∷◌, ◌++◌, length, refl, sym, ◌∙◌, ap, arith, subst, append-nil, append_assoc, length-append, Some, None, Option, ⊎_elim}
+-- The objects of a commit, but of the first one, are told from all other stored objects by their addresses, that of its value where the layout keeps it.
+use Rattle.std.proofs.Common.{zero, suc, ◌≡◌, ◌⊎◌, inl, inr, ℕ, ◌+◌, ◌<◌, ◌≤◌, Bool, true, false, cond, ◌||◌, List, [], ◌∷◌, ◌++◌, length, refl, sym, ◌∙◌, ap, arith, subst, append-nil, append_assoc, length-append, Some, None, ⊎_elim}
 use Rattle.std.specs.List.{list_any, find}
 use Rattle.std.proofs.lemmas.Bool.{or_left, or_right, cases_lt}
 use Rattle.std.proofs.lemmas.List.Folds.{list_any-append}
 use Rattle.mrdt_model.specs.Laws.{KeepsLaws}
+use Rattle.branch_names.specs.declared.layout.Layout.{Layout}
+use Rattle.branch_names.specs.declared.layout.Layout.TheVariants.{Whole, Changes}
+use Rattle.branch_wire.specs.Objects.{value_object}
 use Rattle.branch_wire.specs.StoredObjects.{Stored, same, has_address, first_with, clash, collision, fresh}
 use Rattle.branch_history.specs.declared.moves.Move.{Move}
-use Rattle.branch_history.specs.Commits.{Commit}
+use Rattle.branch_history.specs.Commits.{Commit, visible}
 use Rattle.branch_history.specs.History.{Store, store_of}
 use Rattle.branch_history.proofs.Histories.{valid-kept}
 use Rattle.branch_history.proofs.Valid.{IsAccepted-from}
 use Rattle.branch_machine.specs.Fixed.{Fixed}
-use Rattle.branch_machine.specs.Objects.{Pair, both, commit_text, value_text, pair_at, pairs_of, store_after, objects_of}
+use Rattle.branch_machine.specs.Objects.{Pair, given, both, kept_value, commit_text, value_text, pair_at, pairs_of, store_after, objects_of}
 use Rattle.branch_machine.specs.Laws.{HasSize}
 use Rattle.branch_machine.specs.Validity.{IsFullMove, IsFullyValid}
-use Rattle.branch_machine.proofs.Stored.{same-eq, same-refl, listed-before, clash-none, collision-second}
+use Rattle.branch_machine.proofs.Stored.{same-eq, same-refl, listed-before, clash-none}
+use Rattle.branch_machine.proofs.Both.{IsListedValue, collision-first, collision-own}
 use Rattle.branch_machine.proofs.Valid.{by_moves, full_move-is, valid-before}
 use Rattle.branch_machine.proofs.Pairs.{commit_text-old, commit_text-new, value_text-old, value_text-new, length-pairs_of, pairs_of-one, objects-more}
 use Rattle.branch_machine.proofs.Distinct.{MakesOne, one-or-none, made-objects, no-objects, no-collision, valid-sound}
@@ -76,35 +80,42 @@ module _ (address : List ℕ → List ℕ) where
   listed-last : (z : List ℕ) (stored : Stored) → list_any (same z) (stored ++ z ∷ []) ≡ true
   listed-last z stored = list_any-append (same z) stored (z ∷ []) ∙ or_right (list_any (same z) stored) (list_any (same z) (z ∷ [])) (ap (λ b. b || false) (same-refl z))
 
-  collision-first : (x y : List ℕ) (stored : Stored) → collision address stored (x ∷ y ∷ []) ≡ None → clash address x stored ≡ None
-  collision-first x y stored none = at (clash address x stored) none
-    where
-      at : (o : Option (List ℕ)) → ◌≡◌ {A = Option (List ℕ × List ℕ)} (elim o [ None ↦ collision address (stored ++ x ∷ []) (y ∷ []) | Some z ↦ Some (z, x) ]) None → o ≡ None
-      at None is = refl
-      at (Some z) is = cc
+  -- the object of a value does not collide with the one before, where it is kept
+  alone-given : (v c x : List ℕ) (stored : Stored) → collision address stored (given v ++ c ∷ []) ≡ None → list_any (same x) stored ≡ true → IsAlone stored x → IsAlone (stored ++ given v) x
+  alone-given [] c x stored free there alone = subst (λ (s : Stored). IsAlone s x) (sym (append-nil stored)) alone
+  alone-given (b ∷ bs) c x stored free there alone = alone-more x (b ∷ bs) stored there alone (collision-first address (b ∷ bs) c stored free)
 
-  -- two more objects that do not collide
-  module _ (stored : Stored) (v c : List ℕ) (free : collision address stored (v ∷ c ∷ []) ≡ None) where
+  -- the object of a value is alone, where the layout keeps it
+  abbrev pub IsAloneValue : Layout → Stored → List ℕ → Type 0
+  IsAloneValue Whole stored v = IsAlone stored v
+  IsAloneValue Changes stored v = Unit {0}
+
+  -- the objects of one more commit that do not collide
+  module _ (stored : Stored) (v c : List ℕ) (free : collision address stored (given v ++ c ∷ []) ≡ None) where
     abbrev grown : Stored
-    grown = stored ++ fresh stored (v ∷ c ∷ [])
+    grown = stored ++ fresh stored (given v ++ c ∷ [])
 
-    one : clash address v stored ≡ None
-    one = collision-first v c stored free
+    own : clash address c (stored ++ given v) ≡ None
+    own = collision-own address v c stored free
 
-    two : clash address c (stored ++ v ∷ []) ≡ None
-    two = collision-second address c v stored free
-
-    fewer : (x : List ℕ) → IsAlone ((stored ++ v ∷ []) ++ c ∷ []) x → IsAlone grown x
-    fewer x alone y any is = alone y (ap (list_any (same y)) (append_assoc stored (v ∷ []) (c ∷ [])) ∙ listed-within y stored (v ∷ c ∷ []) any) is
+    fewer : (x : List ℕ) → IsAlone ((stored ++ given v) ++ c ∷ []) x → IsAlone grown x
+    fewer x alone y any is = alone y (ap (list_any (same y)) (append_assoc stored (given v) (c ∷ [])) ∙ listed-within y stored (given v ++ c ∷ []) any) is
 
     pub alone-old : (x : List ℕ) → list_any (same x) stored ≡ true → IsAlone stored x → IsAlone grown x
-    alone-old x there alone = fewer x (alone-more x c (stored ++ v ∷ []) (listed-before x stored (v ∷ []) there) (alone-more x v stored there alone one) two)
+    alone-old x there alone = fewer x (alone-more x c (stored ++ given v) (listed-before x stored (given v) there) (alone-given v c x stored free there alone) own)
 
-    pub alone-first : IsAlone grown v
-    alone-first = fewer v (alone-more v c (stored ++ v ∷ []) (listed-last v stored) (alone-new v stored one) two)
+    pub alone-own : IsAlone grown c
+    alone-own = fewer c (alone-new c (stored ++ given v) own)
 
-    pub alone-second : IsAlone grown c
-    alone-second = fewer c (alone-new c (stored ++ v ∷ []) two)
+    pub alone-old_value : (layout : Layout) (x : List ℕ) → IsListedValue layout stored x → IsAloneValue layout stored x → IsAloneValue layout grown x
+    alone-old_value Whole x there alone = alone-old x there alone
+    alone-old_value Changes x there alone = tt
+
+  pub alone-value : (layout : Layout) (spelling c : List ℕ) (stored : Stored) → collision address stored (given (kept_value layout spelling) ++ c ∷ []) ≡ None → IsAloneValue layout (stored ++ fresh stored (given (kept_value layout spelling) ++ c ∷ [])) (kept_value layout spelling)
+  alone-value Whole spelling c stored free =
+      let v = value_object spelling in
+      fewer stored v c free v (alone-more v c (stored ++ v ∷ []) (listed-last v stored) (alone-new v stored (collision-first address v c stored free)) (own stored v c free))
+  alone-value Changes spelling c stored free = tt
 
   -- it is the first one with its address
   pub found-alone : (x : List ℕ) (stored : Stored) → list_any (same x) stored ≡ true → IsAlone stored x → first_with address (address x) stored ≡ Some x
@@ -124,13 +135,13 @@ module _ (address : List ℕ → List ℕ) where
 module _ {S O R Q A : Type 0} (fixed : Fixed S O R Q A) where
   -- the objects of all commits but the first are alone with their addresses
   pub record AreAlone (s : Store O R) (stored : Stored) : Type 0 where
-    pub values : (n : ℕ) → 0 < n → n < length s.commits → IsAlone fixed.address stored (value_text (pairs_of fixed s.commits) n)
+    pub values : (n : ℕ) → 0 < n → n < length s.commits → IsAloneValue fixed.address fixed.terms.layout stored (value_text (pairs_of fixed s.commits) n)
     pub commits : (n : ℕ) → 0 < n → n < length s.commits → IsAlone fixed.address stored (commit_text (pairs_of fixed s.commits) n)
 
   module _ (laws : KeepsLaws fixed.meaning) (size : HasSize fixed.address) where
     -- one more commit
     alone-made : (s new : Store O R) (stored : Stored) → AreAlone s stored → (made : Commit O R) → new.commits ≡ s.commits ++ made ∷ []
-        → ((n : ℕ) → n < length s.commits → (list_any (same (value_text (pairs_of fixed s.commits) n)) stored ≡ true) × (list_any (same (commit_text (pairs_of fixed s.commits) n)) stored ≡ true))
+        → ((n : ℕ) → n < length s.commits → IsListedValue fixed.terms.layout stored (value_text (pairs_of fixed s.commits) n) × (list_any (same (commit_text (pairs_of fixed s.commits) n)) stored ≡ true))
         → let p = pair_at fixed s.commits (pairs_of fixed s.commits) made in
         collision fixed.address stored (both p) ≡ None → AreAlone new (stored ++ fresh stored (both p))
     alone-made s new stored alone made commits listed free =
@@ -145,11 +156,11 @@ module _ {S O R Q A : Type 0} (fixed : Fixed S O R Q A) where
               ⊎_elim
               (λ (less : n < length s.commits).
               let text : value_text (pairs_of fixed new.commits) n ≡ value_text old n = ap (λ (ps : List Pair). value_text ps n) pairs ∙ value_text-old old (p ∷ []) n (omega (arith, less, count)) in
-              subst (IsAlone fixed.address more) (sym text) (alone-old fixed.address stored p.value p.commit free (value_text old n) (listed n less).0 (alone.values n low less)))
+              subst (IsAloneValue fixed.address fixed.terms.layout more) (sym text) (alone-old_value fixed.address stored p.value p.commit free fixed.terms.layout (value_text old n) (listed n less).0 (alone.values n low less)))
               (λ (most : length s.commits ≤ n).
               let at : n ≡ length old = omega (arith, most, last n lt, count) in
               let text : value_text (pairs_of fixed new.commits) n ≡ p.value = ap (λ (ps : List Pair). value_text ps n) pairs ∙ ap (value_text (old ++ p ∷ [])) at ∙ value_text-new old p in
-              subst (IsAlone fixed.address more) (sym text) (alone-first fixed.address stored p.value p.commit free))
+              subst (IsAloneValue fixed.address fixed.terms.layout more) (sym text) (alone-value fixed.address fixed.terms.layout (fixed.meaning.spelling_of (visible (s.commits ++ made ∷ []) (length s.commits))) p.commit stored free))
               (cases_lt n (length s.commits));
           commits = λ n low lt.
               ⊎_elim
@@ -159,14 +170,14 @@ module _ {S O R Q A : Type 0} (fixed : Fixed S O R Q A) where
               (λ (most : length s.commits ≤ n).
               let at : n ≡ length old = omega (arith, most, last n lt, count) in
               let text : commit_text (pairs_of fixed new.commits) n ≡ p.commit = ap (λ (ps : List Pair). commit_text ps n) pairs ∙ ap (commit_text (old ++ p ∷ [])) at ∙ commit_text-new old p in
-              subst (IsAlone fixed.address more) (sym text) (alone-second fixed.address stored p.value p.commit free))
+              subst (IsAlone fixed.address more) (sym text) (alone-own fixed.address stored p.value p.commit free))
               (cases_lt n (length s.commits));
         }
 
     alone-same : (s new : Store O R) (stored : Stored) → AreAlone s stored → new.commits ≡ s.commits → AreAlone new stored
     alone-same s new stored alone same_commits =
         record {
-          values = subst (λ (cs : List (Commit O R)). (n : ℕ) → 0 < n → n < length cs → IsAlone fixed.address stored (value_text (pairs_of fixed cs) n)) (sym same_commits) alone.values;
+          values = subst (λ (cs : List (Commit O R)). (n : ℕ) → 0 < n → n < length cs → IsAloneValue fixed.address fixed.terms.layout stored (value_text (pairs_of fixed cs) n)) (sym same_commits) alone.values;
           commits = subst (λ (cs : List (Commit O R)). (n : ℕ) → 0 < n → n < length cs → IsAlone fixed.address stored (commit_text (pairs_of fixed cs) n)) (sym same_commits) alone.commits;
         }
 

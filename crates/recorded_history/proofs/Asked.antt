@@ -4,7 +4,7 @@ use Rattle.std.specs.List.{AllByRecursion}
 use Rattle.mrdt_model.specs.Laws.{KeepsLaws}
 use Rattle.branch_wire.specs.Fields.{short_number, number, field, counted}
 use Rattle.branch_wire.specs.Reading.{HasLength64}
-use Rattle.branch_wire.specs.Objects.{CommitFields, action_field, commit_body, commit_object, value_object, HasParents}
+use Rattle.branch_wire.specs.Objects.{CommitFields, action_field, value_field, commit_body, commit_kind, commit_object, HasParents}
 use Rattle.branch_wire.specs.declared.action.Action.{Action}
 use Rattle.branch_wire.specs.declared.action.Action.TheVariants as wire
 use Rattle.branch_wire.proofs.Numbers.{same_parts, length-number, length-field}
@@ -22,6 +22,7 @@ use Rattle.branch_machine.specs.Laws.{HasSize}
 use Rattle.branch_machine.specs.Validity.{IsFullyValid, IsItem}
 use Rattle.branch_machine.proofs.Distinct.{all-sized, few-sized, addresses-same, valid-sound}
 use Rattle.recorded_history.specs.Asks.{HaveAddresses, Asks, IsAsked}
+use Rattle.recorded_history.proofs.Layouts.{kept-sized}
 
 -- a refusal handed on is the same
 pub same-error : {X Y E : Type 0} (e k : E) → IsErrOf {T = X} (Err e) k → IsErrOf {T = Y} (Err e) k
@@ -32,7 +33,8 @@ pub same-object : (c d : CommitFields) → IsCommit c → IsCommit d → commit_
 same-object c d p q is =
     let inner : field (commit_body c) ≡ field (commit_body d) = cc is in
     let bodies = (same_parts (number (length (commit_body c))) (commit_body c) (number (length (commit_body d))) (commit_body d) (length-number (length (commit_body c)) ∙ sym (length-number (length (commit_body d)))) inner).1 in
-    (same_commit c d [] [] p q (append-nil (commit_body c) ∙ bodies ∙ sym (append-nil (commit_body d)))).0
+    let kinds : commit_kind c.value ≡ commit_kind d.value = cc is in
+    (same_commit c d [] [] p q kinds (append-nil (commit_body c) ∙ bodies ∙ sym (append-nil (commit_body d)))).0
 
 -- a body is as short as one of an equal object
 short-as : (c d : CommitFields) → HasLength64 (commit_body d) → commit_object c ≡ commit_object d → HasLength64 (commit_body c)
@@ -41,7 +43,7 @@ short-as c d short is = omega (arith, short, ap length is, length-field (commit_
 -- the spelling of its operation is not too long
 pub operation-short : (f : CommitFields) (o a : List ℕ) → HasLength64 (commit_body f) → f.action ≡ wire.Operation o a → HasLength64 o
 operation-short f o a short is =
-    let front : List ℕ = counted (λ address. address) f.parents ++ short_number f.branch ++ number f.clock ++ f.value in
+    let front : List ℕ = counted (λ address. address) f.parents ++ short_number f.branch ++ number f.clock ++ value_field f.value in
     let parts : commit_body f ≡ front ++ 1 ∷ (field o ++ field a) = ap (λ (x : Action). front ++ action_field x) is in
     omega (arith, short, ap length parts, length-append front (1 ∷ (field o ++ field a)), length-append (field o) (field a), length-field o, length-field a)
 
@@ -91,7 +93,7 @@ module _ {S O R Q A : Type 0} (fixed : Fixed S O R Q A) (laws : KeepsLaws fixed.
     addresses = all-sized fixed.address size pairs c.parents;
     branch = small;
     clock = clock-of-step item step c is i;
-    value = size (pair_next fixed history c).value;
+    value = kept-sized fixed.terms.layout (fixed.address (pair_next fixed history c).value) (size (pair_next fixed history c).value);
     short = short;
   }
 

@@ -1,4 +1,6 @@
 pub mod Crosses
+pub mod Layouts
+pub mod Known
 pub mod Steps
 pub mod Heads
 pub mod Commits

@@ -1,5 +1,5 @@
 -- What staging a work's objects answers.
-use Rattle.std.proofs.Common.{◌≡◌, ℕ, ◌+◌, ◌<◌, List, [], ◌∷◌, ◌++◌, length, map, refl, ap, sym, ◌∙◌, arith, Some, None, All, get_or, slice_get, append_assoc, subst, Bor}
+use Rattle.std.proofs.Common.{◌≡◌, ℕ, ◌+◌, ◌<◌, List, [], ◌∷◌, ◌++◌, length, map, refl, ap, sym, ◌∙◌, arith, Some, None, All, get_or, slice_get, append_assoc, subst, Bor, Option}
 use Rattle.std.proofs.lemmas.List.{length-map}
 use Rattle.std.proofs.lemmas.Option.{slice_get-get_or}
 use Rattle.std.specs.List.{AllByRecursion}
@@ -10,7 +10,6 @@ use Rattle.branch_names.specs.declared.terms.Terms.{Terms}
 use Rattle.branch_names.specs.Heads.{head_of}
 use Rattle.branch_wire.specs.declared.action.Action.{Action}
 use Rattle.branch_wire.specs.declared.action.Action.TheVariants as wire
-use Rattle.branch_wire.specs.Objects.{value_object, commit_object}
 use Rattle.branch_wire.specs.StoredObjects.{Stored, collision, fresh}
 use Rattle.branch_history.specs.declared.moves.Move.{Move}
 use Rattle.branch_history.specs.Commits.{Commit}
@@ -20,18 +19,18 @@ use Rattle.branch_history.specs.Steps as machine
 use Rattle.branch_history.proofs.Lists.{AllByRecursion-more}
 use Rattle.branch_history.proofs.Valid.{store_of-more}
 use Rattle.branch_machine.specs.Fixed.{Fixed, fix}
-use Rattle.branch_machine.specs.Objects.{both, address_at, store_after, pairs_of, objects_of, end_of}
+use Rattle.branch_machine.specs.Objects.{Pair, both, address_at, store_after, pairs_of, objects_of, end_of}
 use Rattle.branch_machine.specs.Validity.{IsFullyValid}
 use Rattle.branch_machine.proofs.Pairs.{length-pairs_of}
 use Rattle.object_store.specs.declared.errors.StageRefused.{StageRefused}
 use Rattle.object_store.specs.declared.errors.StageRefused.TheVariants as staging
-use Rattle.object_store.specs.Commits.{commit_fields}
+use Rattle.object_store.specs.Commits.{commit_fields, pair_with}
 use Rattle.object_store.specs.Refusals.{RefusesToStage}
 use Rattle.object_store.specs.Views.{ObjectsView}
 use Rattle.store_seen.specs.declared.answers.LandRefused as seen
 use Rattle.store_seen.specs.declared.answers.LandRefused.TheVariants as seen_refusal
 use Rattle.store_seen.specs.declared.prepared.Written.TheVariants as written
-use Rattle.store_seen.specs.Keeps.{IsSeen}
+use Rattle.store_seen.specs.Keeps.{IsSeen, bytes_at}
 use Rattle.store_seen.specs.Turns.{step_of, move_of, addresses_after}
 use Rattle.store_seen.specs.Turns as turns
 use Rattle.store_seen.specs.Views.{SeenView, PreparedView, Work, Operation, Merge, Join, Forward}
@@ -43,37 +42,36 @@ use Rattle.recorded_history.proofs.Steps.{address-found, refusal_for, full-colli
 use Rattle.recorded_history.proofs.Heads.{may-head}
 use Rattle.recorded_history.proofs.Commits.{operation-one, operation-pair, merge-one, merge-pair, join-one, join-pair, commit-there}
 
--- a work's move makes a commit, and these are its value's object and its own
-pub record MakesPair {S O R Q A : Type 0} (fixed : Fixed S O R Q A) (history : List (Move O R)) (work : Work O R) (made : Move O R) (value commit : List ℕ) : Type 0 where
+-- a work's move makes a commit, and these are its objects
+pub record MakesPair {S O R Q A : Type 0} (fixed : Fixed S O R Q A) (history : List (Move O R)) (work : Work O R) (made : Move O R) (objects : Pair) : Type 0 where
   pub new : Commit O R
   pub one : (store_after fixed (history ++ made ∷ [])).commits ≡ (store_after fixed history).commits ++ new ∷ []
-  pub pair : value ∷ commit ∷ [] ≡ both (new_pair fixed history made new one)
+  pub pair : objects ≡ new_pair fixed history made new one
   pub after : (a : List ℕ) (l : List (List ℕ)) → addresses_after work a l ≡ l ++ a ∷ []
 
 module _ {S O R Q A : Type 0} (fixed : Fixed S O R Q A) (history : List (Move O R)) (stored : Stored) (stored_is : stored ≡ objects_of fixed history) where
-  module _ (work : Work O R) (made : Move O R) (value commit : List ℕ) (makes : MakesPair fixed history work made value commit) where
-    collides : collision fixed.address stored (value ∷ commit ∷ []) ≡ collision fixed.address (objects_of fixed history) (both (new_pair fixed history made makes.new makes.one))
-    collides = ap (λ (s : Stored). collision fixed.address s (value ∷ commit ∷ [])) stored_is ∙ ap (collision fixed.address (objects_of fixed history)) makes.pair
+  module _ (work : Work O R) (made : Move O R) (own : Pair) (makes : MakesPair fixed history work made own) where
+    collides : collision fixed.address stored (both own) ≡ collision fixed.address (objects_of fixed history) (both (new_pair fixed history made makes.new makes.one))
+    collides = ap (λ (s : Stored). collision fixed.address s (both own)) stored_is ∙ ap (λ (p : Pair). collision fixed.address (objects_of fixed history) (both p)) makes.pair
 
-    -- the two objects are staged
-    pub staged-one : (old objects : ObjectsView) (a : List ℕ) → old.stored ++ old.staged ≡ stored → collision fixed.address stored (value ∷ commit ∷ []) ≡ None → objects.stored ≡ old.stored → objects.staged ≡ old.staged ++ fresh stored (value ∷ commit ∷ []) → a ≡ fixed.address commit
+    -- the objects are staged
+    pub staged-one : (old objects : ObjectsView) (a : List ℕ) → old.stored ++ old.staged ≡ stored → collision fixed.address stored (both own) ≡ None → objects.stored ≡ old.stored → objects.staged ≡ old.staged ++ fresh stored (both own) → a ≡ fixed.address own.commit
         → IsStaged fixed history work made old objects a
     staged-one old objects a all none same added address_is =
         let p = new_pair fixed history made makes.new makes.one in
-        let commit_is : commit ≡ p.commit = let e = makes.pair in cc in
-        let own : a ≡ fixed.address p.commit = address_is ∙ ap fixed.address commit_is in
-        let new : fresh stored (value ∷ commit ∷ []) ≡ fresh (objects_of fixed history) (both p) = ap (λ (s : Stored). fresh s (value ∷ commit ∷ [])) stored_is ∙ ap (fresh (objects_of fixed history)) makes.pair in
+        let address_own : a ≡ fixed.address p.commit = address_is ∙ ap (λ (q : Pair). fixed.address q.commit) makes.pair in
+        let new : fresh stored (both own) ≡ fresh (objects_of fixed history) (both p) = ap (λ (s : Stored). fresh s (both own)) stored_is ∙ ap (λ (q : Pair). fresh (objects_of fixed history) (both q)) makes.pair in
         record {
           free = one-refused fixed history made makes.new makes.one ∙ ap (refusal_for fixed.address) (sym collides ∙ none);
           stored = same;
-          staged = ap (λ (s : Stored). s ++ objects.staged) same ∙ ap (λ (s : Stored). old.stored ++ s) added ∙ sym (append_assoc old.stored old.staged (fresh stored (value ∷ commit ∷ [])))
-              ∙ ap (λ (s : Stored). s ++ fresh stored (value ∷ commit ∷ [])) (all ∙ stored_is) ∙ ap (λ (s : Stored). objects_of fixed history ++ s) new ∙ sym (one-stored fixed history made makes.new makes.one);
-          addressed = makes.after a (addresses_of fixed history) ∙ ap (λ (b : List ℕ). addresses_of fixed history ++ b ∷ []) own ∙ sym (one-addresses fixed history made makes.new makes.one);
-          recorded = record-is fixed history made a (end_of fixed (history ++ made ∷ [])) (one-address fixed history made makes.new makes.one ∙ sym own) refl;
+          staged = ap (λ (s : Stored). s ++ objects.staged) same ∙ ap (λ (s : Stored). old.stored ++ s) added ∙ sym (append_assoc old.stored old.staged (fresh stored (both own)))
+              ∙ ap (λ (s : Stored). s ++ fresh stored (both own)) (all ∙ stored_is) ∙ ap (λ (s : Stored). objects_of fixed history ++ s) new ∙ sym (one-stored fixed history made makes.new makes.one);
+          addressed = makes.after a (addresses_of fixed history) ∙ ap (λ (b : List ℕ). addresses_of fixed history ++ b ∷ []) address_own ∙ sym (one-addresses fixed history made makes.new makes.one);
+          recorded = record-is fixed history made a (end_of fixed (history ++ made ∷ [])) (one-address fixed history made makes.new makes.one ∙ sym address_own) refl;
         }
 
     -- or refused, as the machine refuses the move
-    pub staged-refused : (seen : SeenView (Move O R)) → (turn fixed.meaning fixed.terms history (step_of seen work)).made ≡ made ∷ [] → (refused : StageRefused) → RefusesToStage fixed.address stored (value ∷ commit ∷ []) refused
+    pub staged-refused : (seen : SeenView (Move O R)) → (turn fixed.meaning fixed.terms history (step_of seen work)).made ≡ made ∷ [] → (refused : StageRefused) → RefusesToStage fixed.address stored (both own) refused
         → LandRefusedAs fixed (record { seen = seen; work = work }) history (stage_refused refused)
     staged-refused seen may (staging.Collision a y x) is =
         full-collides fixed history (step_of seen work) (work-plain fixed history seen work) made (machine.Collision a y x) may
@@ -99,22 +97,22 @@ staged-none {S} {O} {R} fixed history branch (Forward commit) seen other is obje
     }
 
 -- the commit that is merged is one of the look's
-pub other-there : {S O R Q A : Type 0} (meaning : Meaning S O R Q A) (seen : SeenView (Move O R)) (work : Work O R) (other clock : ℕ) (value : Bor (List ℕ)) → IsWrittenWork meaning seen work (written.Merge other clock value) → other < length (store_of seen.terms.origin seen.history).commits
-other-there meaning seen (Operation op reply) other clock value is = absurd is
-other-there meaning seen (Merge commit) other clock value is = subst (λ (n : ℕ). n < length (store_of seen.terms.origin seen.history).commits) (sym is.other_is) is.there
-other-there meaning seen (Join commits) other clock value is = absurd is
-other-there meaning seen (Forward commit) other clock value is = absurd is
+pub other-there : {S O R Q A : Type 0} (meaning : Meaning S O R Q A) (seen : SeenView (Move O R)) (work : Work O R) (other clock size : ℕ) (value : Option (Bor (List ℕ))) → IsWrittenWork meaning seen work (written.Merge other clock size value) → other < length (store_of seen.terms.origin seen.history).commits
+other-there meaning seen (Operation op reply) other clock size value is = absurd is
+other-there meaning seen (Merge commit) other clock size value is = subst (λ (n : ℕ). n < length (store_of seen.terms.origin seen.history).commits) (sym is.other_is) is.there
+other-there meaning seen (Join commits) other clock size value is = absurd is
+other-there meaning seen (Forward commit) other clock size value is = absurd is
 
 -- the commits that are joined are of a longer history
-pub others-there : {S O R Q A : Type 0} (meaning : Meaning S O R Q A) (seen : SeenView (Move O R)) (work : Work O R) (others : Bor (List ℕ)) (clock : ℕ) (value : Bor (List ℕ)) → IsWrittenWork meaning seen work (written.Join others clock value)
+pub others-there : {S O R Q A : Type 0} (meaning : Meaning S O R Q A) (seen : SeenView (Move O R)) (work : Work O R) (others : Bor (List ℕ)) (clock size : ℕ) (value : Option (Bor (List ℕ))) → IsWrittenWork meaning seen work (written.Join others clock size value)
     → (count : ℕ) → ((n : ℕ) → n < length (store_of seen.terms.origin seen.history).commits → n < count) → All (λ n. n < count) others.now
-others-there meaning seen (Operation op reply) others clock value is count more = absurd is
-others-there meaning seen (Merge commit) others clock value is count more = absurd is
-others-there meaning seen (Join commits) others clock value is count more =
+others-there meaning seen (Operation op reply) others clock size value is count more = absurd is
+others-there meaning seen (Merge commit) others clock size value is count more = absurd is
+others-there meaning seen (Join commits) others clock size value is count more =
     let before : ℕ = length (store_of seen.terms.origin seen.history).commits in
     let stand = AllByRecursion-from_All (λ n. n < before) commits is.there in
     subst (λ (ns : List ℕ). All (λ n. n < count) ns) (sym is.others_are) (All-from_AllByRecursion (λ n. n < count) commits (AllByRecursion-more (λ n. n < before) (λ n. n < count) commits more stand))
-others-there meaning seen (Forward commit) others clock value is count more = absurd is
+others-there meaning seen (Forward commit) others clock size value is count more = absurd is
 
 work-refuses : {S O R Q A : Type 0} (fixed : Fixed S O R Q A) (prepared : PreparedView O R) (history : List (Move O R)) (refusal : machine.Refusal) → turn fixed.meaning fixed.terms history (step_of prepared.seen prepared.work) ≡ answers (machine.Refused refusal)
     → FullyRefuses fixed history (step_of prepared.seen prepared.work) refusal
@@ -147,43 +145,43 @@ module _ {S O R Q A : Type 0} (meaning : Meaning S O R Q A) (laws : KeepsLaws me
         let first = found n (get_or addresses n []) (slice_get-get_or addresses n [] within) in
         ap (λ (x : List ℕ). x ∷ map (λ k. get_or addresses k []) ns) first ∙ ap (λ (l : List (List ℕ)). address_at address (pairs_of fixed (store_of terms.origin history).commits) n ∷ l) (all-found ns stand.1)
 
-    pub operation-makes_pair : (work : Work O R) → (turn meaning terms history (step_of seen work)).made ≡ move_of seen.branch work ∷ [] → (clock : ℕ) (value op_bytes reply_bytes : Bor (List ℕ)) → IsWrittenWork meaning seen work (written.Operation clock value op_bytes reply_bytes)
+    pub operation-makes_pair : (work : Work O R) → (turn meaning terms history (step_of seen work)).made ≡ move_of seen.branch work ∷ [] → (clock size : ℕ) (value : Option (Bor (List ℕ))) (op_bytes reply_bytes : Bor (List ℕ)) → IsWrittenWork meaning seen work (written.Operation clock size value op_bytes reply_bytes)
         → (parents : List (List ℕ)) (branch : ℕ) (action : Action) (a : List ℕ) → slice_get addresses seen.head ≡ Some a → parents ≡ a ∷ [] → branch ≡ terms.origin + seen.branch → action ≡ wire.Operation op_bytes.now reply_bytes.now
-        → MakesPair fixed history work (move_of seen.branch work) (value_object value.now) (commit_object (commit_fields address value.now parents branch clock action))
-    operation-makes_pair (Operation op reply) may clock value op_bytes reply_bytes w parents branch action a at parents_are on does =
+        → MakesPair fixed history work (move_of seen.branch work) (pair_with (bytes_at value) (commit_fields address (bytes_at value) parents branch clock action))
+    operation-makes_pair (Operation op reply) may clock size value op_bytes reply_bytes w parents branch action a at parents_are on does =
         let newest = may-head meaning terms history seen (Operation op reply) may in
         record {
           new = operation_commit (store_of terms.origin history).commits (terms.origin + seen.branch) (head_of (store_of terms.origin history).branches seen.branch) op reply;
           one = operation-one meaning laws terms address history valid seen is prefix under newest op reply;
-          pair = operation-pair meaning laws terms address history valid seen is prefix under newest op reply clock value.now op_bytes.now reply_bytes.now w parents branch action (parents_are ∙ ap (λ (b : List ℕ). b ∷ []) (found seen.head a at)) on does;
+          pair = operation-pair meaning laws terms address history valid seen is prefix under newest op reply clock size (bytes_at value) op_bytes.now reply_bytes.now w parents branch action (parents_are ∙ ap (λ (b : List ℕ). b ∷ []) (found seen.head a at)) on does;
           after = λ b l. refl;
         }
-    operation-makes_pair (Merge commit) may clock value op_bytes reply_bytes w parents branch action a at parents_are on does = absurd w
-    operation-makes_pair (Join commits) may clock value op_bytes reply_bytes w parents branch action a at parents_are on does = absurd w
-    operation-makes_pair (Forward commit) may clock value op_bytes reply_bytes w parents branch action a at parents_are on does = absurd w
+    operation-makes_pair (Merge commit) may clock size value op_bytes reply_bytes w parents branch action a at parents_are on does = absurd w
+    operation-makes_pair (Join commits) may clock size value op_bytes reply_bytes w parents branch action a at parents_are on does = absurd w
+    operation-makes_pair (Forward commit) may clock size value op_bytes reply_bytes w parents branch action a at parents_are on does = absurd w
 
-    pub merge-makes_pair : (work : Work O R) → (turn meaning terms history (step_of seen work)).made ≡ move_of seen.branch work ∷ [] → (other clock : ℕ) (value : Bor (List ℕ)) → IsWrittenWork meaning seen work (written.Merge other clock value)
+    pub merge-makes_pair : (work : Work O R) → (turn meaning terms history (step_of seen work)).made ≡ move_of seen.branch work ∷ [] → (other clock size : ℕ) (value : Option (Bor (List ℕ))) → IsWrittenWork meaning seen work (written.Merge other clock size value)
         → (parents : List (List ℕ)) (branch : ℕ) (a b : List ℕ) → slice_get addresses seen.head ≡ Some a → slice_get addresses other ≡ Some b → parents ≡ a ∷ b ∷ [] → branch ≡ terms.origin + seen.branch
-        → MakesPair fixed history work (move_of seen.branch work) (value_object value.now) (commit_object (commit_fields address value.now parents branch clock wire.Merge))
-    merge-makes_pair (Operation op reply) may other clock value w parents branch a b at behind parents_are on = absurd w
-    merge-makes_pair (Merge commit) may other clock value w parents branch a b at behind parents_are on =
+        → MakesPair fixed history work (move_of seen.branch work) (pair_with (bytes_at value) (commit_fields address (bytes_at value) parents branch clock wire.Merge))
+    merge-makes_pair (Operation op reply) may other clock size value w parents branch a b at behind parents_are on = absurd w
+    merge-makes_pair (Merge commit) may other clock size value w parents branch a b at behind parents_are on =
         let newest = may-head meaning terms history seen (Merge commit) may in
         let second : b ≡ address_at address (pairs_of fixed (store_of terms.origin history).commits) commit = found other b behind ∙ ap (address_at address (pairs_of fixed (store_of terms.origin history).commits)) w.other_is in
         record {
           new = merge_commit (store_of terms.origin history).commits (terms.origin + seen.branch) (head_of (store_of terms.origin history).branches seen.branch ∷ commit ∷ []);
           one = merge-one meaning laws terms address history valid seen is prefix under newest commit;
-          pair = merge-pair meaning laws terms address history valid seen is prefix under newest commit other clock value.now w parents branch (parents_are ∙ ap (λ (x : List ℕ). x ∷ b ∷ []) (found seen.head a at) ∙ ap (λ (x : List ℕ). address_at address (pairs_of fixed (store_of terms.origin history).commits) seen.head ∷ x ∷ []) second) on;
+          pair = merge-pair meaning laws terms address history valid seen is prefix under newest commit other clock size (bytes_at value) w parents branch (parents_are ∙ ap (λ (x : List ℕ). x ∷ b ∷ []) (found seen.head a at) ∙ ap (λ (x : List ℕ). address_at address (pairs_of fixed (store_of terms.origin history).commits) seen.head ∷ x ∷ []) second) on;
           after = λ x l. refl;
         }
-    merge-makes_pair (Join commits) may other clock value w parents branch a b at behind parents_are on = absurd w
-    merge-makes_pair (Forward commit) may other clock value w parents branch a b at behind parents_are on = absurd w
+    merge-makes_pair (Join commits) may other clock size value w parents branch a b at behind parents_are on = absurd w
+    merge-makes_pair (Forward commit) may other clock size value w parents branch a b at behind parents_are on = absurd w
 
-    pub join-makes_pair : (work : Work O R) → (turn meaning terms history (step_of seen work)).made ≡ move_of seen.branch work ∷ [] → (others : Bor (List ℕ)) (clock : ℕ) (value : Bor (List ℕ)) → IsWrittenWork meaning seen work (written.Join others clock value)
+    pub join-makes_pair : (work : Work O R) → (turn meaning terms history (step_of seen work)).made ≡ move_of seen.branch work ∷ [] → (others : Bor (List ℕ)) (clock size : ℕ) (value : Option (Bor (List ℕ))) → IsWrittenWork meaning seen work (written.Join others clock size value)
         → (parents : List (List ℕ)) (branch : ℕ) → parents ≡ map (λ n. get_or addresses n []) (seen.head ∷ others.now) → branch ≡ terms.origin + seen.branch
-        → MakesPair fixed history work (move_of seen.branch work) (value_object value.now) (commit_object (commit_fields address value.now parents branch clock wire.Merge))
-    join-makes_pair (Operation op reply) may others clock value w parents branch parents_are on = absurd w
-    join-makes_pair (Merge commit) may others clock value w parents branch parents_are on = absurd w
-    join-makes_pair (Join commits) may others clock value w parents branch parents_are on =
+        → MakesPair fixed history work (move_of seen.branch work) (pair_with (bytes_at value) (commit_fields address (bytes_at value) parents branch clock wire.Merge))
+    join-makes_pair (Operation op reply) may others clock size value w parents branch parents_are on = absurd w
+    join-makes_pair (Merge commit) may others clock size value w parents branch parents_are on = absurd w
+    join-makes_pair (Join commits) may others clock size value w parents branch parents_are on =
         let newest = may-head meaning terms history seen (Join commits) may in
         let stand : AllByRecursion (λ n. n < length (store_of terms.origin history).commits) (seen.head ∷ commits) =
         AllByRecursion-more (λ n. n < length (store_of seen.terms.origin seen.history).commits) (λ n. n < length (store_of terms.origin history).commits) (seen.head ∷ commits) (commit-there meaning laws terms address history valid seen is prefix under)
@@ -191,7 +189,7 @@ module _ {S O R Q A : Type 0} (meaning : Meaning S O R Q A) (laws : KeepsLaws me
         record {
           new = merge_commit (store_of terms.origin history).commits (terms.origin + seen.branch) (head_of (store_of terms.origin history).branches seen.branch ∷ commits);
           one = join-one meaning laws terms address history valid seen is prefix under newest commits;
-          pair = join-pair meaning laws terms address history valid seen is prefix under newest commits others.now clock value.now w parents branch (parents_are ∙ ap (λ (ns : List ℕ). map (λ n. get_or addresses n []) (seen.head ∷ ns)) w.others_are ∙ all-found (seen.head ∷ commits) stand) on;
+          pair = join-pair meaning laws terms address history valid seen is prefix under newest commits others.now clock size (bytes_at value) w parents branch (parents_are ∙ ap (λ (ns : List ℕ). map (λ n. get_or addresses n []) (seen.head ∷ ns)) w.others_are ∙ all-found (seen.head ∷ commits) stand) on;
           after = λ x l. refl;
         }
-    join-makes_pair (Forward commit) may others clock value w parents branch parents_are on = absurd w
+    join-makes_pair (Forward commit) may others clock size value w parents branch parents_are on = absurd w

@@ -1,18 +1,20 @@
 -- What the fields of a commit's object ask for, and whether an item has what was made anew of them.
-use Rattle.std.specs.Prelude.{◌≡◌, ℕ, List, [], ◌∷◌, map}
+use Rattle.std.specs.Prelude.{◌≡◌, ℕ, List, [], ◌∷◌, map, Option}
 use Rattle.std.specs.List.{AllByRecursion}
 use Rattle.mrdt_model.specs.Laws.{Meaning}
 use Rattle.branch_wire.specs.declared.action.Action.{Action}
 use Rattle.branch_wire.specs.declared.action.Action.TheVariants as wire
-use Rattle.branch_wire.specs.Objects.{CommitFields, value_object, commit_object}
+use Rattle.branch_wire.specs.Objects.{CommitFields, commit_object}
 use Rattle.branch_history.specs.declared.moves.Move.{Move}
 use Rattle.branch_history.specs.Steps as machine
 use Rattle.branch_history.specs.Validity.{IsStep, AreCommits}
 use Rattle.branch_machine.specs.Fixed.{Fixed, fix}
 use Rattle.branch_machine.specs.Objects.{Pair, address_at, store_after, pairs_of}
 use Rattle.branch_machine.specs.Validity.{IsFullyValid}
+use Rattle.object_store.specs.Commits.{value_of, value_address_of}
 use Rattle.store_seen.specs.declared.arrival.WrittenArrival.{WrittenArrival}
 use Rattle.store_seen.specs.declared.arrival.WrittenArrival.TheVariants as written
+use Rattle.store_seen.specs.Keeps.{bytes_at}
 use Rattle.store_seen.specs.Views.{VersionsView}
 use Rattle.recorded_history.specs.declared.arriving.Fields.{Fields}
 use Rattle.recorded_history.specs.Machine.{addresses_of}
@@ -21,7 +23,7 @@ use Rattle.recorded_history.specs.Machine.{addresses_of}
 abbrev pub fields_in : Fields → CommitFields
 fields_in f = record { parents = f.parents; branch = f.origin; clock = f.clock; value = f.value; action = f.action }
 
--- an item of a value's object, and of the object of a commit with these fields
+-- an item of a value's object, which is empty where there is none, and of the object of a commit with these fields
 abbrev pub item_with : List ℕ → CommitFields → Pair
 item_with value f = record { value = value; commit = commit_object f }
 
@@ -48,17 +50,17 @@ abbrev pub Replies : Action → List ℕ → Type 0
 Replies (wire.Operation op reply) given = reply ≡ given
 Replies action given = ⊥
 
--- the spelling of the value that was made anew
-abbrev pub value_spelling : WrittenArrival → List ℕ
-value_spelling (written.Operation parent clock value_bytes op_bytes reply_bytes) = value_bytes.now
-value_spelling (written.Merge parents clock value_bytes) = value_bytes.now
+-- the spelling of the value that was made anew, where the layout keeps it
+abbrev pub value_spelling : WrittenArrival → Option (List ℕ)
+value_spelling (written.Operation parent clock size value_bytes op_bytes reply_bytes) = bytes_at value_bytes
+value_spelling (written.Merge parents clock size value_bytes) = bytes_at value_bytes
 
--- the two objects are of the value and the commit that were made anew
+-- the objects are of the value, where the layout keeps it, and of the commit that were made anew
 abbrev pub IsTold : (List ℕ → List ℕ) → List ℕ → CommitFields → WrittenArrival → Type 0
-IsTold address value f (written.Operation parent clock value_bytes op_bytes reply_bytes) =
-    (f.clock ≡ clock) × Replies f.action reply_bytes.now × (value ≡ value_object value_bytes.now) × (f.value ≡ address value)
-IsTold address value f (written.Merge parents clock value_bytes) =
-    (f.clock ≡ clock) × (value ≡ value_object value_bytes.now) × (f.value ≡ address value)
+IsTold address value f (written.Operation parent clock size value_bytes op_bytes reply_bytes) =
+    (f.clock ≡ clock) × Replies f.action reply_bytes.now × (value ≡ value_of (bytes_at value_bytes)) × (f.value ≡ value_address_of address (bytes_at value_bytes))
+IsTold address value f (written.Merge parents clock size value_bytes) =
+    (f.clock ≡ clock) × (value ≡ value_of (bytes_at value_bytes)) × (f.value ≡ value_address_of address (bytes_at value_bytes))
 
 -- a fully valid history, with the address of each commit
 pub record IsAddressed {S O R Q A : Type 0} (meaning : Meaning S O R Q A) (address : List ℕ → List ℕ) (versions : VersionsView (Move O R)) : Type 0 where

@@ -1,5 +1,6 @@
 // The commit of an item, made anew on commits that are here.
 ghost use Rattle.std.specs.Prelude.{◌≡◌, ◌↔◌, ◌++◌, None, IfOk, IfErr, IfSome, IsErrOf, IsTrue, List, OnErr, OnOk, ℕ};
+ghost use Rattle.std.specs.Option.{option_copied};
 ghost use Rattle.branch_wire.specs.Objects.{CommitFields, commit_object, value_object};
 ghost use Rattle.branch_wire.specs.Reading.{HasLength64};
 ghost use Rattle.branch_wire.specs.StoredObjects.{collision, fresh};
@@ -8,6 +9,7 @@ ghost use Rattle.branch_history.specs.Steps.{Step};
 ghost use Rattle.branch_machine.specs.Fixed.{fix};
 ghost use Rattle.branch_machine.specs.Objects.{both};
 ghost use Rattle.branch_machine.specs.Validity.{IsFullyValid, IsItem};
+ghost use Rattle.object_store.specs.Commits.{value_of, value_address_of};
 ghost use Rattle.object_store.specs.Refusals.{RefusesToStage};
 ghost use Rattle.store_seen.specs.Arrivals.{core_then};
 ghost use Rattle.recorded_history.specs.Asks.{fields_in, item_with, HaveAddresses, IsAsked, Replies, IsTold, IsAddressed, value_spelling};
@@ -20,14 +22,14 @@ use object_store::{Objects, StageRefused};
 use std::alloc::Global;
 use store_seen::{Arrival, RemakeRefused, Versions, WrittenArrival};
 
-/// What a commit's object says: the addresses of its parents, its origin and clock, the address of its value, and what
-/// it does.
+/// What a commit's object says: the addresses of its parents, its origin and clock, the address of its value, where it has
+/// one, and what it does.
 #[derive(Drop)]
 pub(crate) struct Fields {
     pub parents: Listing<[u8; 32]>,
     pub origin: u32,
     pub clock: u64,
-    pub value: [u8; 32],
+    pub value: Option<[u8; 32]>,
     pub action: Action,
 }
 
@@ -146,6 +148,26 @@ fn is_value<A: Address>(
     Ok(object.as_slice() == value && *address == A::of(value))
 }
 
+// Whether bytes are the object of the value with this spelling, and have this address; without a spelling, whether there
+// are no bytes and no address.
+fn is_kept_value<A: Address>(
+    alloc: Global,
+    spelling: Option<&[u8]>,
+    value: &[u8],
+    address: &Option<[u8; 32]>,
+) -> Result<bool, Memory>
+    ensures { IfOk result (λ is. IsTrue is
+        ↔ (value.now ≡ value_of (option_copied spelling.entry))
+        × (address.now ≡ value_address_of A.address (option_copied spelling.entry))) }
+{
+    match (spelling, address) {
+        (Some(spelling), Some(address)) => is_value::<A>(alloc, spelling, value, address),
+        (None, None) => Ok(value.is_empty()),
+        (Some(_), None) => Ok(false),
+        (None, Some(_)) => Ok(false),
+    }
+}
+
 // Whether an item has the objects of what was made anew of its fields.
 fn is_told<A: Address>(
     alloc: Global,
@@ -163,7 +185,7 @@ fn is_told<A: Address>(
             reply,
             ..
         } => Ok(
-            is_value::<A>(alloc, spelling, value, &fields.value)?
+            is_kept_value::<A>(alloc, spelling, value, &fields.value)?
                 && fields.clock == clock
                 && has_reply(&fields.action, reply),
         ),
@@ -171,7 +193,9 @@ fn is_told<A: Address>(
             clock,
             value: spelling,
             ..
-        } => Ok(is_value::<A>(alloc, spelling, value, &fields.value)? && fields.clock == clock),
+        } => Ok(
+            is_kept_value::<A>(alloc, spelling, value, &fields.value)? && fields.clock == clock,
+        ),
     }
 }
 
@@ -204,9 +228,9 @@ pub(crate) fn arrival_of<T: Mrdt, A: Address>(
     }
 }
 
-// The spelling of the value of what was made anew.
-fn value_of(made: WrittenArrival<'_>) -> &[u8]
-    ensures { result.now ≡ value_spelling made.entry }
+// The spelling of the value of what was made anew, where the layout keeps it.
+fn spelling_of(made: WrittenArrival<'_>) -> Option<&[u8]>
+    ensures { option_copied result ≡ value_spelling made.entry }
 {
     match made {
         WrittenArrival::Operation { value, .. } => value,
@@ -214,7 +238,7 @@ fn value_of(made: WrittenArrival<'_>) -> &[u8]
     }
 }
 
-/// Stages the two objects of an item behind what is staged already, and says the address of its commit's.
+/// Stages the objects of an item behind what is staged already, and says the address of its commit's.
 pub(crate) fn stage_item<T: Mrdt, A: Address>(
     objects: &mut Objects<A>,
     made: &Arrival<T>,
@@ -239,7 +263,7 @@ pub(crate) fn stage_item<T: Mrdt, A: Address>(
     ensures held { OnErr result (objects.new ≡ objects.old) }
 {
     let _value = value;
-    let spelling = value_of(made.written());
+    let spelling = spelling_of(made.written());
     let Fields {
         parents,
         origin,
@@ -247,5 +271,5 @@ pub(crate) fn stage_item<T: Mrdt, A: Address>(
         value: address,
         action,
     } = fields;
-    objects.stage(spelling, Some(address), parents, origin, clock, action)
+    objects.stage(spelling, address, parents, origin, clock, action)
 }

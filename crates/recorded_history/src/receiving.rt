@@ -13,8 +13,8 @@ use mrdt_model::Mrdt;
 
 impl<T: Mrdt, A: Address> Recorded<T, A> {
     /// Receives a commit of another store by the bytes of its value's object and of its own, in memory; then it is
-    /// pending. Nothing of them is trusted: the commit is made anew on its parents, which are those here with their
-    /// addresses.
+    /// pending. In the layout that keeps no values the first are none. Nothing of them is trusted: the commit is made
+    /// anew on its parents, which are those here with their addresses.
     ///
     /// Where it is here already, that is told, and nothing has changed. It is refused exactly as the machine refuses it,
     /// and then nothing has changed: `BadBundle` before `OwnOrigin` before `TimeClash` and `Exhausted`, which only an

@@ -5,6 +5,7 @@ ghost use mathlib.Core.List.{IsPrefix};
 ghost use Rattle.branch_io.specs.Causes.{HasCause};
 ghost use Rattle.branch_disk.specs.Disk.{After, Holds, LeavesOnly, OnPart, Tells, Torn};
 ghost use Rattle.branch_graph.specs.Graph.{reaches};
+ghost use Rattle.branch_wire.specs.Objects.{commit_object};
 ghost use Rattle.branch_wire.specs.StoredObjects.{first_with};
 ghost use Rattle.branch_names.specs.Heads.{branch_named, is_dropped};
 ghost use Rattle.branch_names.specs.declared.branch.Branch.{Branch};
@@ -15,6 +16,7 @@ ghost use Rattle.branch_history.specs.Steps as machine;
 ghost use Rattle.branch_machine.specs.Fixed.{fix};
 ghost use Rattle.branch_machine.specs.Objects.{end_of, objects_of, objects_text, pairs_of, region};
 ghost use Rattle.branch_machine.specs.Validity.{IsFullyValid};
+ghost use Rattle.object_store.specs.Commits.{kept_spelling, root_fields, root_pair};
 ghost use Rattle.object_store.specs.Images.{AllBegin, AllCome, Grows};
 ghost use Rattle.store_seen.specs.Groups.{grouped_at, IsGrouped, GroupRefusedAs, IsStepOfAll, MergeAllRefusedAs};
 ghost use Rattle.store_seen.specs.Pairs.{IsPaired, PairRefusedAs, paired_at, IsStepOf, MergeRefusedAs};
@@ -32,7 +34,7 @@ use crate::staging::{record_for, stage};
 use branch_address::Address;
 use branch_disk::{Disk, DiskFailed, Part};
 use branch_history::Move;
-use branch_names::{Name, Terms};
+use branch_names::{Layout, Name, Terms};
 use heads_journal::Record;
 use mrdt_model::{Listing, Memory, Mrdt};
 use object_store::Objects;
@@ -80,9 +82,7 @@ impl<T: Mrdt, A: Address> Recorded<T, A> {
           terms = terms;
         }) }
     {
-        let mut value = Vec::new(alloc);
-        T::initial(alloc).put(&mut value)?;
-        let (objects, root) = Objects::fresh(alloc, &value)?;
+        let (objects, root) = first_objects::<T, A>(alloc, terms.layout)?;
         let versions = Versions::fresh(alloc, terms, root)?;
         Ok(Recorded {
             alloc,
@@ -191,13 +191,15 @@ impl<T: Mrdt, A: Address> Recorded<T, A> {
     }
 
     /// Pairs a look at this history, taken now or earlier, with the head that a branch has now. `UnknownBranch` comes
-    /// exactly where no branch has the name.
-    pub fn pair(&self, seen: &Seen<T>, from: &Name) -> Result<Pair<T>, PairRefused>
-        requires settled { self.now.pending ≡ [] }
-        requires history { IsPrefix seen.now.history self.now.written }
-        requires terms { seen.now.terms ≡ self.now.terms }
-        ensures paired { IfOk result (IsPaired T.meaning (core_of self.now) seen.now from.now) }
-        ensures refused { IfErr result (PairRefusedAs T.meaning (core_of self.now) from.now) }
+    /// exactly where no branch has the name. Where neither commit reaches the other, the pair is handed their base, which
+    /// is made with the folds that are kept.
+    pub fn pair(&mut self, seen: &Seen<T>, from: &Name) -> Result<Pair<T>, PairRefused>
+        requires settled { self.old.pending ≡ [] }
+        requires history { IsPrefix seen.now.history self.old.written }
+        requires terms { seen.now.terms ≡ self.old.terms }
+        ensures paired { IfOk result (IsPaired T.meaning (core_of self.old) seen.now from.now) }
+        ensures refused { IfErr result (PairRefusedAs T.meaning (core_of self.old) from.now) }
+        ensures same { self.new ≡ self.old }
     {
         self.versions.pair(seen, from)
     }
@@ -247,6 +249,19 @@ impl<T: Mrdt, A: Address> Recorded<T, A> {
         self.versions.group(seen, from)
     }
 
+    /// Makes the merge of a group that was grouped at this history ready to land: what the group prepares, with the folds
+    /// that are kept.
+    pub fn prepare_group(&mut self, group: &Group<T>) -> Result<PairStep<T>, PairPrepareRefused>
+        requires settled { self.old.pending ≡ [] }
+        requires history { group.now.history ≡ self.old.written }
+        requires terms { group.now.terms ≡ self.old.terms }
+        ensures step { IfOk result (IsStepOfAll T.meaning group.now) }
+        ensures refused { IfErr result (MergeAllRefusedAs T.meaning group.now) }
+        ensures same { self.new ≡ self.old }
+    {
+        self.versions.prepare_group(group)
+    }
+
     /// Makes the merge of one to eight commits ready to land on a look at this history, taken now or earlier: what a
     /// group of them prepares, with the folds that are kept.
     pub fn prepare_all_at(
@@ -284,8 +299,8 @@ impl<T: Mrdt, A: Address> Recorded<T, A> {
         }
     }
 
-    /// The bytes of the two objects of a commit, that of its value and then its own; `None` exactly past the last
-    /// commit. It takes no memory.
+    /// The bytes of the two objects of a commit, that of its value, which is empty in the layout that keeps no values,
+    /// and then its own; `None` exactly past the last commit. It takes no memory.
     pub fn item(&self, commit: u32) -> Option<(&[u8], &[u8])>
         requires settled { self.now.pending ≡ [] }
         ensures { lent_item result
@@ -306,7 +321,7 @@ impl<T: Mrdt, A: Address> Recorded<T, A> {
             return None;
         }
         match commit {
-            0 => first_item(&self.objects),
+            0 => first_item(&self.objects, self.versions.terms().layout),
             _ => item_at(&self.objects, self.versions.address(commit)),
         }
     }
@@ -362,7 +377,7 @@ impl<T: Mrdt, A: Address> Recorded<T, A> {
     /// which only a new commit meets, before `FullMoves`, before `Collision`.
     ///
     /// Where the address of the new value's object was worked out before, it only copies the value, and hashes nothing
-    /// but the new commit's own bytes.
+    /// but the new commit's own bytes. In the layout that keeps no values it does not copy the value either.
     pub fn land(&mut self, prepared: Addressed<T, A>) -> Result<Made<T::Reply>, LandRefused>
         requires settled { self.old.pending ≡ [] }
         requires history { IsPrefix prepared.seen.history self.old.written }
@@ -620,6 +635,29 @@ impl<T: Mrdt, A: Address> Recorded<T, A> {
     {
         take_back(&self.settled, &mut self.versions, &mut self.stood);
         self.objects.drop_staged();
+    }
+}
+
+// The objects of commit 0 in a layout, and the address of its own.
+fn first_objects<T: Mrdt, A: Address>(
+    alloc: Global,
+    layout: Layout,
+) -> Result<(Objects<A>, [u8; 32]), Memory>
+    ensures stored { IfOk result (λ made. made.0.stored
+        ≡ root_pair A.address (kept_spelling layout (T.meaning.spelling_of []))) }
+    ensures staged { IfOk result (λ made. made.0.staged ≡ []) }
+    ensures root { IfOk result (λ made. made.1
+        ≡ A.address
+        (commit_object
+        (root_fields A.address (kept_spelling layout (T.meaning.spelling_of []))))) }
+{
+    match layout {
+        Layout::Whole => {
+            let mut value = Vec::new(alloc);
+            T::initial(alloc).put(&mut value)?;
+            Objects::fresh(alloc, Some(&value))
+        }
+        Layout::Changes => Objects::fresh(alloc, None),
     }
 }
 

@@ -49,6 +49,7 @@ pub(crate) fn stage<T: Mrdt, A: Address>(
             value,
             op,
             reply,
+            ..
         } => {
             let mut parent = Vec::new(alloc);
             push_address(*versions.address(head), &mut parent)?;
@@ -69,6 +70,7 @@ pub(crate) fn stage<T: Mrdt, A: Address>(
             other,
             clock,
             value,
+            ..
         } => {
             let mut parents = Vec::new(alloc);
             push_address(*versions.address(head), &mut parents)?;
@@ -80,6 +82,7 @@ pub(crate) fn stage<T: Mrdt, A: Address>(
             others,
             clock,
             value,
+            ..
         } => {
             let parents = addresses(alloc, versions, head, others)?;
             let parents = Listing::from_vec(parents);

@@ -32,7 +32,7 @@ returns-then-branch-clause-item g c =
     let f = fields_in c.args.fields.now in
     let made = c.in_ok-made.made in
     let w = c.written.result in
-    let written = subst (λ k. IsWrittenOf fixed.meaning (store_of k.terms.origin k.history).commits made.step w) c.in_ok-made.ensures.made c.written.ensures in
+    let written = subst (λ k. IsWrittenOf fixed.meaning k.terms.layout (store_of k.terms.origin k.history).commits made.step w) c.in_ok-made.ensures.made c.written.ensures in
     told-item fixed laws g.met.A.Address.size core.history c.requires.addressed.valid c.args.value.now f made.step w c.in_ok-made.ensures.asked written c.requires.known.clock (c.in_ok-is_told.ensures.0 c.if-branch.true)
 
 pub returns-else-branch-clause-none : goal.returns-else-branch-clause-none
@@ -46,7 +46,7 @@ returns-else-branch-clause-none g c = λ _ step i.
     let valid = c.requires.addressed.valid in
     let made = c.in_ok-made.made in
     let w = c.written.result in
-    let written = subst (λ k. IsWrittenOf fixed.meaning (store_of k.terms.origin k.history).commits made.step w) c.in_ok-made.ensures.made c.written.ensures in
+    let written = subst (λ k. IsWrittenOf fixed.meaning k.terms.layout (store_of k.terms.origin k.history).commits made.step w) c.in_ok-made.ensures.made c.written.ensures in
     let asked = item-asked fixed laws size core.history valid (item_with value f) f c.requires.known refl step i in
     let other = asked-same fixed laws size core.history valid f c.requires.known.short step made.step asked c.in_ok-made.ensures.asked in
     let mine = subst (λ t. IsItem fixed core.history t (item_with value f)) other i in

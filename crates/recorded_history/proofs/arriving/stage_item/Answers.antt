@@ -1,12 +1,13 @@
 -- What is staged are the two objects of the item.
 use Rattle.std.proofs.Common.{◌++◌, ap, sym, ◌∙◌, subst}
 use Rattle.std.proofs.lemmas.Result.{IfOk-weaker, IfErr-weaker, on_ok_weaker}
-use Rattle.branch_wire.specs.Objects.{value_object}
+use Rattle.std.specs.Option.{option_copied}
 use Rattle.branch_wire.specs.StoredObjects.{collision, fresh}
 use Rattle.branch_machine.specs.Fixed.{fix}
+use Rattle.object_store.specs.Commits.{value_of, value_address_of}
 use Rattle.object_store.specs.Refusals.{RefusesToStage}
 use Rattle.recorded_history.specs.Asks.{fields_in}
-use Rattle.recorded_history.proofs.Told.{item-value, item-address, staged-pair, staged-address}
+use Rattle.recorded_history.proofs.Told.{item-value, item-address, known-is, staged-pair, staged-address}
 use Rattle.recorded_history.proofs.arriving.stage_item.Goals as goal
 
 pub stage-requires : goal.stage-requires
@@ -16,8 +17,8 @@ stage-requires g c =
     let fixed = fix g.T.Mrdt.meaning a.terms g.A.Address.address in
     let size = g.met.A.Address.size in
     let f = fields_in c.args.fields in
-    let valued = item-value fixed laws size a.history c.requires.valid c.args.value.now f a.step c.written.result c.requires.item c.written.ensures ∙ ap value_object (sym c.value_of-spelling.ensures) in
-    record { known = item-address fixed laws size a.history c.requires.valid c.args.value.now f c.requires.known a.step c.written.result c.requires.item c.written.ensures ∙ ap fixed.address valued }
+    let addressed = item-address fixed laws size a.history c.requires.valid c.args.value.now f c.requires.known a.step c.written.result c.requires.item c.written.ensures ∙ ap (value_address_of fixed.address) (sym c.spelling_of-spelling.ensures) in
+    record { known = known-is fixed.address c.spelling_of-spelling.result c.args.fields.value addressed }
 
 pub returns-clause-added : goal.returns-clause-added
 returns-clause-added g c =
@@ -26,9 +27,9 @@ returns-clause-added g c =
     let fixed = fix g.T.Mrdt.meaning a.terms g.A.Address.address in
     let size = g.met.A.Address.size in
     let f = fields_in c.args.fields in
-    let valued = item-value fixed laws size a.history c.requires.valid c.args.value.now f a.step c.written.result c.requires.item c.written.ensures ∙ ap value_object (sym c.value_of-spelling.ensures) in
-    let addressed = item-address fixed laws size a.history c.requires.valid c.args.value.now f c.requires.known a.step c.written.result c.requires.item c.written.ensures in
-    let pair = staged-pair fixed.address c.args.value.now c.value_of-spelling.result.now f valued addressed in
+    let valued = item-value fixed laws size a.history c.requires.valid c.args.value.now f a.step c.written.result c.requires.item c.written.ensures ∙ ap value_of (sym c.spelling_of-spelling.ensures) in
+    let addressed = item-address fixed laws size a.history c.requires.valid c.args.value.now f c.requires.known a.step c.written.result c.requires.item c.written.ensures ∙ ap (value_address_of fixed.address) (sym c.spelling_of-spelling.ensures) in
+    let pair = staged-pair fixed.address c.args.value.now (option_copied c.spelling_of-spelling.result) f valued addressed in
     let o = c.args.objects.now in
     on_ok_weaker c.stage.result (λ is. is ∙ ap (λ p. o.staged ++ fresh (o.stored ++ o.staged) p) pair) c.stage.ensures.added
 
@@ -39,9 +40,8 @@ returns-clause-address g c =
     let fixed = fix g.T.Mrdt.meaning a.terms g.A.Address.address in
     let size = g.met.A.Address.size in
     let f = fields_in c.args.fields in
-    let valued = item-value fixed laws size a.history c.requires.valid c.args.value.now f a.step c.written.result c.requires.item c.written.ensures ∙ ap value_object (sym c.value_of-spelling.ensures) in
-    let addressed = item-address fixed laws size a.history c.requires.valid c.args.value.now f c.requires.known a.step c.written.result c.requires.item c.written.ensures in
-    IfOk-weaker c.stage.result _ _ (λ _ is. is ∙ staged-address fixed.address c.args.value.now c.value_of-spelling.result.now f valued addressed) c.stage.ensures.address
+    let addressed = item-address fixed laws size a.history c.requires.valid c.args.value.now f c.requires.known a.step c.written.result c.requires.item c.written.ensures ∙ ap (value_address_of fixed.address) (sym c.spelling_of-spelling.ensures) in
+    IfOk-weaker c.stage.result _ _ (λ _ is. is ∙ staged-address fixed.address (option_copied c.spelling_of-spelling.result) f addressed) c.stage.ensures.address
 
 pub returns-clause-free : goal.returns-clause-free
 returns-clause-free g c =
@@ -50,9 +50,9 @@ returns-clause-free g c =
     let fixed = fix g.T.Mrdt.meaning a.terms g.A.Address.address in
     let size = g.met.A.Address.size in
     let f = fields_in c.args.fields in
-    let valued = item-value fixed laws size a.history c.requires.valid c.args.value.now f a.step c.written.result c.requires.item c.written.ensures ∙ ap value_object (sym c.value_of-spelling.ensures) in
-    let addressed = item-address fixed laws size a.history c.requires.valid c.args.value.now f c.requires.known a.step c.written.result c.requires.item c.written.ensures in
-    let pair = staged-pair fixed.address c.args.value.now c.value_of-spelling.result.now f valued addressed in
+    let valued = item-value fixed laws size a.history c.requires.valid c.args.value.now f a.step c.written.result c.requires.item c.written.ensures ∙ ap value_of (sym c.spelling_of-spelling.ensures) in
+    let addressed = item-address fixed laws size a.history c.requires.valid c.args.value.now f c.requires.known a.step c.written.result c.requires.item c.written.ensures ∙ ap (value_address_of fixed.address) (sym c.spelling_of-spelling.ensures) in
+    let pair = staged-pair fixed.address c.args.value.now (option_copied c.spelling_of-spelling.result) f valued addressed in
     let o = c.args.objects.now in
     on_ok_weaker c.stage.result (λ is. sym (ap (collision fixed.address (o.stored ++ o.staged)) pair) ∙ is) c.stage.ensures.free
 
@@ -63,8 +63,8 @@ returns-clause-collides g c =
     let fixed = fix g.T.Mrdt.meaning a.terms g.A.Address.address in
     let size = g.met.A.Address.size in
     let f = fields_in c.args.fields in
-    let valued = item-value fixed laws size a.history c.requires.valid c.args.value.now f a.step c.written.result c.requires.item c.written.ensures ∙ ap value_object (sym c.value_of-spelling.ensures) in
-    let addressed = item-address fixed laws size a.history c.requires.valid c.args.value.now f c.requires.known a.step c.written.result c.requires.item c.written.ensures in
-    let pair = staged-pair fixed.address c.args.value.now c.value_of-spelling.result.now f valued addressed in
+    let valued = item-value fixed laws size a.history c.requires.valid c.args.value.now f a.step c.written.result c.requires.item c.written.ensures ∙ ap value_of (sym c.spelling_of-spelling.ensures) in
+    let addressed = item-address fixed laws size a.history c.requires.valid c.args.value.now f c.requires.known a.step c.written.result c.requires.item c.written.ensures ∙ ap (value_address_of fixed.address) (sym c.spelling_of-spelling.ensures) in
+    let pair = staged-pair fixed.address c.args.value.now (option_copied c.spelling_of-spelling.result) f valued addressed in
     let o = c.args.objects.now in
     IfErr-weaker c.stage.result _ _ (λ e is. subst (λ p. RefusesToStage fixed.address (o.stored ++ o.staged) p e) pair is) c.stage.ensures.collides

@@ -4,7 +4,7 @@ use Rattle.branch_history.specs.History.{store_of}
 use Rattle.branch_machine.specs.Fixed.{fix}
 use Rattle.branch_machine.specs.Objects.{pairs_of}
 use Rattle.recorded_history.specs.Items.{lent_item}
-use Rattle.recorded_history.proofs.Found.{item-past, item-first, item-behind}
+use Rattle.recorded_history.proofs.Found.{GivesFirst, item-past, item-first, item-behind}
 use Rattle.recorded_history.proofs.Kept.{laid-out}
 use Rattle.recorded_history.proofs.recorded.Recorded.item_of.Goals as goal
 
@@ -32,7 +32,7 @@ returns-in-0 g c =
     let less = c.if-commit-commits.false in
     subst (λ r. lent_item c.first_item.result ≡ slice_get (pairs_of (fix meaning r.terms address) (store_of r.terms.origin (r.written ++ r.pending)).commits) c.args.commit) c.self.view_is
     (subst (λ k. lent_item c.first_item.result ≡ slice_get (pairs_of (fix meaning k.terms address) (store_of k.terms.origin k.history).commits) c.args.commit) c.self.invariant.moves
-    (item-first meaning laws address g.met.A.Address.size self.versions self.objects laid (lent_item c.first_item.result) c.args.commit c.in-0.is (omega (arith, count, less)) c.first_item.ensures))
+    (item-first meaning laws address g.met.A.Address.size self.versions self.objects laid (lent_item c.first_item.result) c.args.commit c.in-0.is (omega (arith, count, less)) (subst (λ t. GivesFirst (lent_item c.first_item.result) t.layout self.objects) c.terms.ensures c.first_item.ensures)))
 
 pub returns-in_default : goal.returns-in_default
 returns-in_default g c =

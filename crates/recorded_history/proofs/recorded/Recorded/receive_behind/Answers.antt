@@ -124,7 +124,7 @@ returns-in_err-address-clause-receives g c =
     let may = c.in_ok-may_receive.ensures.may in
     let turned = subst (λ k. turn meaning k.terms k.history made.step ≡ makes may.0 (machine.New (length (store_of k.terms.origin k.history).commits))) now may.1 in
     let e = c.in_err-address.field-0.0 in
-    let clash = subst (λ o. RefusesToStage address o (both item) e) c.self.invariant.staged (subst (λ t. RefusesToStage address (self.objects.stored ++ self.objects.staged) (c.args.value.now ∷ t ∷ []) e) (sym c.in_ok-fields.ensures.spelled) c.in_err-address.ensures.collides) in
+    let clash = subst (λ o. RefusesToStage address o (both item) e) c.self.invariant.staged (subst (λ t. RefusesToStage address (self.objects.stored ++ self.objects.staged) (both (let p : Pair = record { value = c.args.value.now; commit = t } in p)) e) (sym c.in_ok-fields.ensures.spelled) c.in_err-address.ensures.collides) in
     let p = err_from_is_err_and c.from_residual-in_err-address.result c.from_residual-in_err-address.ensures.1 in
     rw (p.1, p.2)
     (subst (λ r. ReceivesMore (fix meaning r.terms address) item r new (item_refused (unstaged_item e))) c.self.view_is
@@ -157,8 +157,8 @@ invariant_of-self-2 g c =
     let of = item-moved meaning address _ _ core made.step c.args.value.now (commit_object f) c.args.commit.now spelled c.in_ok-made.ensures.item in
     let staged = c.stage_item.new.objects in
     let done = c.in_ok-address.ensures in
-    let free = subst (λ t. collision address (self.objects.stored ++ self.objects.staged) (c.args.value.now ∷ t ∷ []) ≡ None) spelled done.free in
-    let added = done.added ∙ ap (λ t. self.objects.staged ++ fresh (self.objects.stored ++ self.objects.staged) (c.args.value.now ∷ t ∷ [])) spelled in
+    let free = subst (λ t. collision address (self.objects.stored ++ self.objects.staged) (both (let p : Pair = record { value = c.args.value.now; commit = t } in p)) ≡ None) spelled done.free in
+    let added = done.added ∙ ap (λ t. self.objects.staged ++ fresh (self.objects.stored ++ self.objects.staged) (both (let p : Pair = record { value = c.args.value.now; commit = t } in p))) spelled in
     let new = c.receive.new.self in
     let taken = c.in-Ok.taken in
     let given = c.in_ok-address.address in
@@ -183,8 +183,8 @@ returns-clause-receives g c =
     let of = item-moved meaning address _ _ core made.step c.args.value.now (commit_object f) c.args.commit.now spelled c.in_ok-made.ensures.item in
     let staged = c.stage_item.new.objects in
     let done = c.in_ok-address.ensures in
-    let free = subst (λ t. collision address (self.objects.stored ++ self.objects.staged) (c.args.value.now ∷ t ∷ []) ≡ None) spelled done.free in
-    let added = done.added ∙ ap (λ t. self.objects.staged ++ fresh (self.objects.stored ++ self.objects.staged) (c.args.value.now ∷ t ∷ [])) spelled in
+    let free = subst (λ t. collision address (self.objects.stored ++ self.objects.staged) (both (let p : Pair = record { value = c.args.value.now; commit = t } in p)) ≡ None) spelled done.free in
+    let added = done.added ∙ ap (λ t. self.objects.staged ++ fresh (self.objects.stored ++ self.objects.staged) (both (let p : Pair = record { value = c.args.value.now; commit = t } in p))) spelled in
     let new = c.receive.new.self in
     let taken = c.in-Ok.taken in
     let given = c.in_ok-address.address in
@@ -208,8 +208,8 @@ returns-clause-recorded g c =
     let of = item-moved meaning address _ _ core made.step c.args.value.now (commit_object f) c.args.commit.now spelled c.in_ok-made.ensures.item in
     let staged = c.stage_item.new.objects in
     let done = c.in_ok-address.ensures in
-    let free = subst (λ t. collision address (self.objects.stored ++ self.objects.staged) (c.args.value.now ∷ t ∷ []) ≡ None) spelled done.free in
-    let added = done.added ∙ ap (λ t. self.objects.staged ++ fresh (self.objects.stored ++ self.objects.staged) (c.args.value.now ∷ t ∷ [])) spelled in
+    let free = subst (λ t. collision address (self.objects.stored ++ self.objects.staged) (both (let p : Pair = record { value = c.args.value.now; commit = t } in p)) ≡ None) spelled done.free in
+    let added = done.added ∙ ap (λ t. self.objects.staged ++ fresh (self.objects.stored ++ self.objects.staged) (both (let p : Pair = record { value = c.args.value.now; commit = t } in p))) spelled in
     let new = c.receive.new.self in
     let taken = c.in-Ok.taken in
     let given = c.in_ok-address.address in
