@@ -169,8 +169,8 @@ module _ {S O R Q A : Type 0} (m : Meaning S O R Q A) (terms : Terms) (address :
 
   -- where a version has no bound on the parents of a commit
   pub shape-later : (b.version ≡ 1 → ⊥) → (r : Record) (bytes : List ℕ) → HasShape x r bytes → HasShape y r bytes
-  shape-later later r bytes (first, second, value, (c, is, does, few, whole), parts) =
-      (first, second, value, (c, is, does-same r c.action does, λ one. absurd (later one), whole), parts)
+  shape-later later r bytes (first, second, value, (c, is, does, few, laid, whole), parts) =
+      (first, second, value, (c, is, does-same r c.action does, λ one. absurd (later one), laid, whole), parts)
 
   pub made-same : (moves : List (Move O R)) (r : Record) (bytes : List ℕ) → IsMade x moves r bytes → IsMade y moves r bytes
   made-same moves r bytes (made, full, recorded, stored) =

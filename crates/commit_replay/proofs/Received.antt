@@ -7,11 +7,14 @@ use Rattle.branch_wire.specs.declared.action.Action.{Action}
 use Rattle.mrdt_model.specs.Laws.{Meaning, KeepsLaws}
 use Rattle.branch_wire.specs.Fields.{field}
 use Rattle.branch_wire.specs.Reading.{HasLength64}
-use Rattle.branch_wire.specs.Objects.{value_object, commit_object}
+use Rattle.branch_names.specs.declared.layout.Layout.{Layout}
+use Rattle.branch_names.specs.declared.layout.Layout.TheVariants.{Whole, Changes}
+use Rattle.branch_wire.specs.Objects.{value_object, commit_kind, commit_object}
+use Rattle.branch_objects_codec.proofs.OneWay.{not_value}
 use Rattle.branch_wire.specs.StoredObjects.{Stored, same, first_with, clash, collision, fresh}
 use Rattle.branch_history.specs.declared.moves.Move.{Move}
 use Rattle.branch_history.specs.declared.moves.Move.TheVariants as move
-use Rattle.branch_history.specs.Commits.{Commit, clock_of, greatest_clock}
+use Rattle.branch_history.specs.Commits.{Commit, clock_of, greatest_clock, visible}
 use Rattle.branch_history.specs.History.{Store, received_commit, merge_commit, operation_commit}
 use Rattle.branch_history.specs.Machine.{turn, makes, received_merge_refusal}
 use Rattle.branch_history.specs.Steps.{Step, ReceiveOperation, ReceiveMerge, Outcome, Refusal, New, Turn}
@@ -27,7 +30,7 @@ use Rattle.branch_machine.specs.Fixed.{Fixed, fix}
 use Rattle.branch_machine.specs.Laws.{HasSize}
 use Rattle.branch_machine.specs.Machine.{collision_refusal, commit_received, pair_next, commit_at, commit_here, unless_here, unless_made, full_turn}
 use Rattle.branch_history.specs.Machine.{unless}
-use Rattle.branch_machine.specs.Objects.{Pair, store_after, objects_of, end_of, region}
+use Rattle.branch_machine.specs.Objects.{Pair, given, both, kept_value, kept_address, store_after, objects_of, end_of, region}
 use Rattle.branch_machine.specs.Validity.{IsFullMove, IsFullyValid, Receives}
 use Rattle.branch_machine.proofs.Distinct.{no-collision}
 use Rattle.branch_machine.proofs.Items.{answered-once}
@@ -43,7 +46,7 @@ use Rattle.recorded_history.specs.Views.{RecordedView}
 use Rattle.recorded_history.proofs.Alone.{found-alone}
 use Rattle.commit_replay.specs.declared.parts.Parts.{Parts}
 use Rattle.commit_replay.specs.Follows.{MayCome}
-use Rattle.commit_replay.specs.Parts.{value_text, IsDoneIn, IsOfType}
+use Rattle.commit_replay.specs.Parts.{value_text, IsKept, IsDoneIn, IsOfType}
 use Rattle.commit_replay.specs.declared.plan.Plan.{Plan}
 use Rattle.commit_replay.specs.Plans.{IsPlanned}
 use Rattle.commit_replay.specs.Walk.{TakesItem, IsTaken, IsKeptIfSame, IsValueOf, IsItemIn, IsReceivedIn, MadeAnew}
@@ -58,13 +61,16 @@ first-free address x y stored none = at (clash address x stored) none
     at None is = refl
     at (Some z) is = cc
 
--- where only the second is added, the first is stored
-first-stored : (stored : Stored) (x y : List ℕ) → concat (fresh stored ((1 ∷ x) ∷ (2 ∷ y) ∷ [])) ≡ 2 ∷ y → list_any (same (1 ∷ x)) stored ≡ true
-first-stored stored x y is = at (list_any (same (1 ∷ x)) stored) refl is
+-- where only the second is added, which is of another kind, the first is stored
+first-stored : (stored : Stored) (k : ℕ) (x y : List ℕ) → (1 ≡ k → ⊥) → concat (fresh stored ((1 ∷ x) ∷ (k ∷ y) ∷ [])) ≡ k ∷ y → list_any (same (1 ∷ x)) stored ≡ true
+first-stored stored k x y other is = at (list_any (same (1 ∷ x)) stored) refl is
   where
-    at : (b : Bool) → list_any (same (1 ∷ x)) stored ≡ b → concat (cond b (fresh stored ((2 ∷ y) ∷ [])) ((1 ∷ x) ∷ fresh (stored ++ (1 ∷ x) ∷ []) ((2 ∷ y) ∷ []))) ≡ 2 ∷ y → list_any (same (1 ∷ x)) stored ≡ true
+    at : (b : Bool) → list_any (same (1 ∷ x)) stored ≡ b → concat (cond b (fresh stored ((k ∷ y) ∷ [])) ((1 ∷ x) ∷ fresh (stored ++ (1 ∷ x) ∷ []) ((k ∷ y) ∷ []))) ≡ k ∷ y → list_any (same (1 ∷ x)) stored ≡ true
     at true e added = e
-    at false e added = absurd (let wrong : 1 ∷ (x ++ concat (fresh (stored ++ (1 ∷ x) ∷ []) ((2 ∷ y) ∷ []))) ≡ 2 ∷ y = added in cc wrong)
+    at false e added =
+        let wrong : 1 ∷ (x ++ concat (fresh (stored ++ (1 ∷ x) ∷ []) ((k ∷ y) ∷ []))) ≡ k ∷ y = added in
+        let kinds : 1 ≡ k = cc wrong in
+        absurd (other kinds)
 
 module _ {S O R Q A : Type 0} (fixed : Fixed S O R Q A) (moves : List (Move O R)) where
   abbrev s : Store O R
@@ -131,27 +137,26 @@ module _ {S O R Q A : Type 0} (fixed : Fixed S O R Q A) (moves : List (Move O R)
         },
       )
 
-  -- the object of its value stands there, or was stored
-  value-of : (v : Option (List ℕ)) (a x y value commit : List ℕ) → value ≡ 1 ∷ x → commit ≡ 2 ∷ y → a ≡ fixed.address value
-      → concat (fresh (objects_of fixed moves) (value ∷ commit ∷ [])) ≡ value_text v ++ commit
-      → (concat (fresh (objects_of fixed moves) (value ∷ commit ∷ [])) ≡ commit) ⊎ (concat (fresh (objects_of fixed moves) (value ∷ commit ∷ [])) ≡ value ++ commit)
-      → collision fixed.address (objects_of fixed moves) (value ∷ commit ∷ []) ≡ None → IsValueOf fixed moves v a value
-  value-of None a x y value commit is_value is_commit addressed whole_is parts free =
+  -- the object of its value, where the layout keeps it, stands there, or was stored
+  value-of : (layout : Layout) (told : List ℕ) (v a : Option (List ℕ)) (k : ℕ) (y : List ℕ) → IsKept layout v → (1 ≡ k → ⊥) → let value : List ℕ = kept_value layout told in
+      a ≡ kept_address layout (fixed.address value) → let added : List ℕ = concat (fresh (objects_of fixed moves) (given value ++ (k ∷ y) ∷ [])) in
+      added ≡ value_text v ++ k ∷ y → (added ≡ k ∷ y) ⊎ (added ≡ value ++ k ∷ y) → collision fixed.address (objects_of fixed moves) (given value ++ (k ∷ y) ∷ []) ≡ None → IsValueOf fixed moves v a value
+  value-of Whole told None a k y kept other addressed whole_is parts free =
       let objects : Stored = objects_of fixed moves in
-      let there : list_any (same value) objects ≡ true =
-      subst (λ (z : List ℕ). list_any (same z) objects ≡ true) (sym is_value)
-      (first-stored objects x y
-      (ap (λ (z : List ℕ). concat (fresh objects (z ∷ (2 ∷ y) ∷ []))) (sym is_value) ∙ ap (λ (z : List ℕ). concat (fresh objects (value ∷ z ∷ []))) (sym is_commit) ∙ whole_is ∙ is_commit)) in
-      ap (λ (b : List ℕ). first_with fixed.address b objects) addressed
-      ∙ found-alone fixed.address value objects there (λ z any e. clash-none fixed.address value z objects (first-free fixed.address value commit objects free) any e)
-  value-of (Some spelling) a x y value commit is_value is_commit addressed whole_is (inl is) free =
-      absurd (let wrong : 1 ∷ (field spelling ++ commit) ≡ 2 ∷ y = sym whole_is ∙ is ∙ is_commit in cc wrong)
-  value-of (Some spelling) a x y value commit is_value is_commit addressed whole_is (inr is) free =
-      append_cancel_right value (value_object spelling) commit (sym is ∙ whole_is)
+      let value : List ℕ = value_object told in
+      let there : list_any (same value) objects ≡ true = first-stored objects k (field told) y other whole_is in
+      subst (λ (o : Option (List ℕ)). IsValueOf fixed moves None o value) (sym addressed)
+      (found-alone fixed.address value objects there (λ z any e. clash-none fixed.address value z objects (first-free fixed.address value (k ∷ y) objects free) any e))
+  value-of Whole told (Some spelling) a k y kept other addressed whole_is (inl is) free =
+      absurd (let wrong : 1 ∷ (field spelling ++ k ∷ y) ≡ k ∷ y = sym whole_is ∙ is in let kinds : 1 ≡ k = cc wrong in other kinds)
+  value-of Whole told (Some spelling) a k y kept other addressed whole_is (inr is) free =
+      append_cancel_right (value_object told) (value_object spelling) (k ∷ y) (sym is ∙ whole_is)
+  value-of Changes told None a k y kept other addressed whole_is parts free = subst (λ (o : Option (List ℕ)). IsValueOf fixed moves None o []) (sym addressed) refl
+  value-of Changes told (Some spelling) a k y kept other addressed whole_is parts free = let e : Changes ≡ Whole = kept.0 in absurd (cc e)
 
 -- bytes that may stand behind the history
 module _ {S O R Q A : Type 0} (fixed : Fixed S O R Q A) (moves : List (Move O R)) (r : Record) (bytes : List ℕ) (laws : KeepsLaws fixed.meaning) (size : HasSize fixed.address) (valid : IsFullyValid fixed moves) (known : AreKnown fixed moves) (fits : Fits r) (may : MayCome fixed moves r) (long : end_of fixed moves + length bytes ≡ end_at r)
-    (parts : Parts) (done : IsDoneIn bytes parts) (inside : IsOfType fixed.meaning parts.value) where
+    (parts : Parts) (done : IsDoneIn fixed.terms.layout bytes parts) (inside : IsOfType fixed.meaning parts.value) where
   -- the machine takes the item that they are, where they and the record are those of a move
   taken : (parents : List ℕ) (origin clock : ℕ) (act : Option (O × R)) → let m : Move O R = move.Received parents origin clock act in
       IsFullMove fixed moves m → record_of fixed moves m ≡ r → region fixed moves m ≡ bytes → (item : Pair) × IsItemIn fixed moves parts bytes item × TakesItem fixed moves item r bytes
@@ -166,14 +171,16 @@ module _ {S O R Q A : Type 0} (fixed : Fixed S O R Q A) (moves : List (Move O R)
       let all : List ℕ = whole fixed moves r bytes laws size valid known fits may long in
       let spans = spans-more fixed moves all r valid begins known fits may m full recorded (stored ∙ sym behind) in
       let told = received-objects fixed laws size (files fixed moves all r valid begins known fits may) few moves parents origin clock act spans (value_text parts.value) done.commit
-      (value-part fixed r bytes parts.value done.are.short inside) done.are.commit (ap (bytes_behind fixed moves all) recorded ∙ behind ∙ done.are.whole) in
+      (value-part fixed r bytes parts.value done.are.kept inside) done.are.commit (ap (bytes_behind fixed moves all) recorded ∙ behind ∙ done.are.whole) in
       let found = its-step fixed moves parents origin clock act (IsAccepted-from fixed.meaning fixed.terms moves m is.0) in
       let all_of : bytes ≡ value_text parts.value ++ p.commit = done.are.whole ∙ ap (λ (t : List ℕ). value_text parts.value ++ t) told.1 in
       let free = subst (λ (xs : Stored). collision fixed.address (objects_of fixed moves) xs ≡ None) told.2 (no-collision fixed moves m is.2) in
-      let added : concat (fresh (objects_of fixed moves) (p.value ∷ p.commit ∷ [])) ≡ region fixed moves m = ap (λ (xs : Stored). concat (fresh (objects_of fixed moves) xs)) (sym told.2) in (
+      let spelling : List ℕ = fixed.meaning.spelling_of (visible ((store_after fixed moves).commits ++ k ∷ []) (length (store_after fixed moves).commits)) in
+      let own_address : Option (List ℕ) = kept_address fixed.terms.layout (fixed.address p.value) in
+      let added : concat (fresh (objects_of fixed moves) (both p)) ≡ region fixed moves m = ap (λ (xs : Stored). concat (fresh (objects_of fixed moves) xs)) (sym told.2) in (
         p,
         record {
-          value = value-of fixed moves parts.value parts.address _ _ p.value p.commit refl refl (sym done.addressed ∙ told.0) (added ∙ stored ∙ all_of)
+          value = value-of fixed moves fixed.terms.layout spelling parts.value parts.address (commit_kind own_address) _ done.are.kept (not_value own_address) (sym done.addressed ∙ told.0) (added ∙ stored ∙ all_of)
               (subst (λ (l : List ℕ). (l ≡ p.commit) ⊎ (l ≡ p.value ++ p.commit)) (sym added) told.3) free;
           whole = all_of;
         },
@@ -207,14 +214,14 @@ module _ {S O R Q A : Type 0} (fixed : Fixed S O R Q A) (moves : List (Move O R)
 -- what neither a plan nor the item remakes, the machine does not make
 pub not-anew : {S O R Q A : Type 0} (meaning : Meaning S O R Q A) (address : List ℕ → List ℕ) (old new : RecordedView (Move O R)) → let fixed : Fixed S O R Q A = fix meaning old.terms address in
     (r : Record) (bytes : List ℕ) (laws : KeepsLaws meaning) (size : HasSize address) (valid : IsFullyValid fixed old.written) (known : AreKnown fixed old.written) (fits : Fits r) (may : MayCome fixed old.written r) (long : end_of fixed old.written + length bytes ≡ end_at r)
-    (parts : Parts) (done : IsDoneIn bytes parts) (action : Action) → done.commit.action ≡ action → (plan : Option (Plan O)) → IsPlanned meaning r action plan → MadeAnew fixed old new plan parts r bytes false → IsOfType meaning parts.value → IsMade fixed old.written r bytes → ⊥
+    (parts : Parts) (done : IsDoneIn old.terms.layout bytes parts) (action : Action) → done.commit.action ≡ action → (plan : Option (Plan O)) → IsPlanned meaning r action plan → MadeAnew fixed old new plan parts r bytes false → IsOfType meaning parts.value → IsMade fixed old.written r bytes → ⊥
 not-anew meaning address old new r bytes laws size valid known fits may long parts done action does (Some p) planned made inside =
     planned-not (fix meaning old.terms address) old.written r bytes laws size valid known fits may long r refl action p planned parts.value done.commit done.are inside does made.1
 not-anew meaning address old new r bytes laws size valid known fits may long parts done action does None (own, end, is) made inside =
     not-received (fix meaning old.terms address) old.written r bytes laws size valid known fits may long parts done inside own end is made.1
 
 -- an item that the bytes are is the one that is cut out of them
-module _ {S O R Q A : Type 0} (fixed : Fixed S O R Q A) (moves : List (Move O R)) (parts : Parts) (bytes : List ℕ) (done : IsDoneIn bytes parts) where
+module _ {S O R Q A : Type 0} (fixed : Fixed S O R Q A) (moves : List (Move O R)) (parts : Parts) (bytes : List ℕ) (done : IsDoneIn fixed.terms.layout bytes parts) where
   abbrev text : List ℕ
   text = value_text parts.value
 
@@ -232,18 +239,27 @@ module _ {S O R Q A : Type 0} (fixed : Fixed S O R Q A) (moves : List (Move O R)
     value-shown spelling some =
         subst (λ (o : Option (List ℕ)). IsValueOf fixed moves o parts.address item.value) some is.value ∙ ap value_text (sym some) ∙ sym cut-value
 
-    pub value-stored : (stored : List ℕ) → parts.value ≡ None → Some stored ≡ first_with fixed.address parts.address (objects_of fixed moves) → item.value ≡ stored
-    value-stored stored none found =
-        let both : Some item.value ≡ Some stored = sym (subst (λ (o : Option (List ℕ)). IsValueOf fixed moves o parts.address item.value) none is.value) ∙ sym found in
-        cc both
+    -- none is told: it is the stored one with the address, where there is one, and else there is none
+    value-untold : (address : Option (List ℕ)) → parts.value ≡ None → parts.address ≡ address → IsValueOf fixed moves None address item.value
+    value-untold address none at =
+        subst (λ (a : Option (List ℕ)). IsValueOf fixed moves None a item.value) at
+        (subst (λ (o : Option (List ℕ)). IsValueOf fixed moves o parts.address item.value) none is.value)
 
-    pub none-stored : parts.value ≡ None → None ≡ first_with fixed.address parts.address (objects_of fixed moves) → ⊥
-    none-stored none found =
-        let both : Some item.value ≡ None = sym (subst (λ (o : Option (List ℕ)). IsValueOf fixed moves o parts.address item.value) none is.value) ∙ sym found in
-        cc both
+    pub value-stored : (stored address : List ℕ) → parts.value ≡ None → parts.address ≡ Some address → Some stored ≡ first_with fixed.address address (objects_of fixed moves) → item.value ≡ stored
+    value-stored stored address none at found =
+        let alike : Some item.value ≡ Some stored = sym (value-untold (Some address) none at) ∙ sym found in
+        cc alike
+
+    pub none-stored : (address : List ℕ) → parts.value ≡ None → parts.address ≡ Some address → None ≡ first_with fixed.address address (objects_of fixed moves) → ⊥
+    none-stored address none at found =
+        let alike : Some item.value ≡ None = sym (value-untold (Some address) none at) ∙ sym found in
+        cc alike
+
+    pub value-none : parts.value ≡ None → parts.address ≡ None → item.value ≡ take parts.place bytes
+    value-none none at = value-untold None none at ∙ ap value_text (sym none) ∙ sym cut-value
 
 -- what is answered to that item
-pub received-if : {S O R Q A : Type 0} (fixed : Fixed S O R Q A) (old new : RecordedView (Move O R)) (parts : Parts) (r : Record) (bytes : List ℕ) → IsDoneIn bytes parts → (given : Pair) → given.commit ≡ drop parts.place bytes → ((item : Pair) → IsItemIn fixed old.written parts bytes item → item.value ≡ given.value)
+pub received-if : {S O R Q A : Type 0} (fixed : Fixed S O R Q A) (old new : RecordedView (Move O R)) (parts : Parts) (r : Record) (bytes : List ℕ) → IsDoneIn fixed.terms.layout bytes parts → (given : Pair) → given.commit ≡ drop parts.place bytes → ((item : Pair) → IsItemIn fixed old.written parts bytes item → item.value ≡ given.value)
     → (same : Bool) → IsTaken fixed old new given r bytes same → IsReceivedIn fixed old new parts r bytes same
 received-if fixed old new parts r bytes done given commit value true is = is
 received-if fixed old new parts r bytes done given commit value false is = (

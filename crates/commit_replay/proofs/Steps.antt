@@ -285,7 +285,7 @@ module _ {S O R Q A : Type 0} (fixed : Fixed S O R Q A) (moves : List (Move O R)
       ap (take (end_at r - end_of fixed moves)) (drop-append_seam before bytes) ∙ take_all (end_at r - end_of fixed moves) bytes (omega (arith, long))
 
   -- an operation with this record and region is what the step remakes
-  module _ (op : O) (text told : List ℕ) (one : (other : O) → fixed.meaning.is_op other → fixed.meaning.op_spelling other ≡ text → op ≡ other) (value : Option (List ℕ)) (c : CommitFields) (are : AreParts bytes value c) (inside : IsOfType fixed.meaning value) (does : c.action ≡ wire.Operation text told) where
+  module _ (op : O) (text told : List ℕ) (one : (other : O) → fixed.meaning.is_op other → fixed.meaning.op_spelling other ≡ text → op ≡ other) (value : Option (List ℕ)) (c : CommitFields) (are : AreParts fixed.terms.layout bytes value c) (inside : IsOfType fixed.meaning value) (does : c.action ≡ wire.Operation text told) where
     remade-operation : (b : ℕ) (address : List ℕ) (end : ℕ) → r ≡ Operation b address end → (m : Move O R) → IsFullMove fixed moves m → record_of fixed moves m ≡ r → region fixed moves m ≡ bytes → Remakes fixed moves (machine.Land b (head_of t.branches b) op) r bytes
     remade-operation b address end is_r (move.Fork name count from) full same is = absurd (let e : Fork count from name (end_of fixed (moves ++ move.Fork name count from ∷ [])) ≡ Operation b address end = same ∙ is_r in cc e)
     remade-operation b address end is_r (move.Merge r' k') full same is = absurd (let e : record_of fixed moves (move.Merge r' k') ≡ Operation b address end = same ∙ is_r in cc e)
@@ -297,7 +297,7 @@ module _ {S O R Q A : Type 0} (fixed : Fixed S O R Q A) (moves : List (Move O R)
     remade-operation b address end is_r (move.Operation b' other reply) full same is =
         let e : record_of fixed moves (move.Operation b' other reply) ≡ Operation b address end = same ∙ is_r in
         let branch : b' ≡ b = cc e in
-        let spelled = operation-of fixed moves whole r valid starts known fits may laws size whole-short b' other reply full same (is ∙ sym behind-is) (value_text value) c (value-part fixed r bytes value are.short inside) are.commit (behind-is ∙ are.whole) in
+        let spelled = operation-of fixed moves whole r valid starts known fits may laws size whole-short b' other reply full same (is ∙ sym behind-is) (value_text value) c (value-part fixed r bytes value are.kept inside) are.commit (behind-is ∙ are.whole) in
         let actions : wire.Operation text told ≡ wire.Operation (fixed.meaning.op_spelling other) (fixed.meaning.reply_spelling reply) = sym does ∙ spelled in
         let texts : text ≡ fixed.meaning.op_spelling other = cc actions in
         let ops : op ≡ other = one other (accepted fixed moves (move.Operation b' other reply) full).known (sym texts) in
@@ -410,7 +410,7 @@ module _ {S O R Q A : Type 0} (fixed : Fixed S O R Q A) (moves : List (Move O R)
       dropped b end is_r made.0 made.1 made.2 (made.3 ∙ behind-is)
 
   -- what the step of a plan does not remake, the machine does not make
-  pub planned-not : (q : Record) → r ≡ q → (action : Action) (p : Plan O) → IsPlanOf fixed.meaning q action p → (value : Option (List ℕ)) (c : CommitFields) → AreParts bytes value c → IsOfType fixed.meaning value → c.action ≡ action → (Remakes fixed moves (step_for fixed.terms moves p) r bytes → ⊥) → IsMade fixed moves r bytes → ⊥
+  pub planned-not : (q : Record) → r ≡ q → (action : Action) (p : Plan O) → IsPlanOf fixed.meaning q action p → (value : Option (List ℕ)) (c : CommitFields) → AreParts fixed.terms.layout bytes value c → IsOfType fixed.meaning value → c.action ≡ action → (Remakes fixed moves (step_for fixed.terms moves p) r bytes → ⊥) → IsMade fixed moves r bytes → ⊥
   planned-not (Operation b address end) is_r (wire.Operation spelling told) (plan.Operation branch op) (same, known, one) value c are inside does none made =
       not-operated op spelling told one value c are inside does b address end is_r
       (λ again. none (subst (λ (x : ℕ). Remakes fixed moves (machine.Land x (head_of t.branches x) op) r bytes) (sym same) again)) made
@@ -445,7 +445,7 @@ module _ {S O R Q A : Type 0} (fixed : Fixed S O R Q A) (moves : List (Move O R)
   planned-not (Join b ks end) is_r wire.Merge (plan.Merge branch commit) none-planned value c are inside does none made = absurd none-planned
 
   -- why bytes were refused, of which these parts were read
-  pub why-not-made : (value : Option (List ℕ)) (c : CommitFields) (action : Action) → AreParts bytes value c → c.action ≡ action → Does fixed r action → (IsOfType fixed.meaning value → IsMade fixed moves r bytes → ⊥) → (why : NotRemade) → IsWhyNot fixed.meaning value why → NotRemadeAs fixed moves r bytes why
+  pub why-not-made : (value : Option (List ℕ)) (c : CommitFields) (action : Action) → AreParts fixed.terms.layout bytes value c → c.action ≡ action → Does fixed r action → (IsOfType fixed.meaning value → IsMade fixed moves r bytes → ⊥) → (why : NotRemade) → IsWhyNot fixed.meaning value why → NotRemadeAs fixed moves r bytes why
   why-not-made value c action are does done none unmade.Object inside = not-valued fixed r bytes value c are inside
   why-not-made value c action are does done none unmade.Commit inside = (parts-shape fixed r bytes value c are inside (subst (Does fixed r) (sym does) done) (λ one. absurd (omega (arith, one))), none inside)
   why-not-made value c action are does done none unmade.Memory inside = tt

@@ -67,12 +67,12 @@ module _ {S O R Q A : Type 0} (m : Meaning S O R Q A) (terms : Terms) (address :
   shape-today = shape-later m terms address (form_of version) present (λ one. absurd (omega (arith, one)))
 
   -- why a commit was not remade, whose parents are few enough for the version
-  module _ (moves : List (Move O R)) (r : Record) (bytes : List ℕ) (value : Option (List ℕ)) (c : CommitFields) (are : AreParts bytes value c) (few : AreFewIn version c.parents) where
+  module _ (moves : List (Move O R)) (r : Record) (bytes : List ℕ) (value : Option (List ℕ)) (c : CommitFields) (are : AreParts terms.layout bytes value c) (few : AreFewIn version c.parents) where
     shape-own : HasShape today r bytes → HasShape own r bytes
     shape-own shape =
         let s = shape-parts today r bytes shape in
         parts-shape own r bytes s.value s.commit s.are s.inside (does-same m terms address present (form_of version) r s.commit.action s.does)
-        (subst (λ (d : CommitFields). AreFewIn version d.parents) (sym (parts-same bytes s.value value s.commit c s.are are).1) few)
+        (subst (λ (d : CommitFields). AreFewIn version d.parents) (sym (parts-same terms.layout bytes s.value value s.commit c s.are are).1) few)
 
     pub not-own : (why : NotRemade) → NotRemadeAs today moves r bytes why → NotRemadeAs own moves r bytes why
     not-own unmade.Object none = λ shape. none (shape-today r bytes shape)

@@ -1,11 +1,14 @@
--- The objects of one commit as they stand: that of its value, if that was not stored before, and its own.
+-- The objects of one commit as they stand: that of its value, if its layout keeps it and it was not stored before, and its own.
 use Rattle.std.specs.Prelude.{◌≡◌, ℕ, List, [], ◌++◌, length}
 use Rattle.std.specs.declared.option.Option.{Option}
 use Rattle.std.specs.declared.option.Option.TheVariants.{None, Some}
 use Rattle.mrdt_model.specs.Laws.{Meaning}
+use Rattle.branch_names.specs.declared.layout.Layout.{Layout}
+use Rattle.branch_names.specs.declared.layout.Layout.TheVariants.{Whole}
 use Rattle.branch_wire.specs.Reading.{HasLength64}
 use Rattle.branch_wire.specs.Objects.{CommitFields, value_object, commit_object}
 use Rattle.branch_objects_codec.specs.Grammar.{IsCommit}
+use Rattle.branch_files.specs.Next.{IsLaidOut}
 use Rattle.commit_replay.specs.declared.commit.NotRemade.{NotRemade}
 use Rattle.commit_replay.specs.declared.commit.NotRemade.TheVariants as unmade
 use Rattle.mrdt_model.specs.declared.errors.Unread.{Unread}
@@ -17,24 +20,26 @@ abbrev pub value_text : Option (List ℕ) → List ℕ
 value_text None = []
 value_text (Some spelling) = value_object spelling
 
-abbrev pub IsShort : Option (List ℕ) → Type 0
-IsShort None = Unit {0}
-IsShort (Some spelling) = HasLength64 spelling
+-- no value is told, or the layout keeps values, and its spelling is not too long
+abbrev pub IsKept : Layout → Option (List ℕ) → Type 0
+IsKept layout None = Unit {0}
+IsKept layout (Some spelling) = (layout ≡ Whole) × HasLength64 spelling
 
--- the bytes are the object of a value with this spelling, or nothing, and the object of this commit
-pub record AreParts (bytes : List ℕ) (value : Option (List ℕ)) (c : CommitFields) : Type 0 where
-  pub short : IsShort value
+-- the bytes are the object of a value with this spelling, or nothing, and the object of this commit, as the layout has them
+pub record AreParts (layout : Layout) (bytes : List ℕ) (value : Option (List ℕ)) (c : CommitFields) : Type 0 where
+  pub kept : IsKept layout value
   pub commit : IsCommit c
+  pub laid_out : IsLaidOut layout c.value
   pub whole : bytes ≡ value_text value ++ commit_object c
 
--- the commit's object does this, and has so many parents and this address of its value
-pub record IsDoneIn (bytes : List ℕ) (parts : Parts) : Type 0 where
+-- the commit's object does this, and has so many parents and, where the layout keeps values, this address of its value
+pub record IsDoneIn (layout : Layout) (bytes : List ℕ) (parts : Parts) : Type 0 where
   pub commit : CommitFields
   pub placed : length (value_text parts.value) ≡ parts.place
   pub counted : length commit.parents ≡ parts.parents
   pub addressed : commit.value ≡ parts.address
   pub does : commit.action ≡ parts.action
-  pub are : AreParts bytes parts.value commit
+  pub are : AreParts layout bytes parts.value commit
 
 -- the value, if its object stands there, is spelled as the type has it
 abbrev pub IsOfType : {S O R Q A : Type 0} → Meaning S O R Q A → Option (List ℕ) → Type 0

@@ -74,12 +74,13 @@ abbrev pub IsTaken : {S O R Q A : Type 0} → Fixed S O R Q A → RecordedView (
 IsTaken fixed old new item r bytes true = GoesOn fixed old new r bytes
 IsTaken fixed old new item r bytes false = (new ≡ old) × ¬ TakesItem fixed old.written item r bytes
 
--- the object of a value, which has this spelling or, where none is told, is the stored one with this address
-abbrev pub IsValueOf : {S O R Q A : Type 0} → Fixed S O R Q A → List (Move O R) → Option (List ℕ) → List ℕ → List ℕ → Type 0
-IsValueOf fixed moves None address value = first_with fixed.address address (objects_of fixed moves) ≡ Some value
+-- the object of a value, which has this spelling or, where none is told, is the stored one with this address; where no address is told either, there is none
+abbrev pub IsValueOf : {S O R Q A : Type 0} → Fixed S O R Q A → List (Move O R) → Option (List ℕ) → Option (List ℕ) → List ℕ → Type 0
+IsValueOf fixed moves None None value = value ≡ []
+IsValueOf fixed moves None (Some address) value = first_with fixed.address address (objects_of fixed moves) ≡ Some value
 IsValueOf fixed moves (Some spelling) address value = value ≡ value_object spelling
 
--- the item whose objects the bytes are: that of its value stands there, or was stored before
+-- the item whose objects the bytes are: that of its value, where it has one, stands there, or was stored before
 pub record IsItemIn {S O R Q A : Type 0} (fixed : Fixed S O R Q A) (moves : List (Move O R)) (parts : Parts) (bytes : List ℕ) (item : Pair) : Type 0 where
   pub value : IsValueOf fixed moves parts.value parts.address item.value
   pub whole : bytes ≡ value_text parts.value ++ item.commit

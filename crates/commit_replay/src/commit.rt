@@ -1,5 +1,7 @@
 // One record of a move that makes a commit, with the bytes of its objects.
-ghost use Rattle.std.specs.Prelude.{◌≡◌, ◌↔◌, ◌+◌, ◌≤◌, [], length, IfErr, IfOk, IfSome, IsTrue, OnOk};
+ghost use Rattle.std.specs.Prelude.{◌≡◌, ◌↔◌, ◌+◌, ◌≤◌, ℕ, List, [], length, IfErr, IfOk, IfSome, IsErrOf, IsTrue, OnOk};
+ghost use Rattle.std.specs.declared.option.Option.{Option as SpecOption};
+ghost use Rattle.branch_wire.specs.Objects.{CommitFields};
 ghost use Rattle.branch_history.specs.History.{store_of};
 ghost use Rattle.branch_machine.specs.Fixed.{fix, fix_in};
 ghost use Rattle.branch_machine.specs.Objects.{end_of};
@@ -7,7 +9,7 @@ ghost use Rattle.branch_files.specs.Next.{end_at};
 ghost use Rattle.branch_files.specs.Records.{AreKnown};
 ghost use Rattle.heads_journal.specs.Format.{Fits};
 ghost use Rattle.commit_replay.specs.Follows.{form_of, MayCome};
-ghost use Rattle.commit_replay.specs.Parts.{IsDoneIn, IsWhyNot, unread_as};
+ghost use Rattle.commit_replay.specs.Parts.{AreParts, IsDoneIn, IsWhyNot, unread_as};
 ghost use Rattle.commit_replay.specs.Walk.{GoesOn, HasPlan, MadeAnew, NotRemadeAs};
 
 use crate::parts::{Parts, parted};
@@ -76,7 +78,7 @@ pub fn remake_commit<T: Mrdt, A: Address>(
         IfErr result (NotRemadeAs own recorded.old.written next.now bytes.now) }
 {
     let _moves = recorded.moves();
-    let parts = match parted(alloc, bytes) {
+    let parts = match parts_of(alloc, recorded, bytes) {
         Ok(parts) => parts,
         Err(why) => return Err(unread(why)),
     };
@@ -94,6 +96,19 @@ pub fn remake_commit<T: Mrdt, A: Address>(
     }
 }
 
+// The parts of a commit that the bytes are in the layout of a store, and no more.
+fn parts_of<T: Mrdt, A: Address>(
+    alloc: Global,
+    recorded: &Recorded<T, A>,
+    bytes: &[u8],
+) -> Result<Parts, Unread>
+    ensures parts { IfOk result (IsDoneIn recorded.now.terms.layout bytes.now) }
+    ensures none { IsErrOf result Unread.NotCanonical → (value : SpecOption (List ℕ))
+        (c : CommitFields) → AreParts recorded.now.terms.layout bytes.now value c → ⊥ }
+{
+    parted(alloc, recorded.terms().layout, bytes)
+}
+
 // Makes the move of a plan, and without one the move that receives the commit of these parts, where it has this record
 // and this region.
 fn made_anew<T: Mrdt, A: Address>(
@@ -107,7 +122,7 @@ fn made_anew<T: Mrdt, A: Address>(
     requires settled { recorded.old.pending ≡ [] }
     requires there { IfSome plan
         (HasPlan (store_of recorded.old.terms.origin recorded.old.written)) }
-    requires parts { IsDoneIn bytes.now parts.now }
+    requires parts { IsDoneIn recorded.old.terms.layout bytes.now parts.now }
     ensures { IfOk result
         (MadeAnew (fix T.meaning recorded.old.terms A.address) recorded.old recorded.new plan
         parts.now next.now bytes.now) }

@@ -14,7 +14,7 @@ use recorded_history::{Arrived, ReceiveRefused, Recorded};
 use std::alloc::Global;
 
 // Receives the commit whose objects the bytes are, where its move has this record and this region. The object of its
-// value stands before its own, or was stored already.
+// value, where the layout keeps it, stands before its own, or was stored already.
 pub fn receive<T: Mrdt, A: Address>(
     alloc: Global,
     recorded: &mut Recorded<T, A>,
@@ -23,7 +23,7 @@ pub fn receive<T: Mrdt, A: Address>(
     bytes: &[u8],
 ) -> Result<bool, Memory>
     requires settled { recorded.old.pending ≡ [] }
-    requires parts { IsDoneIn bytes.now parts.now }
+    requires parts { IsDoneIn recorded.old.terms.layout bytes.now parts.now }
     ensures { IfOk result
         (IsReceivedIn (fix T.meaning recorded.old.terms A.address) recorded.old recorded.new
         parts.now next.now bytes.now) }
@@ -32,13 +32,16 @@ pub fn receive<T: Mrdt, A: Address>(
     let commit = &bytes[parts.place..];
     match &parts.value {
         Some(_) => take(recorded, value, commit, next, bytes),
-        None => {
-            let Some(stored) = recorded.object(&parts.address) else {
-                return Ok(false);
-            };
-            let stored = Vec::from_slice(alloc, stored)?;
-            take(recorded, &stored, commit, next, bytes)
-        }
+        None => match &parts.address {
+            Some(address) => {
+                let Some(stored) = recorded.object(address) else {
+                    return Ok(false);
+                };
+                let stored = Vec::from_slice(alloc, stored)?;
+                take(recorded, &stored, commit, next, bytes)
+            }
+            None => take(recorded, value, commit, next, bytes),
+        },
     }
 }
 

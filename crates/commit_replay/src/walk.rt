@@ -55,7 +55,7 @@ pub fn replay<T: Mrdt, A: Address>(
     ensures refused { let fixed = fix_in (form_of version) T.meaning terms A.address in
         IfErr result (ReplayRefusedAs fixed records.now objects.items) }
 {
-    let Ok(first) = first_text::<T, A>(alloc, version) else {
+    let Ok(first) = first_text::<T, A>(alloc, version, terms.layout) else {
         return Err(ReplayRefused::Memory);
     };
     if !objects.starts_with(&first) {

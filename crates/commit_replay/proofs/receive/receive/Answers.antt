@@ -7,7 +7,7 @@ use Rattle.std.specs.Option.{option_copied}
 use Rattle.std.proofs.lemmas.Result.{IfOk-weaker}
 use Rattle.branch_machine.specs.Fixed.{fix}
 use Rattle.branch_machine.specs.Objects.{Pair}
-use Rattle.commit_replay.proofs.Received.{value-shown, none-stored, received-if}
+use Rattle.commit_replay.proofs.Received.{value-shown, value-none, none-stored, received-if}
 use Rattle.commit_replay.proofs.receive.receive.Goals as goal
 
 pub returns-in-Some : goal.returns-in-Some
@@ -27,4 +27,4 @@ returns-in_default g c =
     let fixed = fix g.T.Mrdt.meaning r.terms g.A.Address.address in
     let parts = c.args.parts.now in
     let none = ap option_copied (sym c.in_default.is) ∙ c.object.ensures in
-    (refl, λ own of takes. none-stored fixed r.written parts c.args.bytes.now c.requires.parts own of c.in-None.is none)
+    (refl, λ own of takes. none-stored fixed r.written parts c.args.bytes.now c.requires.parts own of c.in-Some-address.address c.in-None.is c.in-Some-address.is none)

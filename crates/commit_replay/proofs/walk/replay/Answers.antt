@@ -23,8 +23,8 @@ loop-next-init g c =
     let starts : take (length first) objects ≡ first = search rules in
     let left : c.take.new.self ≡ drop (length first) objects = search rules in
     let fresh = c.keep_folds.ensures ∙ c.in-Ok-fresh.ensures in (
-      walked-none m g.A.Address.address c.args.terms c.args.version c.args.records.now objects c.keep_folds.new.self fresh (subst (λ text. Begins text objects) (c.in-Ok.ensures c.args.terms) starts),
-      ahead-none m g.A.Address.address c.args.terms c.args.version c.args.records.now objects c.keep_folds.new.self fresh first c.take.new.self (c.in-Ok.ensures c.args.terms) left,
+      walked-none m g.A.Address.address c.args.terms c.args.version c.args.records.now objects c.keep_folds.new.self fresh (subst (λ text. Begins text objects) (c.in-Ok.ensures c.args.terms refl) starts),
+      ahead-none m g.A.Address.address c.args.terms c.args.version c.args.records.now objects c.keep_folds.new.self fresh first c.take.new.self (c.in-Ok.ensures c.args.terms refl) left,
     )
 
 pub replay_record-requires-clause-known : goal.replay_record-requires-clause-known
