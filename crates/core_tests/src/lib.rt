@@ -1,5 +1,5 @@
-//! Tests of a store on a disk: its sizes and its device calls, batches that land at once, batches of unlike jobs, objects
-//! that collide by their address, a commit that another store sent, and files that are opened again.
+//! Tests of a store on a disk: its sizes in either layout and its device calls, batches that land at once, batches of
+//! unlike jobs, objects that collide by their address, a commit that another store sent, and files that are opened again.
 #![tactic(auto)]
 
 #[cfg(test)]

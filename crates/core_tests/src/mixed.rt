@@ -6,7 +6,7 @@ use crate::batches::{Answers, addition, fork_all, named};
 use crate::stores::{fresh, fresh_under};
 use branch_address::{Sha256Address, WeakAddress};
 use branch_disk::MemoryDisk;
-use branch_names::{Limits, Terms};
+use branch_names::{Layout, Limits, Terms};
 use mrdt_counter::Sum;
 use std::alloc::Global;
 use std::process::Abort;
@@ -20,7 +20,7 @@ type Answer = Result<Landed<()>, LandRefused>;
 // Terms for 5 commits, with commit 0, and 12 moves.
 fn small(rt: &impl Abort) -> Terms {
     let limits = Limits::new(100, 5, 10, 100, 12).expect(rt, "limits");
-    Terms::new(limits, 0, 0).expect(rt, "terms")
+    Terms::new(limits, 0, 0, Layout::Whole).expect(rt, "terms")
 }
 
 // Lands an addition to what a branch has now.
@@ -47,10 +47,12 @@ fn merge(rt: &impl Abort, core: &Store, letter: u8) -> Prepared<Sum>
     ensures terms { result.seen.terms ≡ core.now.terms }
 {
     let seen = core.look(&named(rt, letter)).expect(rt, "a branch");
-    let pair = core.pair(&seen, &named(rt, b'q')).expect(rt, "a branch");
-    match pair.prepare() {
-        Ok(PairStep::Land(job)) => job,
-        _ => panic!(rt; "nothing to merge"),
+    match core.group(&seen, &[named(rt, b'q')]) {
+        Ok(group) => match group.prepare() {
+            Ok(PairStep::Land(job)) => job,
+            _ => panic!(rt; "nothing to merge"),
+        },
+        Err(_) => panic!(rt; "no branch"),
     }
 }
 

@@ -1,7 +1,7 @@
 // Stores of sums.
 use branch_address::Address;
 use branch_disk::{Disk, MemoryDisk};
-use branch_names::{Limits, Name, Terms};
+use branch_names::{Layout, Limits, Name, Terms};
 use mrdt_counter::{Sum, SumOp};
 use std::alloc::Global;
 use std::process::Abort;
@@ -14,7 +14,7 @@ pub fn fresh<A: Address>(
     failing: Vec<u64>,
     first: u32,
 ) -> Core<Sum, MemoryDisk, A> {
-    let terms = Terms::new(Limits::default(), first, 0).expect(rt, "terms");
+    let terms = Terms::new(Limits::default(), first, 0, Layout::Whole).expect(rt, "terms");
     fresh_under(rt, alloc, failing, terms)
 }
 
@@ -26,6 +26,18 @@ pub fn fresh_under<A: Address>(
     terms: Terms,
 ) -> Core<Sum, MemoryDisk, A> {
     match Core::init(alloc, MemoryDisk::new(failing), terms) {
+        Ok(core) => core,
+        Err(_) => panic!(rt; "no store"),
+    }
+}
+
+// The store that a disk in memory holds.
+pub fn opened<A: Address>(
+    rt: &impl Abort,
+    alloc: Global,
+    disk: MemoryDisk,
+) -> Core<Sum, MemoryDisk, A> {
+    match Core::open(alloc, disk, 0) {
         Ok(core) => core,
         Err(_) => panic!(rt; "no store"),
     }

@@ -1,8 +1,8 @@
 -- Objects that are copied one behind the other, each once.
-use Rattle.std.proofs.Common.{◌≡◌, ℕ, ◌+◌, ◌<◌, Bool, true, false, cond, Some, None, slice_get, List, [], ◌∷◌, ◌++◌, length, map, take, zero, suc, get_or, refl, sym, ◌∙◌, ap, arith, append_assoc, append-nil}
+use Rattle.std.proofs.Common.{◌≡◌, ℕ, ◌+◌, ◌<◌, Bool, true, false, cond, Option, Some, None, slice_get, List, [], ◌∷◌, ◌++◌, length, map, take, zero, suc, get_or, refl, sym, ◌∙◌, ap, arith, append_assoc, append-nil}
 use Rattle.std.specs.List.{list_any, flat_map, concat}
 use Rattle.std.specs.Option.{option_map_or}
-use Rattle.std.proofs.lemmas.List.{map-append, length-take}
+use Rattle.std.proofs.lemmas.List.{length-take}
 use Rattle.std.proofs.lemmas.List.Concat.{flat_map-append}
 use Rattle.branch_machine.specs.Objects.{Pair, both, commit_text, value_text}
 use Rattle.branch_machine.proofs.Stored.{fresh-append}
@@ -10,7 +10,7 @@ use Rattle.branch_wire.specs.StoredObjects.{Stored, file_of, fresh, same}
 use Rattle.object_store.proofs.Written.{file-both}
 use Rattle.branch_compact.specs.Compact.{at_places}
 use Rattle.store_compact.specs.declared.copying.Placed.{Placed}
-use Rattle.store_compact.specs.Copied.{added, objects_in, pair_of, placed_after, placed_of, unless_known, values_in}
+use Rattle.store_compact.specs.Copied.{added, kept_unless, listed, objects_in, pair_of, placed_after, placed_of, unless_known, value_address, values_in}
 
 -- what is told of an address goes in where it is not known
 pub insert-known : (a : List ℕ) (known new : List (List ℕ)) → new ≡ cond (list_any (same a) known) known (known ++ a ∷ []) → new ≡ known ++ fresh known (a ∷ [])
@@ -26,10 +26,14 @@ copied-new a x known is = ap (λ (b : Bool). concat (cond b [] (x ∷ []))) is �
 pub copied-known : (a x : List ℕ) (known : List (List ℕ)) → list_any (same a) known ≡ true → concat (unless_known known a x) ≡ []
 copied-known a x known is = ap (λ (b : Bool). concat (cond b [] (x ∷ []))) is
 
+abbrev value_listed : (List ℕ → List ℕ) → Pair → List (List ℕ)
+value_listed address q = listed (value_address address q.value)
+
 -- the addresses of values with one more
-pub values-more : (address : List ℕ → List ℕ) (pairs : List Pair) (p : Pair) → values_in address (pairs ++ p ∷ []) ≡ values_in address pairs ++ fresh (values_in address pairs) (address p.value ∷ [])
+pub values-more : (address : List ℕ → List ℕ) (pairs : List Pair) (p : Pair) → values_in address (pairs ++ p ∷ []) ≡ values_in address pairs ++ fresh (values_in address pairs) (listed (value_address address p.value))
 values-more address pairs p =
-    ap (fresh []) (map-append (λ (q : Pair). address q.value) pairs (p ∷ [])) ∙ fresh-append [] (map (λ (q : Pair). address q.value) pairs) (address p.value ∷ [])
+    ap (fresh []) (flat_map-append (value_listed address) pairs (p ∷ [])) ∙ fresh-append [] (flat_map (value_listed address) pairs) (flat_map (value_listed address) (p ∷ []))
+    ∙ ap (λ (l : List (List ℕ)). values_in address pairs ++ fresh (values_in address pairs) l) (append-nil (value_listed address p))
 
 -- the objects with one more
 pub objects-more : (pairs : List Pair) (p : Pair) → objects_in (pairs ++ p ∷ []) ≡ objects_in pairs ++ fresh (objects_in pairs) (both p)
@@ -105,9 +109,9 @@ module _ (keep : ℕ → Bool) (pairs : List Pair) (k : ℕ) (lt : k < length pa
   next-gone is = with-next ∙ ap (λ (b : Bool). kept_to k ++ cond b (next ∷ []) []) is ∙ append-nil (kept_to k)
 
   module _ (is : keep k ≡ true) (address : List ℕ → List ℕ) (known : List (List ℕ)) (was : known ≡ values_in address (kept_to k)) where
-    pub known-next : (new : List (List ℕ)) → new ≡ known ++ fresh known (address (value_text pairs k) ∷ []) → new ≡ values_in address (kept_to (k + 1))
+    pub known-next : (new : List (List ℕ)) → new ≡ known ++ fresh known (listed (value_address address (value_text pairs k))) → new ≡ values_in address (kept_to (k + 1))
     known-next new grown =
-        grown ∙ ap (λ (l : List (List ℕ)). l ++ fresh l (address (value_text pairs k) ∷ [])) was ∙ sym (values-more address (kept_to k) next)
+        grown ∙ ap (λ (l : List (List ℕ)). l ++ fresh l (listed (value_address address (value_text pairs k)))) was ∙ sym (values-more address (kept_to k) next)
         ∙ sym (ap (values_in address) (next-kept is))
 
     module _ (adds : fresh (objects_in (kept_to k)) (both next) ≡ added address (values_in address (kept_to k)) next) (text longer : List ℕ) (stood : text ≡ file_of (objects_in (kept_to k)))
@@ -134,10 +138,12 @@ value-found pairs k p is = ap (λ o. option_map_or (λ q. q.value) o []) is
 pub commit-found : (pairs : List Pair) (k : ℕ) (p : Pair) → Some p ≡ slice_get pairs k → p.commit ≡ commit_text pairs k
 commit-found pairs k p is = ap (λ o. option_map_or (λ q. q.commit) o []) is
 
--- the object of a commit behind that of its value
-added-both : (known : List (List ℕ)) (a value commit first second third : List ℕ) → second ≡ first ++ concat (unless_known known a value) → third ≡ second ++ commit
-    → third ≡ first ++ concat (unless_known known a value ++ commit ∷ [])
-added-both known a value commit first second third one two =
+-- the object of a commit behind that of its value, where there is one
+added-both : (known : List (List ℕ)) (a : Option (List ℕ)) (value commit first second third : List ℕ) → second ≡ first ++ concat (kept_unless known a value) → third ≡ second ++ commit
+    → third ≡ first ++ concat (kept_unless known a value ++ commit ∷ [])
+added-both known None value commit first second third one two =
+    two ∙ ap (λ (l : List ℕ). l ++ commit) one ∙ append_assoc first [] commit ∙ ap (λ (l : List ℕ). first ++ l) (sym (append-nil commit))
+added-both known (Some a) value commit first second third one two =
     two ∙ ap (λ (l : List ℕ). l ++ commit) one ∙ at (list_any (same a) known)
   where
     at : (b : Bool) → (first ++ concat (cond b [] (value ∷ []))) ++ commit ≡ first ++ concat (cond b [] (value ∷ []) ++ commit ∷ [])
@@ -146,13 +152,13 @@ added-both known a value commit first second third one two =
         append_assoc first (value ++ []) commit ∙ ap (λ (l : List ℕ). first ++ (l ++ commit)) (append-nil value)
         ∙ ap (λ (l : List ℕ). first ++ (value ++ l)) (sym (append-nil commit))
 
-pub added-same : (address : List ℕ → List ℕ) (known : List (List ℕ)) (a value commit : List ℕ) (p : Pair) → a ≡ address p.value → value ≡ p.value → commit ≡ p.commit → (first second third : List ℕ)
-    → second ≡ first ++ concat (unless_known known a value) → third ≡ second ++ commit → third ≡ first ++ concat (added address known p)
+pub added-same : (address : List ℕ → List ℕ) (known : List (List ℕ)) (a : Option (List ℕ)) (value commit : List ℕ) (p : Pair) → a ≡ value_address address p.value → value ≡ p.value → commit ≡ p.commit → (first second third : List ℕ)
+    → second ≡ first ++ concat (kept_unless known a value) → third ≡ second ++ commit → third ≡ first ++ concat (added address known p)
 added-same address known a value commit p is one two first second third behind last =
     added-both known a value commit first second third behind last
-    ∙ ap (λ (b : List ℕ). first ++ concat (unless_known known b value ++ commit ∷ [])) is
-    ∙ ap (λ (v : List ℕ). first ++ concat (unless_known known (address p.value) v ++ commit ∷ [])) one
-    ∙ ap (λ (c : List ℕ). first ++ concat (unless_known known (address p.value) p.value ++ c ∷ [])) two
+    ∙ ap (λ (b : Option (List ℕ)). first ++ concat (kept_unless known b value ++ commit ∷ [])) is
+    ∙ ap (λ (v : List ℕ). first ++ concat (kept_unless known (value_address address p.value) v ++ commit ∷ [])) one
+    ∙ ap (λ (c : List ℕ). first ++ concat (kept_unless known (value_address address p.value) p.value ++ c ∷ [])) two
 
 -- what is there is found
 pub not-none : {X : Type 0} (xs : List X) (k : ℕ) → k < length xs → None ≡ slice_get xs k → ⊥

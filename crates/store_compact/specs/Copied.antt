@@ -1,5 +1,7 @@
 -- The objects of a history as they are copied, commit by commit.
-use Rattle.std.specs.Prelude.{ℕ, List, [], ◌∷◌, ◌++◌, length, map, if◌then◌else◌}
+use Rattle.std.specs.Prelude.{ℕ, List, [], ◌∷◌, ◌++◌, length, if◌then◌else◌}
+use Rattle.std.specs.declared.option.Option.{Option}
+use Rattle.std.specs.declared.option.Option.TheVariants.{None, Some}
 use Rattle.std.specs.List.{flat_map, list_any}
 use Rattle.branch_machine.specs.Objects.{Pair, both, commit_text, value_text}
 use Rattle.branch_wire.specs.StoredObjects.{Stored, file_of, fresh, same}
@@ -9,9 +11,19 @@ use Rattle.store_compact.specs.declared.copying.Placed.{Placed}
 abbrev pub objects_in : List Pair → Stored
 objects_in pairs = fresh [] (flat_map both pairs)
 
+-- the address of the object of a value, where there is one
+abbrev pub value_address : (List ℕ → List ℕ) → List ℕ → Option (List ℕ)
+value_address address [] = None
+value_address address (b ∷ bs) = Some (address (b ∷ bs))
+
+-- an address, where there is one
+abbrev pub listed : Option (List ℕ) → List (List ℕ)
+listed None = []
+listed (Some address) = address ∷ []
+
 -- the addresses of the values of commits, each once
 abbrev pub values_in : (List ℕ → List ℕ) → List Pair → List (List ℕ)
-values_in address pairs = fresh [] (map (λ p. address p.value) pairs)
+values_in address pairs = fresh [] (flat_map (λ p. listed (value_address address p.value)) pairs)
 
 -- the objects of the commit of this number
 abbrev pub pair_of : List Pair → ℕ → Pair
@@ -21,9 +33,14 @@ pair_of pairs n = record { value = value_text pairs n; commit = commit_text pair
 abbrev pub unless_known : List (List ℕ) → List ℕ → List ℕ → Stored
 unless_known known address object = if list_any (same address) known then [] else object ∷ []
 
--- what a commit adds where these addresses of values are known: the object of its value, if it is not there, and its own
+-- the same of an object that has an address; another one is none
+abbrev pub kept_unless : List (List ℕ) → Option (List ℕ) → List ℕ → Stored
+kept_unless known None object = []
+kept_unless known (Some address) object = unless_known known address object
+
+-- what a commit adds where these addresses of values are known: the object of its value, if there is one and it is not there, and its own
 abbrev pub added : (List ℕ → List ℕ) → List (List ℕ) → Pair → Stored
-added address known p = unless_known known (address p.value) p.value ++ p.commit ∷ []
+added address known p = kept_unless known (value_address address p.value) p.value ++ p.commit ∷ []
 
 -- of more commits, behind others, the address of each, and where the objects end behind it
 abbrev pub placed_after : (List ℕ → List ℕ) → List Pair → List Pair → List Placed

@@ -73,10 +73,10 @@ fn move_to_first<D: Disk + Drop>(other: D, files: &CompactFiles) -> Result<D, D>
     }
 }
 
-/// Compacts the store of a core whose disk is the current one of two: writes the store of the compact history on the
-/// other, all of it synced, and then makes that the current one by one byte of the first. Says how many moves were
-/// kept, and of how many. Both disks come back, the first one first. What the other held is written over, and what
-/// stands behind is left.
+/// Compacts the store of a core whose disk is the current one of two: writes the store of the compact history, in the
+/// same layout, on the other, all of it synced, and then makes that the current one by one byte of the first. Says how
+/// many moves were kept, and of how many. Both disks come back, the first one first. What the other held is written
+/// over, and what stands behind is left.
 ///
 /// After `Ok` the two disks read as the compact history, whatever a crash leaves of both. Until the switch they read
 /// as the history, and while the switch is written, and after a fault, as the one or the other: as the history where

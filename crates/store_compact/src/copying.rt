@@ -8,15 +8,14 @@ ghost use Rattle.branch_history.specs.History.{store_of};
 ghost use Rattle.branch_wire.specs.StoredObjects.{file_of, fresh, header};
 ghost use Rattle.branch_compact.specs.Compact.{at_places};
 ghost use Rattle.branch_compact.specs.Marks.{is_marked};
-ghost use Rattle.store_compact.specs.Copied.{added, objects_in, pair_of, placed_of, unless_known};
+ghost use Rattle.store_compact.specs.Copied.{added, kept_unless, listed, objects_in, pair_of, placed_of, unless_known, value_address};
 
-use crate::values::address_of_value;
 use address_keys::AddressKey;
 use branch_address::Address;
 use branch_wire::{VERSION, put_u32};
 use indexmap::IndexSet;
 use mrdt_model::{Memory, Mrdt};
-use recorded_history::Recorded;
+use recorded_history::{Recorded, address_of_value};
 use std::alloc::Global;
 
 const LETTERS: &[u8] = b"MRDTOBJS";
@@ -63,7 +62,26 @@ fn copy_value(
     Ok(())
 }
 
-// Copies both objects of a commit, that of its value if its address is not known yet, and notes where it stands.
+// The same of the object of a value that the layout keeps, with its address. Without one there is none.
+fn copy_kept(
+    value: &[u8],
+    address: Option<[u8; 32]>,
+    known: &mut IndexSet<AddressKey>,
+    text: &mut Vec<u8>,
+) -> Result<(), Memory>
+    ensures known { OnOk result (known.new.keys
+        ≡ known.old.keys ++ fresh known.old.keys (listed address)) }
+    ensures copied { OnOk result (text.new.items
+        ≡ text.old.items ++ concat (kept_unless known.old.keys address value.now)) }
+{
+    match address {
+        Some(address) => copy_value(value, AddressKey::new(address), known, text),
+        None => Ok(()),
+    }
+}
+
+// Copies the objects of a commit, that of its value, where it has one, if its address is not known yet, and notes where
+// it stands.
 fn copy_commit<T: Mrdt, A: Address>(
     recorded: &Recorded<T, A>,
     number: u32,
@@ -79,7 +97,7 @@ fn copy_commit<T: Mrdt, A: Address>(
         let pairs = pairs_of fixed
         (store_of recorded.now.terms.origin recorded.now.written).commits in
         OnOk result (known.new.keys ≡ known.old.keys
-        ++ fresh known.old.keys (A.address (value_text pairs number) ∷ [])) }
+        ++ fresh known.old.keys (listed (value_address A.address (value_text pairs number)))) }
     ensures copied { let fixed = fix T.meaning recorded.now.terms A.address in
         let pairs = pairs_of fixed
         (store_of recorded.now.terms.origin recorded.now.written).commits in
@@ -102,8 +120,7 @@ fn copy_commit<T: Mrdt, A: Address>(
     let Ok(its_value) = address_of_value(commit) else {
         unreachable!()
     };
-    let key = AddressKey::new(its_value);
-    copy_value(value, key, known, &mut copies.text)?;
+    copy_kept(value, its_value, known, &mut copies.text)?;
     copies.text.extend_from_slice(commit)?;
     let end = copies.text.len() as u64;
     copies.placed.push(Placed { address, end })?;

@@ -25,8 +25,8 @@ pub struct CompactFiles {
 }
 
 /// The files of the compact history of a recorded one, with no move pending. No value is worked out again: the objects
-/// of the live commits are copied, each once. It takes time with the bytes of these objects, and with the moves and
-/// the parents of the commits.
+/// of the live commits, which are their own alone in the layout that keeps no values, are copied, each once. It takes
+/// time with the bytes of these objects, and with the moves and the parents of the commits.
 pub fn compact_files<T: Mrdt, A: Address>(
     alloc: Global,
     recorded: Recorded<T, A>,

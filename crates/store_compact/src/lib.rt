@@ -11,7 +11,6 @@ mod copying;
 mod files;
 mod spelling;
 mod switching;
-mod values;
 mod writing;
 
 pub use answers::{CompactRefused, Compacted, Which};

@@ -164,7 +164,8 @@ impl<T: Mrdt, D: Disk + Drop, A: Address> Core<T, D, A> {
     }
 
     /// Lands jobs together, as `land_all` does. Where the address of a new value's object was worked out before, it only
-    /// copies the value, and hashes nothing but the new commit's own bytes.
+    /// copies the value, and hashes nothing but the new commit's own bytes. In the layout that keeps no values it does not
+    /// copy the value either.
     pub fn land_all_addressed(
         &mut self,
         jobs: Vec<Addressed<T, A>>,

@@ -4,6 +4,7 @@ ghost use Rattle.std.specs.Option.{ForSome};
 ghost use Rattle.branch_io.specs.Causes.{HasCauseOf};
 ghost use Rattle.branch_disk.specs.Disk.{Files, bytes_of, LeavesOnly};
 ghost use Rattle.branch_wire.specs.StoredObjects.{Begins};
+ghost use Rattle.branch_names.specs.declared.layout.Layout.TheVariants.{Whole};
 ghost use Rattle.branch_names.specs.declared.terms.Terms.{Terms as SpecTerms};
 ghost use Rattle.heads_journal.specs.Heads.{HasHeader, HasNone};
 ghost use Rattle.branch_machine.specs.Fixed.{fix_in};
@@ -19,7 +20,7 @@ use branch_address::Address;
 use branch_disk::{Disk, Part};
 use branch_files::forms::reads_old_as_first_kind;
 use branch_history::Move;
-use branch_names::Terms;
+use branch_names::{Layout, Terms};
 use commit_replay::first_text;
 use commit_replay::laws::{reads_as_none_of_kind, reads_as_store};
 use heads_journal::{ReadAllRefused, read_all};
@@ -115,16 +116,16 @@ fn front_of<D: Disk>(
     Ok(bytes)
 }
 
-// Whether the objects begin with those of a new store of version 1.
+// Whether the objects begin with those of a new store of version 1, which keeps values.
 fn begins_as_old<T: Mrdt, D: Disk, A: Address>(
     alloc: Global,
     disk: &mut D,
 ) -> Result<bool, OldRefused>
     ensures begins { IfOk result (λ begins. IsTrue begins
-        → ForSome (D.contents disk.old) (λ f. (terms : SpecTerms)
+        → ForSome (D.contents disk.old) (λ f. (terms : SpecTerms) → terms.layout ≡ Whole
         → Begins (objects_text (fix_in old_form T.meaning terms A.address) []) f.objects)) }
     ensures other { IfOk result (λ begins. begins ≡ false
-        → ForSome (D.contents disk.old) (λ f. (terms : SpecTerms)
+        → ForSome (D.contents disk.old) (λ f. (terms : SpecTerms) → terms.layout ≡ Whole
         → Begins (objects_text (fix_in old_form T.meaning terms A.address) []) f.objects → ⊥)) }
     ensures same { D.contents disk.new ≡ D.contents disk.old }
     ensures any_moment { let images = D.may_leave disk.old in
@@ -132,7 +133,7 @@ fn begins_as_old<T: Mrdt, D: Disk, A: Address>(
     ensures cause { let before = D.faults disk.old in
         HasCauseOf OldRefused.DiskFault before (D.faults disk.new) result }
 {
-    let Ok(first) = first_text::<T, A>(alloc, OLD) else {
+    let Ok(first) = first_text::<T, A>(alloc, OLD, Layout::Whole) else {
         return Err(OldRefused::Memory);
     };
     match front_of(alloc, disk, Part::Objects, first.len() as u64) {

@@ -48,9 +48,10 @@ pub(crate) fn refused_at(item: u64, refused: recorded_history::ReceiveRefused) -
 }
 
 impl<T: Mrdt, D: Disk + Drop, A: Address> Core<T, D, A> {
-    /// Receives an item of a bundle: the commit of another store that has its two objects. Nothing of the item is
-    /// trusted: the commit is made anew on its parents, which are those here with their addresses, and taken only where
-    /// it has exactly these objects.
+    /// Receives an item of a bundle: the commit of another store that has its two objects, or its own alone in the
+    /// layout that keeps no values, in which that of the value is empty. Nothing of the item is trusted: the commit is
+    /// made anew on its parents, which are those here with their addresses, and taken only where it has exactly these
+    /// objects.
     ///
     /// Where it is here already, that is told without a device call, and nothing has changed. Else it is one move more,
     /// or refused exactly as the machine refuses it, and then nothing has changed: `Failed` before all else; `BadBundle`

@@ -17,7 +17,7 @@ ghost use Rattle.branch_files.specs.Reading.{Opens, ReadsAs};
 ghost use Rattle.machine_answers.specs.Answers.{Takes};
 ghost use Rattle.recorded_history.specs.Items.{lent_item};
 ghost use Rattle.recorded_history.specs.Machine.{addresses_of, commit_of_address};
-ghost use Rattle.store_seen.specs.Groups.{IsGrouped, GroupRefusedAs};
+ghost use Rattle.store_seen.specs.Groups.{IsGrouped, GroupRefusedAs, IsStepOfAll, MergeAllRefusedAs};
 ghost use Rattle.store_seen.specs.Pairs.{paired_at, IsPaired, PairRefusedAs};
 ghost use Rattle.store_seen.specs.Turns.{LookRefusedAs};
 ghost use Rattle.store_core.specs.Answers.{place_answer, drop_answer, turn_of, Leaves};
@@ -47,7 +47,10 @@ use recorded_history::{Addressed, Recorded};
 use std::alloc::Global;
 use std::marker::Model;
 use std::snapshot::Snapshot;
-use store_seen::{Forked, Group, Landed, LookRefused, Pair, PairRefused, Prepared, Seen};
+use store_seen::{
+    Forked, Group, Landed, LookRefused, Pair, PairPrepareRefused, PairRefused, PairStep, Prepared,
+    Seen,
+};
 
 /// A history of accepted moves, kept on a disk. Contracts see a `StoreView`: the history and the terms, whether the
 /// disk has failed, the disk, and the disk as it was when the core was given.
@@ -108,9 +111,10 @@ fn is_empty<D: Disk>(disk: &mut D) -> Result<(), InitRefused>
 }
 
 impl<T: Mrdt, D: Disk + Drop, A: Address> Core<T, D, A> {
-    /// Makes a store of an empty disk, of the kind of values that the terms have. After `Ok` each image that a crash may leave is a store of no moves. Where each
-    /// image was empty, a crash at any moment leaves a disk that is no store, or one of no moves, whatever the answer.
-    /// An `Err` hands the disk back; of a disk that holds bytes only the two lengths were asked for.
+    /// Makes a store of an empty disk, of the kind of values and in the layout that the terms have. After `Ok` each image
+    /// that a crash may leave is a store of no moves. Where each image was empty, a crash at any moment leaves a disk that
+    /// is no store, or one of no moves, whatever the answer. An `Err` hands the disk back; of a disk that holds bytes only
+    /// the two lengths were asked for.
     ///
     /// Of a disk that tells its bytes, the two parts are exactly those of a store of no moves: its first objects, and
     /// the header with a closed gate. After a fault nothing has changed but in those places; after all else, nothing.
@@ -172,8 +176,8 @@ impl<T: Mrdt, D: Disk + Drop, A: Address> Core<T, D, A> {
         })
     }
 
-    /// Opens the store of a kind of values that a disk holds, which a crash may have left. It syncs both parts and reads,
-    /// and writes nothing. `Ok` and each refusal but `DiskFault` and `Memory` come exactly where the files read so for one
+    /// Opens the store of a kind of values that a disk holds, in the layout that its header tells, which a crash may have
+    /// left. It syncs both parts and reads, and writes nothing. `Ok` and each refusal but `DiskFault` and `Memory` come exactly where the files read so for one
     /// that asks for this kind: what it opens is the one answer of the files, and so is why it refuses them. The store of
     /// another kind is `NotAStore`. An `Err` hands the disk back.
     pub fn open(alloc: Global, disk: D, kind: u8) -> Result<Core<T, D, A>, (OpenRefused, D)>
@@ -300,8 +304,8 @@ impl<T: Mrdt, D: Disk + Drop, A: Address> Core<T, D, A> {
         self.recorded.commit_at(address)
     }
 
-    /// The bytes of the two objects of a commit, that of its value and then its own; `None` exactly past the last
-    /// commit. It takes no memory.
+    /// The bytes of the two objects of a commit, that of its value, which is empty in the layout that keeps no values,
+    /// and then its own; `None` exactly past the last commit. It takes no memory.
     pub fn item(&self, commit: u32) -> Option<(&[u8], &[u8])>
         ensures { let fixed = fix T.meaning self.now.terms A.address in
             lent_item result ≡ slice_get (pairs_of fixed
@@ -358,12 +362,15 @@ impl<T: Mrdt, D: Disk + Drop, A: Address> Core<T, D, A> {
     }
 
     /// Pairs a look at this core, taken now or earlier, with the head that a branch has now, also where the disk has
-    /// failed. `UnknownBranch` comes exactly where no branch has the name, or it was dropped.
-    pub fn pair(&self, seen: &Seen<T>, from: &Name) -> Result<Pair<T>, PairRefused>
-        requires history { IsPrefix seen.now.history self.now.history }
-        requires terms { seen.now.terms ≡ self.now.terms }
-        ensures paired { IfOk result (IsPaired T.meaning (held self.now) seen.now from.now) }
-        ensures refused { IfErr result (PairRefusedAs T.meaning (held self.now) from.now) }
+    /// failed. `UnknownBranch` comes exactly where no branch has the name, or it was dropped. Where neither commit reaches
+    /// the other, the pair is handed their base, which is made with the folds that the core keeps. It makes no device
+    /// call.
+    pub fn pair(&mut self, seen: &Seen<T>, from: &Name) -> Result<Pair<T>, PairRefused>
+        requires history { IsPrefix seen.now.history self.old.history }
+        requires terms { seen.now.terms ≡ self.old.terms }
+        ensures paired { IfOk result (IsPaired T.meaning (held self.old) seen.now from.now) }
+        ensures refused { IfErr result (PairRefusedAs T.meaning (held self.old) from.now) }
+        ensures same { self.new ≡ self.old }
     {
         self.recorded.pair(seen, from)
     }
@@ -390,6 +397,18 @@ impl<T: Mrdt, D: Disk + Drop, A: Address> Core<T, D, A> {
         ensures refused { IfErr result (GroupRefusedAs T.meaning (held self.now) from.now) }
     {
         self.recorded.group(seen, from)
+    }
+
+    /// Makes the merge of a group that was grouped at this history ready to land: what the group itself prepares, but with
+    /// the folds that the core keeps. It makes no device call.
+    pub fn prepare_group(&mut self, group: &Group<T>) -> Result<PairStep<T>, PairPrepareRefused>
+        requires history { group.now.history ≡ self.old.history }
+        requires terms { group.now.terms ≡ self.old.terms }
+        ensures step { IfOk result (IsStepOfAll T.meaning group.now) }
+        ensures refused { IfErr result (MergeAllRefusedAs T.meaning group.now) }
+        ensures same { self.new ≡ self.old }
+    {
+        self.recorded.prepare_group(group)
     }
 
     /// Lands what was prepared on a look at this core, now or earlier. It is refused exactly as the machine refuses
@@ -440,7 +459,8 @@ impl<T: Mrdt, D: Disk + Drop, A: Address> Core<T, D, A> {
     }
 
     /// Lands what was prepared, as `land` does. Where the address of the new value's object was worked out before, it only
-    /// copies the value, and hashes nothing but the new commit's own bytes.
+    /// copies the value, and hashes nothing but the new commit's own bytes. In the layout that keeps no values it does not
+    /// copy the value either.
     pub fn land_addressed(
         &mut self,
         prepared: Addressed<T, A>,

@@ -8,6 +8,7 @@ use Rattle.branch_disk.specs.declared.disk.Disk.{Ghosts}
 use Rattle.branch_disk.specs.Moments.{started, goes_on, weakened}
 use Rattle.branch_wire.specs.StoredObjects.{same}
 use Rattle.branch_names.specs.Names.{is_name}
+use Rattle.branch_names.specs.declared.terms.Terms.{Terms}
 use Rattle.branch_history.specs.declared.moves.Move.{Move}
 use Rattle.branch_history.specs.Steps.{Refusal, Refused, Forked, Place, Turn}
 use Rattle.branch_machine.specs.Fixed.{Fixed, fix}
@@ -21,8 +22,9 @@ use Rattle.branch_bundle_laws.specs.Text.{bundle_text, IsBundle}
 use Rattle.branch_bundle_laws.specs.Receiving.{made_by, Receipt, NoBundle, Stopped, NotPlaced, Placed as PlacedAs, addressed, placing}
 use Rattle.branch_bundle_laws.proofs.Folds.{has-items}
 use Rattle.branch_bundle_laws.proofs.Placed.{placed-or}
+use Rattle.branch_bundle.specs.declared.bundle.Bundle.{Bundle}
 use Rattle.branch_bundle.specs.declared.bundle.Item.{Item}
-use Rattle.branch_bundle.specs.Held.{pair_of}
+use Rattle.branch_bundle.specs.Held.{pair_of, IsReadAs}
 use Rattle.recorded_history.specs.Machine.{commit_of_address}
 use Rattle.store_core.specs.Images.{AllStand, WithOrWithout}
 use Rattle.store_core.specs.Views.{StoreView}
@@ -268,9 +270,14 @@ pub err-map : {T E : Type 0} (r : Result T E) (P Q : E → Type 0) → ((e : E) 
 err-map (Ok x) P Q f holds = holds
 err-map (Err e) P Q f holds = f e holds
 
+-- the bytes and the terms are these
+pub read-here : (terms others : Terms) → terms ≡ others → (l bytes : List ℕ) → l ≡ bytes → (b : Bundle) → IsReadAs terms.layout l b → IsReadAs others.layout bytes b
+read-here terms others same l bytes is b read =
+    subst (λ (t : Terms). IsReadAs t.layout bytes b) same (subst (λ (k : List ℕ). IsReadAs terms.layout k b) is read)
+
 -- bytes that are those of a bundle, or of none
 module _ {D S O R Q A : Type 0} (fixed : Fixed S O R Q A) (bytes name : List ℕ) (old new : StoreView (Move O R) D) where
-  module _ (b : Plain) (fits : IsBundle b) (text : bytes ≡ bundle_text b) where
+  module _ (b : Plain) (fits : IsBundle fixed.terms.layout b) (text : bytes ≡ bundle_text fixed.terms.layout b) where
     pub bundle-received : (receipt : Receipt) → IsReceived fixed b name old new receipt → AreReceived fixed bytes name old new receipt
     bundle-received receipt r = record { made = r.made; received = inr (b, fits, text, r.received); now = r.now }
 
@@ -283,7 +290,7 @@ module _ {D S O R Q A : Type 0} (fixed : Fixed S O R Q A) (bytes name : List ℕ
     bundle-moments disk all =
         weakened disk.moment disk.left_since old.disk new.disk (StandsOnTheWay fixed old.history b name) (StandsOnTheirWay fixed old.history bytes name) all (λ c w. inr (b, fits, text, w))
 
-  pub none-received : ((b : Plain) → IsBundle b → ¬ (bytes ≡ bundle_text b)) → new ≡ old → AreNotReceived fixed bytes name old new unreceived.NoBundle
+  pub none-received : ((b : Plain) → IsBundle fixed.terms.layout b → ¬ (bytes ≡ bundle_text fixed.terms.layout b)) → new ≡ old → AreNotReceived fixed bytes name old new unreceived.NoBundle
   none-received none same = inl (
     NoBundle,
     refl,

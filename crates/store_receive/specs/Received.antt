@@ -137,7 +137,8 @@ pub record AreReceived {D S O R Q A : Type 0} (fixed : Fixed S O R Q A) (bytes n
 abbrev pub AreInterrupted : {D S O R Q A : Type 0} → Fixed S O R Q A → List ℕ
     → StoreView (Move O R) D → StoreView (Move O R) D → NotReceived → Type 0
 AreInterrupted fixed bytes old new e = MakesNothing old new e
-    ⊎ ((b : Bundle) × IsBundle b × (bytes ≡ bundle_text b) × IsInterrupted fixed b.items old new e)
+    ⊎ ((b : Bundle) × IsBundle fixed.terms.layout b × (bytes ≡ bundle_text fixed.terms.layout b)
+    × IsInterrupted fixed b.items old new e)
 
 -- why bytes were not received
 abbrev pub AreNotReceived : {D S O R Q A : Type 0} → Fixed S O R Q A → List ℕ → List ℕ
@@ -150,7 +151,8 @@ AreNotReceived fixed bytes name old new e =
 abbrev pub StandsOnTheirWay : {S O R Q A : Type 0} → Fixed S O R Q A → List (Move O R) → List ℕ
     → List ℕ → Files → Type 0
 StandsOnTheirWay fixed moves bytes name c = Stands fixed moves c
-    ⊎ ((b : Bundle) × IsBundle b × (bytes ≡ bundle_text b) × StandsOnTheWay fixed moves b name c)
+    ⊎ ((b : Bundle) × IsBundle fixed.terms.layout b × (bytes ≡ bundle_text fixed.terms.layout b)
+    × StandsOnTheWay fixed moves b name c)
 
 -- all items were taken, of which so many were new
 pub record TakesAll {D S O R Q A : Type 0} (fixed : Fixed S O R Q A) (items : List Pair)

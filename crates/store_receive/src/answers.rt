@@ -18,10 +18,11 @@ pub struct Placed {
 /// Why a bundle was not received. The items before the one that is told stand.
 #[derive(Drop, Error)]
 pub enum NotReceived {
-    /// The bytes are those of no bundle, or behind all its items no commit has the address of its tip.
+    /// The bytes are those of no bundle of the store's layout, or behind all its items no commit has the address of its
+    /// tip.
     #[error("not a bundle")]
     NoBundle,
-    /// The item is not the two objects of a commit that is made of those here.
+    /// The item is not the objects of a commit that is made of those here.
     #[error("item {item} is no commit that may stand here")]
     BadBundle {
         item: u64,

@@ -180,7 +180,8 @@ fn receive_bundle<T: Mrdt, D: Disk + Drop, A: Address>(
 /// which no branch has. Nothing of the bytes is trusted, and no head moves.
 ///
 /// It is refused exactly as the machine refuses an item or the branch, and then the moves of the items before stand;
-/// `NoBundle` comes exactly where the bytes spell none, and where behind all items no commit has the address of the tip.
+/// `NoBundle` comes exactly where the bytes spell none of the store's layout, and where behind all items no commit has
+/// the address of the tip.
 /// At every moment a crash leaves the history with the moves of a first part of the items, or of all and of the branch;
 /// all of them are valid.
 ///
@@ -203,7 +204,8 @@ pub fn receive_bytes<T: Mrdt, D: Disk + Drop, A: Address>(
         (D.faults core.new.disk) result }
 {
     let _moves = core.moves();
-    let read = read_bundle(alloc, &bytes);
+    let layout = core.terms().layout;
+    let read = read_bundle(alloc, layout, &bytes);
     drop(bytes);
     match read {
         Ok(bundle) => receive_bundle(core, bundle, name),

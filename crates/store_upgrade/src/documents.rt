@@ -83,8 +83,8 @@ fn renew_all(
 }
 
 /// Makes of the moves of a store of the first version of the files, with its limits, a store of today's on an empty second
-/// disk. The first disk is synced and read, and nothing is written to it. Says how many moves there are, and hands
-/// the second disk back.
+/// disk, under the same terms: in the layout that keeps values, as each store of the first version does. The first disk is
+/// synced and read, and nothing is written to it. Says how many moves there are, and hands the second disk back.
 ///
 /// The five refusals of reading come exactly where the first disk reads so in the first version; then `NotEmpty`, exactly
 /// where the second has a byte; then `Upgrade`, exactly where the machine refuses the move of that commit for what

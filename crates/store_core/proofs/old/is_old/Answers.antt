@@ -10,14 +10,14 @@ returns-in-Ok-true-clause-old g c =
     let address = g.A.Address.address in
     ok-more _ _ c.begins_as_old.result (λ old begins is f told.
     let has = c.in-Ok-true.ensures.has c.in-Ok-true.field-0-test f told in
-    (c.reads_as_store.ensures old_form has.0 address f has.1).0 (begins is f (c.has_old_header.ensures.same ∙ told) has.0)) c.begins_as_old.ensures.begins
+    (c.reads_as_store.ensures old_form has.0 address f has.1).0 (begins is f (c.has_old_header.ensures.same ∙ told) has.0 (has.1.fits.old refl).2)) c.begins_as_old.ensures.begins
 
 pub returns-in-Ok-true-clause-other : goal.returns-in-Ok-true-clause-other
 returns-in-Ok-true-clause-other g c =
     let address = g.A.Address.address in
     ok-more _ _ c.begins_as_old.result (λ old other is f told.
     let has = c.in-Ok-true.ensures.has c.in-Ok-true.field-0-test f told in
-    (c.reads_as_store.ensures old_form has.0 address f has.1).1 (other is f (c.has_old_header.ensures.same ∙ told) has.0)) c.begins_as_old.ensures.other
+    (c.reads_as_store.ensures old_form has.0 address f has.1).1 (other is f (c.has_old_header.ensures.same ∙ told) has.0 (has.1.fits.old refl).2)) c.begins_as_old.ensures.other
 
 pub returns-in-Ok-false-clause-other : goal.returns-in-Ok-false-clause-other
 returns-in-Ok-false-clause-other g c = λ _ f told.

@@ -19,6 +19,16 @@ use Rattle.store_core.proofs.Opened.{as-many, one-answer, refused-none, refused-
 use Rattle.store_core.proofs.Sure.{both-leave}
 use Rattle.store_core.proofs.reading.read_in.Goals as goal
 
+pub returns-in-Err-DiskFault-clause-any_moment : goal.returns-in-Err-DiskFault-clause-any_moment
+returns-in-Err-DiskFault-clause-any_moment g c =
+    let d = g.D.Disk in let laws = g.met.D.Disk in
+    both-leave d.may_leave d.moment d.left_since laws.counts_now _ _ _ c.read_heads.ensures.any_moment c.read_whole.ensures.any_moment
+
+pub returns-in-Err-Memory-clause-any_moment : goal.returns-in-Err-Memory-clause-any_moment
+returns-in-Err-Memory-clause-any_moment g c =
+    let d = g.D.Disk in let laws = g.met.D.Disk in
+    both-leave d.may_leave d.moment d.left_since laws.counts_now _ _ _ c.read_heads.ensures.any_moment c.read_whole.ensures.any_moment
+
 pub returns-in_err-recorded-clause-any_moment : goal.returns-in_err-recorded-clause-any_moment
 returns-in_err-recorded-clause-any_moment g c =
     let d = g.D.Disk in let laws = g.met.D.Disk in
