@@ -328,7 +328,7 @@ impl<T: Forms, D: Disk + Drop, A: Address> Engine<T, D, A> {
             Ok(group) => group,
             Err(refused) => return replied(put_ungrouped(out, refused)),
         };
-        match group.prepare() {
+        match self.core.prepare_group(&group) {
             Ok(PairStep::Same) => replied(put_same(out)),
             Ok(PairStep::Land(prepared)) => {
                 // The core lands in place where no group shares its nodes.

@@ -2,6 +2,7 @@
 use Rattle.std.specs.Prelude.{◌≡◌, ℕ, List, refl}
 use native.Mathlib.Nat.{le_refl, le_intro}
 use Rattle.atomic_table.specs.Seated.{TableId}
+use Rattle.branch_names.specs.declared.layout.Layout.TheVariants.{Whole}
 use Rattle.branch_names.specs.declared.limits.Limits.{Limits}
 use Rattle.branch_names.specs.declared.terms.Terms.{Terms}
 use Rattle.store_core.specs.Views.{StoreView}
@@ -50,6 +51,7 @@ least_terms = record {
   limits = least_limits;
   origin = 0;
   kind = 0;
+  layout = Whole;
   small = le_intro 1 255 refl;
   in_range = le_intro 1 4294967295 refl;
 }

@@ -65,22 +65,22 @@ returns-in-Err-UnknownBranch g c =
     let found : session_named sessions session ≡ Some seen = sym c.in-Some.ensures.value in
     let there = subst (λ (v : EngineView g.row.T-Op.Denot g.row.T-Reply.Denot g.row.D.Denot). session_named v.sessions session ≡ Some seen) c.self.view_is found in
     let is = full-so values core sessions old c.self.view_is (machine.Look from) (machine.Refused why) refl (rw c.in-Err-UnknownBranch.field-0-is at c.in-Err-UnknownBranch.ensures.refused).1 in
-    stays_so m values (merge_telling values session from) old old c.args.out.now.items c.put_unknown.new.out.items (refusal_text from why ++ line_end) c.put_unknown.result c.replied-in-Err-UnknownBranch.result c.replied-in-Err-UnknownBranch.ensures.ok c.replied-in-Err-UnknownBranch.ensures.err c.requires refl
-    (merge_unknown m values old session seen there from why is) c.put_unknown.ensures.ok c.put_unknown.ensures.err
+    rw (c.pair.ensures.same, c.self.view_is) (stays_so m values (merge_telling values session from) old old c.args.out.now.items c.put_unknown.new.out.items (refusal_text from why ++ line_end) c.put_unknown.result c.replied-in-Err-UnknownBranch.result c.replied-in-Err-UnknownBranch.ensures.ok c.replied-in-Err-UnknownBranch.ensures.err c.requires refl
+    (merge_unknown m values old session seen there from why is) c.put_unknown.ensures.ok c.put_unknown.ensures.err)
 
 pub returns-in-Err-Memory : goal.returns-in-Err-Memory
 returns-in-Err-Memory g c =
     let d = g.D.Disk in let laws = g.met.D.Disk in
     let m = members d.may_leave d.moment d.left_since d.faults laws.only_now in let values = values_of g.T.Mrdt.meaning g.T.Forms.forms g.A.Address.address in
     let core = c.self.inside.core in let sessions = c.self.inside.sessions.entries in let old = c.args.self.now in
-    nothing_done m values (merge_telling values c.args.session.now c.args.from.now) old old c.args.out.now.items _ refl c.requires refl
+    rw (c.pair.ensures.same, c.self.view_is) (nothing_done m values (merge_telling values c.args.session.now c.args.from.now) old old c.args.out.now.items _ refl c.requires refl)
 
 pub returns : goal.returns
 returns g c =
     let d = g.D.Disk in let laws = g.met.D.Disk in
     let m = members d.may_leave d.moment d.left_since d.faults laws.only_now in let values = values_of g.T.Mrdt.meaning g.T.Forms.forms g.A.Address.address in
     let core = c.self.inside.core in let sessions = c.self.inside.sessions.entries in let old = c.args.self.now in
-    nothing_done m values (merge_telling values c.args.session.now c.args.from.now) old old c.args.out.now.items _ refl c.requires refl
+    rw (c.pair.ensures.same, c.self.view_is) (nothing_done m values (merge_telling values c.args.session.now c.args.from.now) old old c.args.out.now.items _ refl c.requires refl)
 
 pub returns-in-Ok-Same : goal.returns-in-Ok-Same
 returns-in-Ok-Same g c =
@@ -89,9 +89,9 @@ returns-in-Ok-Same g c =
     let core = c.self.inside.core in let sessions = c.self.inside.sessions.entries in let old = c.args.self.now in
     let session = c.args.session.now in let from = c.args.from.now in let out = c.args.out.now.items in let seen = c.in-Some.seen.now in
     let worked = ap (λ (v : EngineView g.row.T-Op.Denot g.row.T-Reply.Denot g.row.D.Denot). v.core.failed) c.self.view_is ∙ c.requires in
-    subst (λ (v : EngineView g.row.T-Op.Denot g.row.T-Reply.Denot g.row.D.Denot). DoesSo m values (merge_telling values session from) v v out c.put_same.new.out.items c.replied-in-Ok-Same.result) c.self.view_is
+    rw (c.pair.ensures.same, c.self.view_is) (subst (λ (v : EngineView g.row.T-Op.Denot g.row.T-Reply.Denot g.row.D.Denot). DoesSo m values (merge_telling values session from) v v out c.put_same.new.out.items c.replied-in-Ok-Same.result) c.self.view_is
     (unmoved m values (view_of core sessions) out c.put_same.new.out.items session from seen c.in-Ok.pair c.in-Ok.ensures.paired c.put_same.result c.replied-in-Ok-Same.result c.replied-in-Ok-Same.ensures.ok c.replied-in-Ok-Same.ensures.err machine.Same same_text worked
-    (sym c.in-Some.ensures.value) (rw c.in-Ok-Same.field-0-is at c.in-Ok-Same.ensures.step) refl c.put_same.ensures.ok c.put_same.ensures.err refl)
+    (sym c.in-Some.ensures.value) (rw c.in-Ok-Same.field-0-is at c.in-Ok-Same.ensures.step) refl c.put_same.ensures.ok c.put_same.ensures.err refl))
 
 pub returns-in-Err-ValueTooLarge : goal.returns-in-Err-ValueTooLarge
 returns-in-Err-ValueTooLarge g c =
@@ -100,9 +100,9 @@ returns-in-Err-ValueTooLarge g c =
     let core = c.self.inside.core in let sessions = c.self.inside.sessions.entries in let old = c.args.self.now in
     let session = c.args.session.now in let from = c.args.from.now in let out = c.args.out.now.items in let seen = c.in-Some.seen.now in
     let worked = ap (λ (v : EngineView g.row.T-Op.Denot g.row.T-Reply.Denot g.row.D.Denot). v.core.failed) c.self.view_is ∙ c.requires in
-    subst (λ (v : EngineView g.row.T-Op.Denot g.row.T-Reply.Denot g.row.D.Denot). DoesSo m values (merge_telling values session from) v v out c.put_too_large.new.out.items c.replied-in-Err-ValueTooLarge.result) c.self.view_is
+    rw (c.pair.ensures.same, c.self.view_is) (subst (λ (v : EngineView g.row.T-Op.Denot g.row.T-Reply.Denot g.row.D.Denot). DoesSo m values (merge_telling values session from) v v out c.put_too_large.new.out.items c.replied-in-Err-ValueTooLarge.result) c.self.view_is
     (unmoved m values (view_of core sessions) out c.put_too_large.new.out.items session from seen c.in-Ok.pair c.in-Ok.ensures.paired c.put_too_large.result c.replied-in-Err-ValueTooLarge.result c.replied-in-Err-ValueTooLarge.ensures.ok c.replied-in-Err-ValueTooLarge.ensures.err (machine.Refused (machine.ValueTooLarge c.in-Err-ValueTooLarge.length)) (refusal_text [] (machine.ValueTooLarge c.in-Err-ValueTooLarge.length)) worked
-    (sym c.in-Some.ensures.value) (rw c.in-Err-ValueTooLarge.field-0-is at c.in-Err-ValueTooLarge.ensures.refused) refl c.put_too_large.ensures.ok c.put_too_large.ensures.err refl)
+    (sym c.in-Some.ensures.value) (rw c.in-Err-ValueTooLarge.field-0-is at c.in-Err-ValueTooLarge.ensures.refused) refl c.put_too_large.ensures.ok c.put_too_large.ensures.err refl))
 
 pub move_on-requires-clause-history : goal.move_on-requires-clause-history
 move_on-requires-clause-history g c = λ _ _.
@@ -110,15 +110,14 @@ move_on-requires-clause-history g c = λ _ _.
     let core = c.self.inside.core in let seen = c.in-Some.seen.now in let made = c.in-Ok-Land.prepared in
     let does = rw c.in-Ok-Land.field-0-is at c.in-Ok-Land.ensures.step in
     let at : made.seen.history ≡ core.history = ap (λ (s : Seen g.row.T-Op.Denot g.row.T-Reply.Denot). s.history) does.0 ∙ pair-history values (held core) seen c.args.from.now c.in-Ok.pair c.in-Ok.ensures.paired in
-    subst (λ (v : EngineView g.row.T-Op.Denot g.row.T-Reply.Denot g.row.D.Denot). IsPrefix made.seen.history v.core.history) c.self.view_is (subst (λ h. IsPrefix h core.history) (sym at) (prefix-self core.history))
+    rw c.pair.ensures.same (subst (λ h. IsPrefix h core.history) (sym at) (prefix-self core.history))
 
 pub move_on-requires-clause-terms : goal.move_on-requires-clause-terms
 move_on-requires-clause-terms g c = λ _ _.
     let values = values_of g.T.Mrdt.meaning g.T.Forms.forms g.A.Address.address in
     let core = c.self.inside.core in let seen = c.in-Some.seen.now in let made = c.in-Ok-Land.prepared in
     let does = rw c.in-Ok-Land.field-0-is at c.in-Ok-Land.ensures.step in
-    subst (λ (v : EngineView g.row.T-Op.Denot g.row.T-Reply.Denot g.row.D.Denot). made.seen.terms ≡ v.core.terms) c.self.view_is
-    (ap (λ (s : Seen g.row.T-Op.Denot g.row.T-Reply.Denot). s.terms) does.0 ∙ pair-terms values (held core) seen c.args.from.now c.in-Ok.pair c.in-Ok.ensures.paired)
+    rw c.pair.ensures.same (ap (λ (s : Seen g.row.T-Op.Denot g.row.T-Reply.Denot). s.terms) does.0 ∙ pair-terms values (held core) seen c.args.from.now c.in-Ok.pair c.in-Ok.ensures.paired)
 
 pub move_on-requires-clause-branch : goal.move_on-requires-clause-branch
 move_on-requires-clause-branch g c = λ _ _.
@@ -132,7 +131,7 @@ move_on-requires-clause-within g c = λ _ _.
     let core = c.self.inside.core in let seen = c.in-Some.seen.now in
     let look = c.self.invariant c.args.session.now seen (sym c.in-Some.ensures.value) in
     let here = branch-stays core.terms.origin seen.history core.history seen.branch look.0 (subst (λ (l : Terms). seen.branch < length (store_of l.origin seen.history).branches) look.1 c.branch-branch.ensures.within) in
-    rw c.branch-branch.ensures.branch (subst (λ (v : EngineView g.row.T-Op.Denot g.row.T-Reply.Denot g.row.D.Denot). seen.branch < length (store_of v.core.terms.origin v.core.history).branches) c.self.view_is here)
+    rw (c.branch-branch.ensures.branch, c.pair.ensures.same) here
 
 pub returns-in-Ok-Land : goal.returns-in-Ok-Land
 returns-in-Ok-Land g c =
@@ -150,4 +149,19 @@ returns-in-Ok-Land g c =
     let step : machine.Step g.row.T-Op.Denot g.row.T-Query.Denot = merge_of seen.branch seen.head pair.other in
     does_as m values (merge_telling values session from) (turn_telling values false session seen.branch step) old new out out' (merge_as m values old session seen there from paired.source pair.other looks) result
     (subst (λ b. DoesSo m values (turn_telling values false session b step) old new out out' result) c.branch-branch.ensures.branch
-    (subst (λ s. DoesSo m values (turn_telling values false session c.branch-branch.result s) old new out out' result) work c.move_on.ensures))
+    (subst (λ s. DoesSo m values (turn_telling values false session c.branch-branch.result s) old new out out' result) work (rw (c.pair.ensures.same, c.self.view_is) at c.move_on.ensures)))
+
+pub invariant_of-self : goal.invariant_of-self
+invariant_of-self g c = rw c.pair.ensures.same c.self.invariant
+
+pub invariant_of-self-in-Ok-Same : goal.invariant_of-self-in-Ok-Same
+invariant_of-self-in-Ok-Same g c = rw c.pair.ensures.same c.self.invariant
+
+pub invariant_of-self-in-Ok-Land : goal.invariant_of-self-in-Ok-Land
+invariant_of-self-in-Ok-Land g c = rw c.pair.ensures.same c.self.invariant
+
+pub invariant_of-self-in-Err-ValueTooLarge : goal.invariant_of-self-in-Err-ValueTooLarge
+invariant_of-self-in-Err-ValueTooLarge g c = rw c.pair.ensures.same c.self.invariant
+
+pub invariant_of-self-in-Err-Memory-prepare : goal.invariant_of-self-in-Err-Memory-prepare
+invariant_of-self-in-Err-Memory-prepare g c = rw c.pair.ensures.same c.self.invariant
