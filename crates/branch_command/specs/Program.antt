@@ -44,7 +44,7 @@ init_names = codes "max-clock" ∷ codes "max-commits" ∷ codes "max-branches" 
 
 -- and all its options
 abbrev pub init_rules : List Rule
-init_rules = map limit_rule init_names ++ flag_rule (codes "sequences") ∷ []
+init_rules = map limit_rule init_names ++ flag_rule (codes "sequences") ∷ flag_rule (codes "changes") ∷ []
 
 -- the words of `send`
 abbrev pub send_rules : List Rule
@@ -65,8 +65,8 @@ bare_program = record {
   subs = [];
 }
 
--- with the commands on one store: `init [--max-clock N] .. [--sequences]`, `script`, `check`, `generate STEPS NUMBER`,
--- `clients COUNT STEPS NUMBER`, `upgrade` and `compact`
+-- with the commands on one store: `init [--max-clock N] .. [--sequences] [--changes]`, `script`, `check`,
+-- `generate STEPS NUMBER`, `clients COUNT STEPS NUMBER`, `upgrade` and `compact`
 abbrev pub store_program : App
 store_program = record {
   top = record bare_program.top { is_leaf = false };

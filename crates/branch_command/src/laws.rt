@@ -14,7 +14,7 @@ pub fn words()
     ensures script { command_of (codes "script" ∷ []) ≡ Some Script }
     ensures check { command_of (codes "check" ∷ []) ≡ Some Check }
     ensures init { command_of (codes "init" ∷ [])
-        ≡ Some (Init (record { limits = usual; origin = 0; sequences = false })) }
+        ≡ Some (Init (record { limits = usual; origin = 0; sequences = false; changes = false })) }
     ensures help { command_of (codes "help" ∷ []) ≡ Some Help }
     ensures help_flag { command_of (codes "--help" ∷ []) ≡ Some Help }
     ensures version { command_of (codes "--version" ∷ []) ≡ Some Help }
@@ -26,6 +26,7 @@ pub fn words()
           limits = record usual { clock = 70; value = 5 };
           origin = 0;
           sequences = false;
+          changes = false;
         })) }
     ensures sign { command_of (codes "init" ∷ codes "--max-clock" ∷ codes "+5" ∷ []) ≡ None }
     ensures leading_zero { command_of (codes "init" ∷ codes "--max-clock" ∷ codes "05" ∷ [])
@@ -71,22 +72,24 @@ pub fn words()
           limits = record usual { branches = 100 };
           origin = 100;
           sequences = false;
+          changes = false;
         })) }
     ensures greatest_origin { command_of
         (codes "init" ∷ codes "--origin" ∷ codes "4294901760" ∷ [])
-        ≡ Some (Init (record { limits = usual; origin = 4294901760; sequences = false })) }
+        ≡ Some (Init (record { limits = usual; origin = 4294901760; sequences = false; changes = false })) }
     ensures high_origin { command_of (codes "init" ∷ codes "--origin" ∷ codes "4294901761" ∷ [])
         ≡ None }
     ensures great_origin { command_of (codes "init" ∷ codes "--origin" ∷ codes "4294967296" ∷ [])
         ≡ None }
     ensures sequences { command_of (codes "init" ∷ codes "--sequences" ∷ [])
-        ≡ Some (Init (record { limits = usual; origin = 0; sequences = true })) }
+        ≡ Some (Init (record { limits = usual; origin = 0; sequences = true; changes = false })) }
     ensures sequences_between { command_of (codes "init" ∷ codes "--max-branches" ∷ codes "100"
         ∷ codes "--sequences" ∷ codes "--origin" ∷ codes "7" ∷ [])
         ≡ Some (Init (record {
           limits = record usual { branches = 100 };
           origin = 7;
           sequences = true;
+          changes = false;
         })) }
     ensures sequences_twice { command_of
         (codes "init" ∷ codes "--sequences" ∷ codes "--sequences" ∷ []) ≡ None }
@@ -94,6 +97,22 @@ pub fn words()
         ≡ None }
     ensures sequences_value { command_of (codes "init" ∷ codes "--sequences=true" ∷ []) ≡ None }
     ensures sequences_no_option { command_of (codes "script" ∷ codes "--sequences" ∷ []) ≡ None }
+    ensures changes { command_of (codes "init" ∷ codes "--changes" ∷ [])
+        ≡ Some (Init (record { limits = usual; origin = 0; sequences = false; changes = true })) }
+    ensures changes_between { command_of (codes "init" ∷ codes "--changes" ∷ codes "--max-branches"
+        ∷ codes "100" ∷ codes "--sequences" ∷ codes "--origin" ∷ codes "7" ∷ [])
+        ≡ Some (Init (record {
+          limits = record usual { branches = 100 };
+          origin = 7;
+          sequences = true;
+          changes = true;
+        })) }
+    ensures changes_twice { command_of
+        (codes "init" ∷ codes "--changes" ∷ codes "--changes" ∷ []) ≡ None }
+    ensures changes_word { command_of (codes "init" ∷ codes "--changes" ∷ codes "true" ∷ [])
+        ≡ None }
+    ensures changes_value { command_of (codes "init" ∷ codes "--changes=true" ∷ []) ≡ None }
+    ensures changes_no_option { command_of (codes "script" ∷ codes "--changes" ∷ []) ≡ None }
     ensures origin_zeros { command_of (codes "init" ∷ codes "--origin" ∷ codes "00" ∷ []) ≡ None }
     ensures address { command_of (codes "address" ∷ codes "main" ∷ [])
         ≡ Some (Address (codes "main")) }
@@ -125,48 +144,56 @@ pub fn words()
 {}
 
 /// Each option sets its own number and no other, to what its word says; an option that is given twice says nothing. The
-/// flag for sequences sets no number.
+/// flags for sequences and for changes set no number.
 pub fn options()
     ensures clock { (word : Text) → command_of (init_with ((codes "max-clock", word) ∷ []))
         ≡ option_map (λ n.
-        Init (record { limits = record usual { clock = n }; origin = 0; sequences = false }))
+        Init (record { limits = record usual { clock = n }; origin = 0; sequences = false; changes = false }))
         (number_of 18446744073709551615 word) }
     ensures commits { (word : Text) → command_of (init_with ((codes "max-commits", word) ∷ []))
         ≡ option_map (λ n.
-        Init (record { limits = record usual { commits = n }; origin = 0; sequences = false }))
+        Init (record { limits = record usual { commits = n }; origin = 0; sequences = false; changes = false }))
         (number_of 4294967295 word) }
     ensures branches { (word : Text) → command_of (init_with ((codes "max-branches", word) ∷ []))
         ≡ option_map (λ n. Init (record {
           limits = record usual { branches = n };
           origin = 0;
           sequences = false;
+          changes = false;
         }))
         (number_of 4294967295 word) }
     ensures value { (word : Text) → command_of (init_with ((codes "max-value", word) ∷ []))
         ≡ option_map (λ n.
-        Init (record { limits = record usual { value = n }; origin = 0; sequences = false }))
+        Init (record { limits = record usual { value = n }; origin = 0; sequences = false; changes = false }))
         (number_of 1073741824 word) }
     ensures moves { (word : Text) → command_of (init_with ((codes "max-moves", word) ∷ []))
         ≡ option_map (λ n.
-        Init (record { limits = record usual { moves = n }; origin = 0; sequences = false }))
+        Init (record { limits = record usual { moves = n }; origin = 0; sequences = false; changes = false }))
         (number_of 281474976710656 word) }
     ensures twice { (a b : Text)
         → command_of (init_with ((codes "max-clock", a) ∷ (codes "max-clock", b) ∷ [])) ≡ None }
     ensures origin { (word : Text) → command_of (init_with ((codes "origin", word) ∷ []))
-        ≡ option_map Init (terms_with (Some usual) (whole_number_of 4294967295 word) false) }
+        ≡ option_map Init (terms_with (Some usual) (whole_number_of 4294967295 word) false false) }
     ensures all { (a b c d e f : Text) → command_of (init_with
         ((codes "origin", f) ∷ (codes "max-moves", e) ∷ (codes "max-value", d)
         ∷ (codes "max-branches", c) ∷ (codes "max-commits", b) ∷ (codes "max-clock", a) ∷ []))
         ≡ option_map Init (terms_with (all_five (number_of 18446744073709551615 a)
         (number_of 4294967295 b) (number_of 4294967295 c) (number_of 1073741824 d)
-        (number_of 281474976710656 e)) (whole_number_of 4294967295 f) false) }
+        (number_of 281474976710656 e)) (whole_number_of 4294967295 f) false false) }
     ensures sequences { (a b c d e f : Text) → command_of (init_with
         ((codes "origin", f) ∷ (codes "max-moves", e) ∷ (codes "max-value", d) ∷ [])
         ++ codes "--sequences" ∷ options_words
         ((codes "max-branches", c) ∷ (codes "max-commits", b) ∷ (codes "max-clock", a) ∷ []))
         ≡ option_map Init (terms_with (all_five (number_of 18446744073709551615 a)
         (number_of 4294967295 b) (number_of 4294967295 c) (number_of 1073741824 d)
-        (number_of 281474976710656 e)) (whole_number_of 4294967295 f) true) }
+        (number_of 281474976710656 e)) (whole_number_of 4294967295 f) true false) }
+    ensures changes { (a b c d e f : Text) → command_of (init_with
+        ((codes "origin", f) ∷ (codes "max-moves", e) ∷ (codes "max-value", d) ∷ [])
+        ++ codes "--changes" ∷ options_words
+        ((codes "max-branches", c) ∷ (codes "max-commits", b) ∷ (codes "max-clock", a) ∷ []))
+        ≡ option_map Init (terms_with (all_five (number_of 18446744073709551615 a)
+        (number_of 4294967295 b) (number_of 4294967295 c) (number_of 1073741824 d)
+        (number_of 281474976710656 e)) (whole_number_of 4294967295 f) false true) }
 {}
 
 /// The words behind `--` are a branch and addresses, or a name.

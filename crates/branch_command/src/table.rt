@@ -123,6 +123,11 @@ fn init<'a>(alloc: Global) -> Result<Command<'a>, AllocError>
         "sequences",
         "Make a store of documents that have sequences besides the other kinds of values",
     );
+    let changes = flag(
+        alloc,
+        "changes",
+        "Store what each commit changes alone, without its value",
+    );
     Command::new(alloc, "init")
         .about("Make a store")
         .arg(clock)?
@@ -132,6 +137,7 @@ fn init<'a>(alloc: Global) -> Result<Command<'a>, AllocError>
         .arg(moves)?
         .arg(origin)?
         .arg(sequences)?
+        .arg(changes)?
         .arg(version(alloc))
 }
 

@@ -2,11 +2,11 @@
 ghost use Rattle.std.specs.Prelude.{◌≡◌, codes, Some, IfSome, IfNone, None};
 ghost use Rattle.clap.specs.Words.{found_of};
 ghost use Rattle.clap.specs.Walk.{first_of, rows_of};
-ghost use Rattle.branch_command.specs.Terms.{TermNumbers, origin_or, is_given, kind_number, terms_of, AreTerms};
+ghost use Rattle.branch_command.specs.Terms.{TermNumbers, origin_or, is_given, kind_number, layout_said, terms_of, AreTerms};
 
 use crate::limits::read_limits;
 use crate::work::read_whole_number;
-use branch_names::Terms;
+use branch_names::{Layout, Terms};
 use clap::ArgMatches;
 
 // The kind of documents without sequences.
@@ -47,6 +47,18 @@ fn read_kind(given: &ArgMatches<'_>) -> u8
     }
 }
 
+// The layout of the objects: of changes alone where the flag for that was given.
+fn read_layout(given: &ArgMatches<'_>) -> Layout
+    ensures { result
+        ≡ layout_said (is_given (first_of (codes "changes") (rows_of (found_of given.now)))) }
+{
+    if is_given(given, "changes") {
+        Layout::Changes
+    } else {
+        Layout::Whole
+    }
+}
+
 /// The terms that the options say; `None` where the word of one is no number in its range, or where the origin of a
 /// branch that there may be would be out of range.
 pub(crate) fn read_terms(given: &ArgMatches<'_>) -> Option<Terms>
@@ -56,5 +68,5 @@ pub(crate) fn read_terms(given: &ArgMatches<'_>) -> Option<Terms>
 {
     let limits = read_limits(given)?;
     let origin = read_origin(given)?;
-    Terms::new(limits, origin, read_kind(given))
+    Terms::new(limits, origin, read_kind(given), read_layout(given))
 }

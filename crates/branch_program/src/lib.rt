@@ -1,17 +1,18 @@
 //! The program over standard streams: its words, and the run that they say over a disk.
 #![tactic(auto)]
 
-use branch_address::Sha256Address;
+use branch_address::{Address, Sha256Address};
 use branch_disk::Disk;
-use branch_io::{ReadSource, WriteSink};
-use branch_shell::{Status, run};
-use std::alloc::AllocError;
+use branch_io::{ReadSource, Sink, Source, WriteSink};
+use branch_shell::{Status, read_clients, run_alone, run_clients};
+use mrdt_model::Memory;
+use std::alloc::{AllocError, Global};
 use std::io::Input;
 use std::process::ExitCode;
-use std::rt::Env;
+use std::rt::{Env, Files};
 use std::sync::Wait;
 use std::thread::Threads;
-use std::{env, io};
+use std::{env, fs, io};
 
 /// The words of the command line.
 #[derive(Drop)]
@@ -66,16 +67,59 @@ pub fn read_words<R: Env + AllocGlobal>(rt: &R) -> Result<Words, ExitCode> {
     }
 }
 
-/// Runs the command over both disks. It reads standard input, writes to standard output and nothing else, and tells how the
-/// program ends: by the number of its status.
+/// Runs the command that the words say, over a source, a sink and both disks, and hands the disks back. `clients` alone
+/// gets the handle to start threads and to wait with: every other command is run by a call that takes none, and so returns
+/// whatever call fails.
+pub fn run_words<S, K, D, A, R>(
+    rt: &R,
+    alloc: Global,
+    words: &[String],
+    source: &mut S,
+    sink: &mut K,
+    disk: D,
+    second: D,
+) -> (Status, D, D)
+where
+    S: Source,
+    K: Sink,
+    D: Disk + Drop + Send,
+    A: Address + Send,
+    R: Threads + Wait + Sync,
+{
+    match read_clients(alloc, words) {
+        Ok(Some(work)) => run_clients::<K, D, A, R>(rt, alloc, work, sink, disk, second),
+        Ok(None) => run_alone::<S, K, D, A>(alloc, words, source, sink, disk, second),
+        Err(Memory) => (Status::Memory, disk, second),
+    }
+}
+
+// The null device, opened for reading.
+fn null_device<R: Files>(rt: &R) -> io::Result<R::File> {
+    fs::open(rt, "/dev/null")
+}
+
+// The null device three times. The system gives a file that is opened the lowest descriptor that is free: so, while these
+// are open, no other file gets that of a standard stream which was closed. Such an input has no byte, and such an output
+// takes none.
+fn fill_streams<R: Files>(rt: &R) -> io::Result<(R::File, R::File, R::File)> {
+    Ok((null_device(rt)?, null_device(rt)?, null_device(rt)?))
+}
+
+/// Runs the command over both disks, of which no file is open yet. It reads standard input, writes to standard output and
+/// nothing else, and tells how the program ends: by the number of its status. Before any file of a store is opened it
+/// makes sure that none can take the place of a standard stream that is closed, and where it cannot, it ends as where the
+/// disk fails.
 pub fn run_command<D, R>(rt: &R, command: &[String], disk: D, second: D) -> ExitCode
 where
     D: Disk + Drop + Send,
-    R: AllocGlobal + Input + Print + Threads + Wait + Sync,
+    R: AllocGlobal + Files + Input + Print + Threads + Wait + Sync,
 {
+    let Ok(_held) = fill_streams(rt) else {
+        return ExitCode::from(Status::DiskFault.number());
+    };
     let mut source = ReadSource::new(rt.reader());
     let mut sink = WriteSink::new(io::writer(rt));
-    let (status, _disk, _second) = run::<_, _, _, Sha256Address, _>(
+    let (status, _disk, _second) = run_words::<_, _, _, Sha256Address, _>(
         rt,
         rt.alloc(),
         command,

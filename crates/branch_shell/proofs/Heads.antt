@@ -1,7 +1,8 @@
 -- The head of the branch of a name, and what is told of it.
-use Rattle.std.proofs.Common.{◌≡◌, ℕ, ◌<◌, zero, suc, List, [], ◌∷◌, map, refl, ap, sym, ◌∙◌, subst, Option, Some, None}
+use Rattle.std.proofs.Common.{◌≡◌, ℕ, ◌<◌, zero, suc, List, [], ◌∷◌, map, refl, ap, ap₂, sym, ◌∙◌, subst, Option, Some, None}
 use Rattle.std.specs.Prelude.{slice_get, Result, Ok, Err, OnOk}
 use Rattle.mrdt_model.specs.Laws.{Meaning}
+use Rattle.branch_names.specs.declared.layout.Layout.{Layout}
 use Rattle.branch_names.specs.declared.terms.Terms.{Terms}
 use Rattle.branch_names.specs.Heads.{branch_named, head_of}
 use Rattle.branch_history.specs.declared.moves.Move.{Move}
@@ -72,9 +73,10 @@ pub address-is : {S O R Q A : Type 0} (fixed : Fixed S O R Q A) (moves : List (M
     → a ≡ address_at fixed.address (pairs_of fixed (store_after fixed moves).commits) k
 address-is fixed moves k a is = address-got fixed.address (pairs_of fixed (store_after fixed moves).commits) k a is
 
--- the bytes of a bundle that is the one of a commit
-pub bundle-is : {S O R Q A : Type 0} (fixed : Fixed S O R Q A) (moves : List (Move O R)) (tip : ℕ) (here : List (List ℕ)) (b : Bundle) → IsBundleOf fixed moves tip here b → text_of b ≡ bundle_text (bundle_of fixed moves tip here)
-bundle-is fixed moves tip here b is = ap bundle_text is.is
+-- the bytes of a bundle that is the one of a commit, in the version of a layout
+pub bundle-is : {S O R Q A : Type 0} (fixed : Fixed S O R Q A) (moves : List (Move O R)) (tip : ℕ) (here : List (List ℕ)) (b : Bundle) (layout : Layout) → layout ≡ fixed.terms.layout → IsBundleOf fixed moves tip here b
+    → text_of layout b ≡ bundle_text fixed.terms.layout (bundle_of fixed moves tip here)
+bundle-is fixed moves tip here b layout same is = ap₂ bundle_text same is.is
 
 pub on-ok : {T E : Type 0} (r : Result T E) (P Q : Type 0) → (P → Q) → OnOk r P → OnOk r Q
 on-ok (Ok x) P Q f holds = f holds

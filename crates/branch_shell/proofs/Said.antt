@@ -266,6 +266,3 @@ reads_alone words command none r = (r.0, same_alone words command none r ∙ r.1
 -- what holds of what was read
 pub some_holds : {X : Type 0} (read : Option X) (P : X → Type 0) (x : X) → read ≡ Some x → IfSome read P → P x
 some_holds read P x is holds = subst (λ o. IfSome o P) is holds
-
-pub none_holds : {X : Type 0} (read : Option X) (P : Type 0) → read ≡ None → IfNone read P → P
-none_holds read P is holds = subst (λ o. IfNone o P) is holds

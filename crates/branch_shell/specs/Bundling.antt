@@ -45,12 +45,13 @@ address_said meaning address store commit =
     let commits = (store_of store.terms.origin store.history).commits in
     address_text (address_at address (pairs_of (fixed_for meaning address store) commits) commit)
 
--- the bytes of the bundle of one of its commits, for a store that has the commits with these
--- addresses
+-- the bytes of the bundle of one of its commits, in the version of its layout, for a store that has
+-- the commits with these addresses
 abbrev pub bundle_said : {S O R Q A : Type 0} → Meaning S O R Q A → (List ℕ → List ℕ)
     → List (List ℕ) → Stored O R → ℕ → List ℕ
 bundle_said meaning address here store commit =
-    bundle_text (bundle_of (fixed_for meaning address store) store.history commit here)
+    bundle_text store.terms.layout
+    (bundle_of (fixed_for meaning address store) store.history commit here)
 
 -- the branch of this name has a head, of which the text is told
 pub record TellsHead {O R : Type 0} (store : Stored O R) (branch : List ℕ) (of : ℕ → List ℕ)
@@ -130,8 +131,8 @@ IsRefusal receipt = Unit {0}
 abbrev pub with_moves : {O R : Type 0} → Stored O R → List (Move O R) → Stored O R
 with_moves store made = record { terms = store.terms; history = store.history ++ made }
 
--- Where the bytes are those of the bundle of a commit of a sender, for one that has the commits here
--- with these addresses, and the store holds what was left out, it accepts them.
+-- Where the bytes are those of the bundle of a commit of a sender of the same layout, for one that
+-- has the commits here with these addresses, and the store holds what was left out, it accepts them.
 abbrev pub AcceptsSaid : {S O R Q A : Type 0} → Meaning S O R Q A → (List ℕ → List ℕ) → Stored O R
     → List ℕ → List (Move O R) → Receipt → Type 0
 AcceptsSaid {S} {O} {R} meaning address store bytes made receipt =
@@ -155,13 +156,14 @@ pub record IsAnswered {S O R Q A : Type 0} (meaning : Meaning S O R Q A) (addres
   pub accepts : AcceptsSaid meaning address store bytes made receipt
 
 -- The files read as the store with the moves of a first part of the items of the bundle that the
--- bytes spell, or of all and of the branch, behind which all older commits and branches stand; or as
--- the store.
+-- bytes spell in its layout, or of all and of the branch, behind which all older commits and branches
+-- stand; or as the store.
 abbrev pub ReadsOnTheWay : {S O R Q A : Type 0} → Meaning S O R Q A → (List ℕ → List ℕ)
     → Stored O R → List ℕ → List ℕ → Files → Type 0
 ReadsOnTheWay {S} {O} {R} meaning address store bytes name c =
     ReadsAsStore meaning address store c
-    ⊎ ((bundle : Bundle) × IsBundle bundle × (bytes ≡ bundle_text bundle) × (made : List (Move O R))
+    ⊎ ((bundle : Bundle) × IsBundle store.terms.layout bundle
+    × (bytes ≡ bundle_text store.terms.layout bundle) × (made : List (Move O R))
     × AreFirstMoves (fixed_for meaning address store) store.history bundle name made
     × Keeps (fixed_for meaning address store) store.history name made
     × ReadsAsStore meaning address (with_moves store made) c)

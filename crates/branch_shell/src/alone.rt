@@ -1,7 +1,7 @@
-// The commands that need no threads.
-ghost use Rattle.std.specs.Prelude.{◌≡◌, ◌⊎◌, Some, None, Err, IfOk, map};
+// What the words say: clients, or a command that needs no threads.
+ghost use Rattle.std.specs.Prelude.{◌≡◌, ◌⊎◌, Some, None, Err, IfOk, IfSome, IfNone, map};
 ghost use Rattle.std.specs.String.{string_bytes};
-ghost use Rattle.branch_command.specs.Commands.{Said, Help as SaidHelp, Means};
+ghost use Rattle.branch_command.specs.Commands.{Said, Clients as SaidClients, Help as SaidHelp, Means, command_of};
 ghost use Rattle.branch_shell.specs.Reading.{Exchanges};
 ghost use Rattle.branch_shell.specs.Counts.{HaveReason};
 ghost use Rattle.branch_shell.specs.Statuses.{Wrote};
@@ -18,7 +18,43 @@ use branch_address::Address;
 use branch_command::{Command, CommandRefused, read_command};
 use branch_disk::Disk;
 use branch_io::{Sink, Source};
+use client_runs::Work as ClientWork;
+use mrdt_model::Memory;
 use std::alloc::Global;
+
+/// The clients that the words say, if they say some: these are for `run_clients`. All other words are for `run_alone`,
+/// where they say what they say here.
+pub fn read_clients(alloc: Global, words: &[String]) -> Result<Option<ClientWork>, Memory>
+    ensures some { IfOk result (λ clients.
+        IfSome clients (λ work. command_of (map string_bytes words.now)
+        ≡ Some (SaidClients (record {
+          count = work.count;
+          work = record { steps = work.steps; number = work.number };
+        })))) }
+    ensures none { IfOk result (λ clients.
+        IfNone clients (command_alone (map string_bytes words.now)
+        ≡ command_of (map string_bytes words.now))) }
+{
+    match read_command(alloc, words) {
+        Ok(
+            Command::Clients {
+                count,
+                steps,
+                number,
+            },
+        ) => {
+            let work = ClientWork {
+                count,
+                steps,
+                number,
+            };
+            Ok(Some(work))
+        }
+        Ok(_) => Ok(None),
+        Err(CommandRefused::Usage) => Ok(None),
+        Err(CommandRefused::Memory) => Err(Memory),
+    }
+}
 
 // The command that the words say, if it needs no threads.
 fn read_alone(alloc: Global, words: &[String]) -> Result<Command, CommandRefused>
@@ -34,7 +70,9 @@ fn read_alone(alloc: Global, words: &[String]) -> Result<Command, CommandRefused
 }
 
 /// Runs the command that the words say, over the store that the current one of two disks holds, and hands both disks
-/// back. It starts no thread and never waits: `clients` is no command here.
+/// back. It takes nothing to start a thread or to wait with, so it returns if what it is passed does, and all that its
+/// clauses say of the end they say of each end: whatever call fails, this returns behind it. `clients` is no command
+/// here.
 ///
 /// The first disk is current where its heads have at least 65 bytes of which the first is 1, and else the second. Both
 /// are synced before that is looked at. The other one stays as it is then, but for `upgrade` and `compact`.
@@ -42,6 +80,10 @@ fn read_alone(alloc: Global, words: &[String]) -> Result<Command, CommandRefused
 /// A store has documents, or documents with sequences where `init --sequences` made it. Every other command works with
 /// the values that byte 45 of the current disk's heads tells: 1 of documents with sequences, any other of documents. A
 /// line on a sequence of a store that has none is answered so, and lands nothing.
+///
+/// A store keeps the value of each commit beside what the commit does, or where `init --changes` made it what the commits
+/// do alone, as its heads tell. `compact` keeps that, `upgrade` makes a store with values, and a bundle is of its store's
+/// layout: one of the other is refused as no bundle.
 ///
 /// `init` makes a store of the first disk, where neither holds a byte, and writes nothing to the second; `script` opens
 /// the store and runs the lines of the source as steps; `check` opens the store and reports; `generate` opens the store,

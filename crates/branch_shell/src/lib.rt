@@ -1,4 +1,6 @@
-//! The commands of the store, from the words of the command line to a status.
+//! The commands of the store, from the words of the command line to a status. `read_clients` says whether the words say
+//! clients. `run_clients` runs these, and it alone is passed what starts threads and waits for them; `run_alone` runs all
+//! other commands.
 #![tactic(auto)]
 
 mod address;
@@ -16,11 +18,10 @@ mod script;
 mod send;
 pub mod status;
 mod task;
-mod together;
-pub mod top;
+pub mod together;
 mod unopened;
 mod upgrade;
 
-pub use alone::run_alone;
+pub use alone::{read_clients, run_alone};
 pub use status::Status;
-pub use top::run;
+pub use together::run_clients;

@@ -36,7 +36,7 @@ fn put_commits<T: Mrdt, D: Disk + Drop, A: Address>(
     let Ok(bundle) = core.bundle(commit, here) else {
         return Err(Memory);
     };
-    put_bundle(&bundle, out)
+    put_bundle(&bundle, core.terms().layout, out)
 }
 
 // Gives the bundle of a commit.
@@ -85,8 +85,8 @@ fn send_head<T: Mrdt, K: Sink, D: Disk + Drop, A: Address>(
     }
 }
 
-/// Opens the store that the disk holds and gives the bundle of a branch's head, less what a store has that has the
-/// commits with these addresses. It writes nothing to the disk.
+/// Opens the store that the disk holds and gives the bundle of a branch's head, in the version of the store's layout, less
+/// what a store has that has the commits with these addresses. It writes nothing to the disk.
 pub(crate) fn run_send<T: Kinded, U: Mrdt, K: Sink, D: Disk + Drop, A: Address>(
     alloc: Global,
     branch: &Name,

@@ -253,13 +253,26 @@ fn run_values<K: Sink, D: Disk + Drop + Send, A: Address + Send, R: Threads + Wa
     }
 }
 
-/// Runs clients side by side over the store that the current one of two disks holds, and hands both disks back.
-pub(crate) fn run_clients<
-    K: Sink,
-    D: Disk + Drop + Send,
-    A: Address + Send,
-    R: Threads + Wait + Sync,
->(rt: &R, alloc: Global, work: Work, sink: &mut K, first: D, second: D) -> (Status, D, D)
+/// Runs clients side by side over the store that the current one of two disks holds, and hands both disks back. It is the
+/// only call of this crate that takes something to start threads and to wait with: it may wait for a lock or for a
+/// thread, and what its clauses say it owes where it returns.
+///
+/// As `run_alone` does, it chooses the current disk and the values that its store has, and leaves the other one as it
+/// was. It starts up to so many threads. All clients are joined before the store is closed, and before anything is
+/// written: a line of each client, and the report. After `Done` the files read as the store with the history whose report
+/// was written: it begins with the one that was found, each client's moves lie behind that in its own order, and the sum
+/// of the numbers of the lines, with the moves of clients that were refused, is how many moves lie behind the old history.
+/// Whatever the status, the files that are left read as the store with such a history, or with its own where no client
+/// began; after a fault of the disk also with more moves behind it. A fault comes only where the count of faults of that
+/// object rose, and no other count rises.
+pub fn run_clients<K: Sink, D: Disk + Drop + Send, A: Address + Send, R: Threads + Wait + Sync>(
+    rt: &R,
+    alloc: Global,
+    work: Work,
+    sink: &mut K,
+    first: D,
+    second: D,
+) -> (Status, D, D)
     ensures ran { (left : Option (List ℕ)) → Exchanges left left (K.given sink.old)
         (K.given sink.new)
         (RanOverBoth D.Disk A.address

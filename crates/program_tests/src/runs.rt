@@ -2,7 +2,8 @@
 use branch_address::Address;
 use branch_disk::{Disk, MemoryDisk};
 use branch_io::{MemorySink, MemorySource};
-use branch_shell::{Status, run, run_alone};
+use branch_program::run_words;
+use branch_shell::{Status, run_alone};
 use std::alloc::{AllocError, Global};
 use std::process::Abort;
 use std::sync::Wait;
@@ -56,7 +57,7 @@ pub fn ran<A: Address + Send, D: Disk + Drop + Send, R: Threads + Wait + Sync>(
     let words = words_of(alloc, command)?;
     let mut source = MemorySource::new(Vec::new(alloc), 16, Vec::new(alloc));
     let mut sink = MemorySink::new(Vec::new(alloc));
-    let (status, disk, _) = run::<_, _, _, A, R>(
+    let (status, disk, _) = run_words::<_, _, _, A, R>(
         rt,
         alloc,
         &words,

@@ -5,7 +5,7 @@ use crate::step::Run;
 use branch_address::Sha256Address;
 use branch_disk::MemoryDisk;
 use branch_io::{MemorySink, MemorySource};
-use branch_shell::run;
+use branch_program::run_words;
 use std::alloc::Global;
 use std::sync::Wait;
 use std::thread::Threads;
@@ -37,7 +37,7 @@ pub struct Ended {
     pub second: Used,
 }
 
-/// Runs the program.
+/// Runs the program: the call that it makes itself.
 pub(crate) fn run_over<R: Threads + Wait + Sync>(
     rt: &R,
     alloc: Global,
@@ -49,7 +49,7 @@ pub(crate) fn run_over<R: Threads + Wait + Sync>(
     let failing = of.failing.source.as_slice().to_vec(alloc)?;
     let mut source = MemorySource::new(input, PIECE, failing);
     let mut sink = MemorySink::new(of.failing.sink.as_slice().to_vec(alloc)?);
-    let (status, disk, second) = run::<_, _, _, Sha256Address, R>(
+    let (status, disk, second) = run_words::<_, _, _, Sha256Address, R>(
         rt,
         alloc,
         &of.words,
