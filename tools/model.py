@@ -1,7 +1,8 @@
 """A model of the program in Python: what scripts reply and which files they leave.
 
 It stands apart from the program: it has no merges and no bases. Each commit's value is spelled anew from the operations
-that are visible there, by docs/DEFINITIONS.md, and the bytes of the files are those of docs/FORMATS.md.
+that are visible there, by docs/DEFINITIONS.md, and the bytes of the files are those of docs/FORMATS.md, in both layouts.
+Files of stores of changes it reads back too, or says why they are none; of other files it reads the beginning alone.
 """
 import contextlib
 import hashlib
@@ -258,24 +259,24 @@ def value_object(value):
 
 
 def commit_object(parents, origin, clock, value, action):
-    body = u64(len(parents)) + b"".join(parents) + u32(origin) + u64(clock) + value + action
-    return b"\2" + sized(body)
+    """The object of a commit: with the address of its value's object, or without one, in a store of changes."""
+    body = u64(len(parents)) + b"".join(parents) + u32(origin) + u64(clock) + (value or b"") + action
+    return (b"\3" if value is None else b"\2") + sized(body)
 
 
 class Store:
     """A store: its commits, its branches and the bytes of both files. Branch r has the origin that lies r above the first.
-    Its documents have sequences or not."""
+    Its documents have sequences or not. It is a whole store, or one of changes, which keeps the commits' objects alone."""
 
-    def __init__(self, origin=0, sequences=False, **limits):
+    def __init__(self, origin=0, sequences=False, changes=False, **limits):
         self.limits, self.origin, self.version, self.log = {**LIMITS, **limits}, origin, VERSION, []
-        self.sequences = sequences
+        self.sequences, self.changes = sequences, changes
         self.commits, self.branches, self.moves = [], [[b"main", 0]], 0
         self.dropped, self.records = set(), []
         self.stored = {}
         self.objects = b"MRDTOBJS" + u32(VERSION) + bytes(4)
-        self.heads = b"\1MRDTHEAD" + u32(VERSION) + self.limit_bytes() + byte(sequences) + u32(origin) + bytes(14) + b"\0"
-        value = self.put_object(value_object(self.value([])))
-        root = self.put_object(commit_object([], 0, 0, value, b"\0"))
+        self.heads = b"\1MRDTHEAD" + u32(VERSION) + self.limit_bytes() + byte(sequences) + u32(origin) + byte(changes) + bytes(13) + b"\0"
+        root = self.put_object(commit_object([], 0, 0, self.put_value(self.value([])), b"\0"))
         self.commits.append(Commit([], 0, 0, 1, None, self.value([]), root))
 
     def value(self, events):
@@ -298,6 +299,14 @@ class Store:
             self.stored[name] = b
             self.objects += b
         return name
+
+    def put_value(self, value):
+        """Stores the object of a value, and gives its address; a store of changes keeps none."""
+        return None if self.changes else self.put_object(value_object(value))
+
+    def item(self, value, commit):
+        """The objects of a commit that are sent: its value's and its own, or its own alone."""
+        return (commit,) if self.changes else (value_object(value), commit)
 
     def put_record(self, kind, branch, other, rest):
         record = bytes([1, kind]) + u32(branch) + u32(other) + u64(len(self.objects)) + rest.ljust(32, b"\0") + bytes(14)
@@ -322,7 +331,7 @@ class Store:
         number, reach = len(self.commits), 1 << len(self.commits)
         for parent in parents:
             reach |= self.commits[parent].reach
-        stored = self.put_object(value_object(value))
+        stored = self.put_value(value)
         above = [self.commits[p].address for p in parents]
         name = self.put_object(commit_object(above, origin, clock, stored, action))
         self.commits.append(Commit(parents, origin, clock, reach, event, value, name))
@@ -441,10 +450,10 @@ class Store:
         self.put_record(8, branch, 0, b"")
         return name
 
-    def holds_objects(self, value, commit):
-        """The first commit with these two objects."""
+    def holds_item(self, item):
+        """The first commit with the objects of an item."""
         for number, of in enumerate(self.commits):
-            if value_object(of.value) == value and self.stored[of.address] == commit:
+            if self.item(of.value, self.stored[of.address]) == item:
                 return number
         return None
 
@@ -455,7 +464,7 @@ class Store:
         for of in self.commits:
             left |= of.reach if of.address in here else 0
         sent = [of for number, of in enumerate(self.commits) if self.commits[tip].reach & ~left & 1 << number]
-        return Bundle(self.commits[tip].address, [(value_object(of.value), self.stored[of.address]) for of in sent])
+        return Bundle(self.commits[tip].address, [self.item(of.value, self.stored[of.address]) for of in sent], self.changes)
 
     def receive(self, text, name):
         """Receives the bytes of a bundle as a new branch, and says what came of it."""
@@ -463,12 +472,12 @@ class Store:
             if branch[0] == name and taken not in self.dropped:
                 raise Refused(f"refused taken {taken}")
         try:
-            bundle = read_bundle(text)
+            bundle = read_bundle(text, self.changes)
         except Malformed:
             raise Refused("refused bundle 0") from None
         count = 0
         for number, item in enumerate(bundle.items, 1):
-            if self.holds_objects(*item) is None:
+            if self.holds_item(item) is None:
                 self.receive_item(number, item)
                 count += 1
         tip = self.at_address(bundle.tip)
@@ -492,7 +501,7 @@ class Store:
     def receive_item(self, number, item):
         """Takes an item as a new commit, if it is what its parents and its operation make of it."""
         try:
-            of = read_commit(item, self.sequences)
+            of = read_commit(item, self.sequences, self.changes)
         except Malformed:
             raise Refused(f"refused bundle {number}") from None
         parents = [self.at_address(parent) for parent in of.parents]
@@ -512,8 +521,8 @@ class Store:
             action = b"\1" + sized(op) + sized(back)
             size = len(op) + len(back)
         value = self.value(events)
-        made = value_object(value)
-        if item != (made, commit_object(of.parents, of.origin, clock, address(made), action)):
+        made = None if self.changes else address(value_object(value))
+        if item != self.item(value, commit_object(of.parents, of.origin, clock, made, action)):
             raise Refused(f"refused bundle {number}")
         self.check_received(number, of.origin, clock, event, size + len(value))
         _, name = self.add_commit(parents, of.origin, clock, event, action, value)
@@ -561,7 +570,7 @@ class Store:
         live = self.live()
         kept = [n for n in range(len(self.commits)) if live >> n & 1]
         new = {n: at for at, n in enumerate(kept)}
-        store = Store(self.origin, self.sequences, **self.limits)
+        store = Store(self.origin, self.sequences, self.changes, **self.limits)
 
         def bits(of):
             return sum(1 << at for at, n in enumerate(kept) if of >> n & 1)
@@ -576,7 +585,7 @@ class Store:
             if kind in (2, 3, 5, 6):
                 if commit not in new:
                     continue
-                store.put_object(value_object(self.commits[commit].value))
+                store.put_value(self.commits[commit].value)
                 assert store.put_object(self.stored[self.commits[commit].address]) == self.commits[commit].address
                 store.commits.append(carried(commit))
                 assert len(store.commits) == new[commit] + 1
@@ -608,13 +617,14 @@ class Store:
 
 
 class Bundle:
-    """What one store sends to another: the address of a commit, and of each commit that is sent its value's object and its own."""
+    """What one store sends to another: the address of a commit, and of each commit that is sent its value's object and its own,
+    or its own alone, between stores of changes."""
 
-    def __init__(self, tip, items):
-        self.tip, self.items = tip, items
+    def __init__(self, tip, items, changes=False):
+        self.tip, self.items, self.changes = tip, items, changes
 
     def bytes(self):
-        return b"MRDTBNDL" + u32(1) + self.tip + u64(len(self.items)) + b"".join(value + commit for value, commit in self.items)
+        return b"MRDTBNDL" + u32(1 + self.changes) + self.tip + u64(len(self.items)) + b"".join(map(b"".join, self.items))
 
 
 class Malformed(Exception):
@@ -625,13 +635,13 @@ class Reader:
     """Takes fields from bytes, one behind another."""
 
     def __init__(self, b):
-        self.rest = b
+        self.rest, self.taken = b, b""
 
     def take(self, count):
         if count > len(self.rest):
             raise Malformed
-        taken, self.rest = self.rest[:count], self.rest[count:]
-        return taken
+        self.taken, self.rest = self.rest[:count], self.rest[count:]
+        return self.taken
 
     def number(self, size=8):
         return int.from_bytes(self.take(size), "big")
@@ -648,16 +658,16 @@ class Reader:
             raise Malformed
 
 
-def read_bundle(b):
+def read_bundle(b, changes=False):
     """The bundle that has these bytes. Its objects are of any kind, and hold anything."""
     of = Reader(b)
-    if of.take(12) != b"MRDTBNDL" + u32(1):
+    if of.take(12) != b"MRDTBNDL" + u32(1 + changes):
         raise Malformed
     tip, count, items = of.take(32), of.number(), []
     while len(items) < count:
-        items.append((of.object(), of.object()))
+        items.append((of.object(),) if changes else (of.object(), of.object()))
     of.end()
-    return Bundle(tip, items)
+    return Bundle(tip, items, changes)
 
 
 class Sent:
@@ -667,19 +677,20 @@ class Sent:
         self.parents, self.origin, self.operation = parents, origin, op
 
 
-def read_commit(item, sequences=False):
-    """What an item says: the object of a value, and that of the commit of an operation or of a merge."""
-    value, commit = item
-    if value[:1] != b"\1" or commit[:1] != b"\2":
+def read_commit(item, sequences=False, changes=False):
+    """What an item says: the object of a value, and that of the commit of an operation or of a merge; or the latter alone."""
+    commit = item[-1]
+    if [of[:1] for of in item] != ([b"\3"] if changes else [b"\1", b"\2"]):
         raise Malformed
     body = Reader(commit[9:])
     count = body.number()
     if count > len(commit):
         raise Malformed
     parents = [body.take(32) for _ in range(count)]
-    origin, _, _, kind = body.number(4), body.number(), body.take(32), body.take(1)
+    origin, _, _, kind = body.number(4), body.number(), body.take(0 if changes else 32), body.take(1)
     if (kind, count) == (b"\1", 1):
-        op, _ = read_operation(body.sized(), sequences), body.sized()
+        op = read_operation(body.sized(), sequences)
+        check_reply(body.sized(), sequences)
     elif kind == b"\2" and 2 <= count <= 9:
         op = None
     else:
@@ -728,6 +739,154 @@ def read_operation(b, sequences=False):
     if verb is None or rest[1:] and not DO[kind][verb]:
         raise Malformed
     return kind, key, verb, rest[1:]
+
+
+def check_reply(b, sequences):
+    """Bytes spell a reply of the document, to whatever operation."""
+    of = Reader(b)
+    if sequences:
+        which = of.number(1)
+        if which == 2:
+            check_place(of)
+            return of.end()
+        if which != 1:
+            raise Malformed
+    depth = 0
+    while depth < 6:
+        which = of.number(1)
+        if which == 1:
+            break
+        if which != 2:
+            raise Malformed
+        depth += 1
+    if KINDS[depth] == "queue" and of.rest:
+        took = of.number(1)
+        if took == 1:
+            of.take(12)
+        elif took or of.rest:
+            raise Malformed
+    elif of.rest:
+        raise Malformed
+
+
+def check_place(of):
+    """The next bytes are a time, or none."""
+    if of.number(1) not in (0, 1):
+        raise Malformed
+    of.take(12 if of.taken == b"\1" else 0)
+
+
+RANGES = {"clock": 2**64 - 1, "commits": 2**32 - 1, "branches": 2**32 - 1, "value": 2**30, "moves": 2**48}
+
+
+def read_files(objects, heads):
+    """The store that files are of. Refuses them with the first rule that they break. Of a whole store it reads no record."""
+    if len(heads) < 65:
+        raise Refused("refused not a store")
+    sizes = [("clock", 8), ("commits", 4), ("branches", 4), ("value", 8), ("moves", 8)]
+    header = Reader(heads[13:64])
+    limits = {name: header.number(size) for name, size in sizes}
+    kind, origin, layout, rest = header.number(1), header.number(4), header.number(1), header.rest
+    fits = heads[:13] == b"\1MRDTHEAD" + u32(2) and all(1 <= limits[name] <= most for name, most in RANGES.items())
+    fits = fits and kind < 2 and origin + limits["branches"] <= 2**32 and layout < 2 and not any(rest)
+    if not fits:
+        raise Refused("refused not a store")
+    store = Store(origin, kind == 1, layout == 1, **limits)
+    if not objects.startswith(store.objects):
+        raise Refused("refused not a store")
+    assert layout == 1 or heads[64:65] != b"\1"
+    while read_record(store, objects, heads):
+        pass
+    return store
+
+
+def read_record(store, objects, heads):
+    """One more move, if there is one."""
+    number, place, before = store.moves + 1, len(store.heads) - 1, len(store.objects)
+    if heads[place:place + 1] != b"\1":
+        return False
+    if len(heads) < place + 65:
+        raise Refused(f"refused truncated heads {place}")
+    of = Reader(heads[place + 1:place + 64])
+    kind, branch, other, end, body = of.number(1), of.number(4), of.number(4), of.number(), of.take(32)
+    if any(of.rest) or not may_come(store, kind, branch, other, end, body):
+        raise Refused(f"refused record {number}")
+    if end > len(objects):
+        raise Refused(f"refused truncated objects {before}")
+    if kind in (2, 3, 5, 6):
+        read_new_commit(store, kind, branch, other, body, objects[before:end])
+        assert store.objects == objects[:end]
+    elif kind == 1:
+        store.branches.append([body.rstrip(b"\0"), store.branches[other][1]])
+        store.put_record(1, branch, other, body.rstrip(b"\0"))
+    elif kind == 4:
+        store.merge(branch, store.branches[branch][1], other)
+    elif kind == 7:
+        store.branches.append([body.rstrip(b"\0"), other])
+        store.put_record(7, branch, other, body.rstrip(b"\0"))
+    else:
+        store.drop(branch, store.branches[branch][1])
+    return True
+
+
+def may_come(store, kind, branch, other, end, body):
+    """Whether a record may come there, by itself."""
+    count, here, room = len(store.commits), len(store.objects), len(store.commits) < store.limits["commits"]
+    if not 1 <= kind <= 8 or store.moves == store.limits["moves"]:
+        return False
+    if kind not in (1, 6, 7) and (branch >= len(store.branches) or branch in store.dropped):
+        return False
+    if kind in (1, 7):
+        name = body.rstrip(b"\0")
+        taken = [name == of[0] for at, of in enumerate(store.branches) if at not in store.dropped]
+        if branch != len(store.branches) or branch == store.limits["branches"] or not NAME.match(name) or any(taken) or end != here:
+            return False
+        return other < count if kind == 7 else other < len(store.branches) and other not in store.dropped
+    if kind == 6:
+        return branch == other == 0 and end > here
+    head = store.branches[branch][1]
+    if kind == 2:
+        return other == 0 and end > here and room and store.commits[head].clock < store.limits["clock"]
+    if kind == 3:
+        return other < count and not store.reaches(head, other) and not store.reaches(other, head) and end > here and room
+    if kind == 4:
+        return other < count and other != head and store.reaches(other, head) and end == here and not any(body)
+    if kind == 8:
+        return branch != 0 and other == 0 and not any(body) and end == here
+    joined = [int.from_bytes(body[at:at + 4], "big") for at in range(0, 32, 4)]
+    if not 2 <= other <= 8 or any(body[4 * other:]) or any(n >= count for n in joined[:other]):
+        return False
+    return store.brought(head, joined[:other]) == joined[:other] and end > here and room
+
+
+def read_new_commit(store, kind, branch, other, body, region):
+    """The commit of a record, made anew from what its object says."""
+    try:
+        of = Reader(region)
+        commit = of.object()
+        of.end()
+        said = read_commit((commit,), store.sequences, True)
+        if kind == 2 and not said.operation or kind in (3, 5) and said.operation:
+            raise Malformed
+    except Malformed:
+        raise Refused(f"refused object {len(store.objects)}") from None
+    wanted, number, before = Refused(f"refused commit {len(store.commits)}"), len(store.commits), store.objects
+    try:
+        if kind == 6:
+            if store.holds_item((commit,)) is not None:
+                raise wanted
+            store.receive_item(1, (commit,))
+        elif kind == 2:
+            store.land(branch, store.branches[branch][1], *said.operation)
+        elif kind == 3:
+            store.merge(branch, store.branches[branch][1], other)
+        else:
+            joined = [int.from_bytes(body[at:at + 4], "big") for at in range(0, 4 * other, 4)]
+            store.join(branch, store.branches[branch][1], joined)
+    except Refused:
+        raise wanted from None
+    if store.objects != before + region or kind != 5 and store.commits[number].address != body:
+        raise wanted
 
 
 NAME = re.compile(rb"[a-z0-9_]{1,32}\Z")
