@@ -1,4 +1,4 @@
-pub mod Rebuilt
+pub mod Places
 pub mod Changed
 pub mod OnKeys
 pub mod Writing
