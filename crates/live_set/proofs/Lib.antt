@@ -10,7 +10,3 @@ pub mod Lengths
 pub mod ShortTexts
 pub mod Unchanged
 pub mod AnyOrder
-pub mod Far
-pub mod Finding
-pub mod Merging
-pub mod Sharing

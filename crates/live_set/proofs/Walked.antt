@@ -16,7 +16,7 @@ use Rattle.live_set.proofs.Rising.{or_else, among-head, all_in-cons, all_in-appe
 abbrev NoneBefore : Time → List Time → Type 0
 NoneBefore t ts = (s : Time) → IsTrue (among ts s) → is_earlier s t ≡ false
 
-abbrev pub NotBefore : Time → Option Time → Type 0
+abbrev NotBefore : Time → Option Time → Type 0
 NotBefore t None = Unit {0}
 NotBefore t (Some s) = is_earlier s t ≡ false
 
@@ -77,7 +77,7 @@ module _ {V : Type 0} where
       at false e = taken_none k ks t rising h e
 
 -- the earliest of several times is before none of them
-pub earliest : (o p : Option Time) (t : Time) → NotBefore t (earlier_of o p) → NotBefore t o × NotBefore t p
+earliest : (o p : Option Time) (t : Time) → NotBefore t (earlier_of o p) → NotBefore t o × NotBefore t p
 earliest None p t h = (tt, h)
 earliest (Some s) None t h = (h, tt)
 earliest (Some s) (Some r) t h = at (is_earlier r s) refl h
@@ -90,7 +90,7 @@ earliest (Some s) (Some r) t h = at (is_earlier r s) refl h
         other true f = subst (λ u. is_earlier u t ≡ false) (sym (same_time-eq r s f)) h
         other false f = not_earlier-trans s r t (earlier-else r s e f) h
 
-pub earliest_is : (o p : Option Time) (t : Time) → earlier_of o p ≡ Some t → (o ≡ Some t) ⊎ (p ≡ Some t)
+earliest_is : (o p : Option Time) (t : Time) → earlier_of o p ≡ Some t → (o ≡ Some t) ⊎ (p ≡ Some t)
 earliest_is None p t h = inr h
 earliest_is (Some s) None t h = inl h
 earliest_is (Some s) (Some r) t h = at (is_earlier r s) h
@@ -99,7 +99,7 @@ earliest_is (Some s) (Some r) t h = at (is_earlier r s) h
     at true e = inr e
     at false e = inl e
 
-pub earliest_none : (o p : Option Time) → earlier_of o p ≡ None → (o ≡ None) × (p ≡ None)
+earliest_none : (o p : Option Time) → earlier_of o p ≡ None → (o ≡ None) × (p ≡ None)
 earliest_none None p h = (refl, h)
 earliest_none (Some s) None h = cc
 earliest_none (Some s) (Some r) h = at (is_earlier r s) h
@@ -203,7 +203,7 @@ module _ {V : Type 0} where
       at u before tb tl tr false e =
           rw (tb.rest u, tl.rest u, tr.rest u, e) (skip (payload_at m u) (staying (payload_at b u) (payload_at l u) (payload_at r u)))
 
-  pub first_none : (ks : List (Kept V)) → first_time ks ≡ None → ks ≡ []
+  first_none : (ks : List (Kept V)) → first_time ks ≡ None → ks ≡ []
   first_none [] h = refl
   first_none (k ∷ ks) h = cc
 
@@ -229,7 +229,7 @@ module _ {V : Type 0} where
     before_right = λ t i s m. cc;
   }
 
-  pub shorter : (ks : List (Kept V)) (t : Time) → length (behind_first ks t) ≤ length ks
+  shorter : (ks : List (Kept V)) (t : Time) → length (behind_first ks t) ≤ length ks
   shorter [] t = omega arith
   shorter (k ∷ ks) t = at (same_time t k.time)
     where
@@ -237,7 +237,7 @@ module _ {V : Type 0} where
       at true = omega arith
       at false = omega arith
 
-  pub shorter_at : (ks : List (Kept V)) (t : Time) → first_time ks ≡ Some t → length (behind_first ks t) < length ks
+  shorter_at : (ks : List (Kept V)) (t : Time) → first_time ks ≡ Some t → length (behind_first ks t) < length ks
   shorter_at [] t h = cc
   shorter_at (k ∷ ks) t h =
       let is : k.time ≡ t = cc in

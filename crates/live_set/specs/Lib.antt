@@ -1,5 +1,4 @@
 pub mod Entries
-pub mod Finding
 pub mod Payloads
 pub mod Spelling
 pub mod Effects

@@ -15,7 +15,7 @@ use mrdt_model::{Memory, Unread};
 use std::alloc::Global;
 
 // Writes a time, and its payload.
-pub(crate) fn put_kept<V: Payload>(kept: &Kept<V>, out: &mut Vec<u8>) -> Result<(), Memory>
+fn put_kept<V: Payload>(kept: &Kept<V>, out: &mut Vec<u8>) -> Result<(), Memory>
     ensures ok { OnOk result (out.new.items ≡ out.old.items ++ kept_spelling V.spelling kept.now) }
     ensures err { OnErr result
         (AppendsPart out.old.items out.new.items (kept_spelling V.spelling kept.now)) }

@@ -2,7 +2,6 @@
 ghost use Rattle.std.specs.Prelude.{◌≡◌, ◌++◌, IfOk, OnOk};
 
 use crate::kept::Kept;
-use crate::shared_live::SharedLive;
 use mrdt_model::{Bytes, Memory, Shared};
 
 /// An equal entry with a text of its own.
@@ -24,22 +23,6 @@ pub fn push_texts(
 {
     for kept in entries {
         list.push(own_copy(kept)?)?;
-    }
-    Ok(())
-}
-
-/// Puts equal entries, with texts of their own, behind those of a list.
-#[tactic(auto, using(crate::proofs::Sharing::first_is, crate::proofs::Sharing::first_not, crate::proofs::Sharing::walk_shorter))]
-pub fn push_live_texts(
-    live: &SharedLive<Shared<Bytes>>,
-    list: &mut Vec<Kept<Bytes>>,
-) -> Result<(), Memory>
-    ensures { OnOk result (list.new.items ≡ list.old.items ++ live.now) }
-{
-    let mut ahead = live.walk();
-    while let Some(kept) = ahead.first() {
-        list.push(own_copy(kept)?)?;
-        ahead.skip();
     }
     Ok(())
 }

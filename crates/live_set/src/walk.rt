@@ -63,7 +63,7 @@ impl<'a, V> Ahead<'a, V> {
 
 // Whether two times are the same.
 #[tactic(auto, unfolding(mrdt_model::specs::Times::same_time))]
-pub(crate) fn is_at(time: Time, other: Time) -> bool
+fn is_at(time: Time, other: Time) -> bool
     ensures { result ≡ same_time time other }
 {
     time == other

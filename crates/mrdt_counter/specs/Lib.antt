@@ -1,3 +1,5 @@
+pub mod Parts
+pub mod Walks
 pub mod Counter
 pub mod Values
 pub mod CounterLaws

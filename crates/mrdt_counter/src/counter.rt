@@ -3,8 +3,9 @@ ghost use Rattle.std.specs.Prelude.{◌≡◌, ◌∷◌, [], IfOk};
 ghost use Rattle.live_set.specs.Entries.{kept_times, IsRising, MergesEntries};
 ghost use Rattle.mrdt_counter.specs.Counter.{sum_of};
 
+use crate::adds::Adds;
 use branch_wire::{Cursor, put_i64};
-use live_set::{SharedLive, unit_reply};
+use live_set::unit_reply;
 use mrdt_model::{Memory, Mrdt, Time, Unread};
 use std::alloc::Global;
 use std::marker::Model;
@@ -14,7 +15,7 @@ use std::marker::Model;
 #[derive(Drop)]
 pub struct Counter {
     alloc: Global,
-    adds: SharedLive<i64>,
+    adds: Adds,
 }
 
 impl Model for Counter {
@@ -47,7 +48,7 @@ impl Counter {
     pub fn value(&self) -> i128
         ensures { result ≡ sum_of self.now }
     {
-        self.adds.amount()
+        self.adds.sum()
     }
 
     // The counter with one amount more. It shares all entries that it had.
@@ -70,7 +71,7 @@ impl Counter {
     {
         Counter {
             alloc: self.alloc,
-            adds: SharedLive::new(self.alloc),
+            adds: Adds::new(self.alloc),
         }
     }
 }
@@ -92,7 +93,7 @@ impl Mrdt for Counter {
     fn initial(alloc: Global) -> Counter {
         Counter {
             alloc,
-            adds: SharedLive::new(alloc),
+            adds: Adds::new(alloc),
         }
     }
 
@@ -117,7 +118,7 @@ impl Mrdt for Counter {
     fn merge(base: &Counter, left: &Counter, right: &Counter) -> Result<Counter, Memory> {
         Ok(Counter {
             alloc: left.alloc,
-            adds: SharedLive::merge(&base.adds, &left.adds, &right.adds)?,
+            adds: Adds::merge(&base.adds, &left.adds, &right.adds)?,
         })
     }
 
@@ -138,7 +139,7 @@ impl Mrdt for Counter {
     fn get(alloc: Global, bytes: &[u8]) -> Result<Counter, Unread> {
         Ok(Counter {
             alloc,
-            adds: SharedLive::get(alloc, bytes)?,
+            adds: Adds::get(alloc, bytes)?,
         })
     }
 

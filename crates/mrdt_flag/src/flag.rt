@@ -1,6 +1,6 @@
 // The flag, its operations and its laws.
 use branch_wire::Cursor;
-use live_set::{SharedLive, unit_reply};
+use live_set::{Live, unit_reply};
 use mrdt_model::{Memory, Mrdt, Time, Unread};
 use std::alloc::Global;
 use std::marker::Model;
@@ -31,7 +31,7 @@ pub enum FlagQuery {
 #[derive(Drop)]
 pub struct Flag {
     alloc: Global,
-    enabled: SharedLive<()>,
+    enabled: Live<()>,
 }
 
 impl Model for Flag {
@@ -51,7 +51,7 @@ impl Flag {
     pub fn is_on(&self) -> bool
         ensures { result ≡ has_any self.now }
     {
-        self.enabled.any()
+        !self.enabled.items().is_empty()
     }
 
     /// The flag after a Disable that has seen all. It takes no memory.
@@ -60,7 +60,7 @@ impl Flag {
     {
         Flag {
             alloc: self.alloc,
-            enabled: SharedLive::new(self.alloc),
+            enabled: Live::new(self.alloc),
         }
     }
 
@@ -68,7 +68,7 @@ impl Flag {
     fn enabled(&self, time: Time) -> Result<Flag, Memory>
         ensures { IfOk result (λ flag. flag ≡ record { time = time; payload = tt } ∷ []) }
     {
-        let mut enabled = SharedLive::new(self.alloc);
+        let mut enabled = Live::new(self.alloc);
         enabled.add(time, ())?;
         Ok(Flag {
             alloc: self.alloc,
@@ -94,7 +94,7 @@ impl Mrdt for Flag {
     fn initial(alloc: Global) -> Flag {
         Flag {
             alloc,
-            enabled: SharedLive::new(alloc),
+            enabled: Live::new(alloc),
         }
     }
 
@@ -119,7 +119,7 @@ impl Mrdt for Flag {
     fn merge(base: &Flag, left: &Flag, right: &Flag) -> Result<Flag, Memory> {
         Ok(Flag {
             alloc: left.alloc,
-            enabled: SharedLive::merge(&base.enabled, &left.enabled, &right.enabled)?,
+            enabled: Live::merge(&base.enabled, &left.enabled, &right.enabled)?,
         })
     }
 
@@ -140,7 +140,7 @@ impl Mrdt for Flag {
     fn get(alloc: Global, bytes: &[u8]) -> Result<Flag, Unread> {
         Ok(Flag {
             alloc,
-            enabled: SharedLive::get(alloc, bytes)?,
+            enabled: Live::get(alloc, bytes)?,
         })
     }
 

@@ -2,8 +2,8 @@
 ghost use Rattle.std.specs.Prelude.{◌≡◌, length, reverse, IfOk};
 ghost use Rattle.mrdt_log.specs.Log.{payload_of, IsAppend};
 
-use live_set::texts::push_live_texts;
-use live_set::{Kept, SharedLive, shared_text, unit_reply, whole_text};
+use live_set::texts::push_texts;
+use live_set::{Kept, Live, shared_text, unit_reply, whole_text};
 use mrdt_model::{Bytes, Listing, Memory, Mrdt, Shared, Time, Unread};
 use std::alloc::Global;
 use std::marker::Model;
@@ -12,7 +12,7 @@ use std::marker::Model;
 #[derive(Drop)]
 pub struct Log {
     alloc: Global,
-    entries: SharedLive<Shared<Bytes>>,
+    entries: Live<Shared<Bytes>>,
 }
 
 impl Model for Log {
@@ -67,12 +67,12 @@ impl LogOp {
 // Copies of the entries, the last one first.
 fn newest_first(
     alloc: Global,
-    entries: &SharedLive<Shared<Bytes>>,
+    entries: &[Kept<Shared<Bytes>>],
 ) -> Result<Listing<Kept<Bytes>>, Memory>
     ensures { IfOk result (λ list. list ≡ reverse entries.now) }
 {
     let mut list = Vec::new(alloc);
-    push_live_texts(entries, &mut list)?;
+    push_texts(entries, &mut list)?;
     list.reverse();
     Ok(Listing::from_vec(list))
 }
@@ -82,7 +82,7 @@ impl Log {
     pub fn length(&self) -> u64
         ensures { result ≡ length self.now }
     {
-        self.entries.len()
+        self.entries.items().len() as u64
     }
 }
 
@@ -103,7 +103,7 @@ impl Mrdt for Log {
     fn initial(alloc: Global) -> Log {
         Log {
             alloc,
-            entries: SharedLive::new(alloc),
+            entries: Live::new(alloc),
         }
     }
 
@@ -119,10 +119,12 @@ impl Mrdt for Log {
     }
 
     fn apply(&self, op: &LogOp, time: Time) -> Result<(Log, ()), Memory> {
+        let mut appended = Live::new(self.alloc);
         let payload = shared_text(self.alloc, op.payload().as_slice())?;
+        appended.add(time, payload)?;
         let log = Log {
             alloc: self.alloc,
-            entries: self.entries.with(time, payload)?,
+            entries: Live::merge(&Live::new(self.alloc), &self.entries, &appended)?,
         };
         Ok((log, ()))
     }
@@ -130,13 +132,16 @@ impl Mrdt for Log {
     fn merge(base: &Log, left: &Log, right: &Log) -> Result<Log, Memory> {
         Ok(Log {
             alloc: left.alloc,
-            entries: SharedLive::merge(&base.entries, &left.entries, &right.entries)?,
+            entries: Live::merge(&base.entries, &left.entries, &right.entries)?,
         })
     }
 
     fn answer(&self, query: &LogQuery) -> Result<LogAnswer, Memory> {
         match query {
-            LogQuery::Read => Ok(LogAnswer::OnEntries(newest_first(self.alloc, &self.entries)?)),
+            LogQuery::Read => Ok(LogAnswer::OnEntries(newest_first(
+                self.alloc,
+                self.entries.items(),
+            )?)),
             LogQuery::Length => Ok(LogAnswer::OnLength(self.length())),
         }
     }
@@ -152,7 +157,7 @@ impl Mrdt for Log {
     fn get(alloc: Global, bytes: &[u8]) -> Result<Log, Unread> {
         Ok(Log {
             alloc,
-            entries: SharedLive::get(alloc, bytes)?,
+            entries: Live::get(alloc, bytes)?,
         })
     }
 

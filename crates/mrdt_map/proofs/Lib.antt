@@ -1,4 +1,4 @@
-pub mod Places
+pub mod Rebuilt
 pub mod Changed
 pub mod OnKeys
 pub mod Writing

@@ -5,4 +5,3 @@ pub mod OnKeys
 pub mod Touched
 pub mod MapLaws
 pub mod Reading
-pub mod Slots

@@ -2,10 +2,8 @@
 //! values' type says over the operations on that key.
 #![tactic(auto)]
 
-mod inner;
+mod entries;
 pub mod map;
-mod slot;
-mod table;
-mod tables;
+mod spelling;
 
 pub use map::{Map, MapAnswer, MapQuery, OnKey};

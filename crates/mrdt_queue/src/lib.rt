@@ -4,6 +4,7 @@
 //! their merge.
 #![tactic(auto)]
 
+mod entries;
 pub mod op;
 pub mod queue;
 mod spelling;

@@ -2,7 +2,7 @@
 ghost use Rattle.std.specs.Prelude.{◌≡◌, map, IfOk};
 
 use crate::op::RegisterOp;
-use live_set::{SharedLive, unit_reply, whole_text};
+use live_set::{Kept, Live, unit_reply, whole_text};
 use mrdt_model::{Bytes, Listing, Memory, Mrdt, Shared, Time, Unread};
 use std::alloc::Global;
 use std::marker::Model;
@@ -12,7 +12,7 @@ use std::marker::Model;
 #[derive(Drop)]
 pub struct Multi {
     alloc: Global,
-    live: SharedLive<Shared<Bytes>>,
+    live: Live<Shared<Bytes>>,
 }
 
 impl Model for Multi {
@@ -32,15 +32,12 @@ pub enum MultiQuery {
 }
 
 // The payloads of entries, copied.
-#[tactic(auto, using(live_set::proofs::Sharing::first_is, live_set::proofs::Sharing::first_not, live_set::proofs::Sharing::walk_shorter))]
-fn payloads(alloc: Global, live: &SharedLive<Shared<Bytes>>) -> Result<Listing<Bytes>, Memory>
-    ensures { IfOk result (λ list. list ≡ map (λ k. k.payload) live.now) }
+fn payloads(alloc: Global, entries: &[Kept<Shared<Bytes>>]) -> Result<Listing<Bytes>, Memory>
+    ensures { IfOk result (λ list. list ≡ map (λ k. k.payload) entries.now) }
 {
     let mut list = Vec::new(alloc);
-    let mut ahead = live.walk();
-    while let Some(kept) = ahead.first() {
+    for kept in entries {
         list.push(kept.payload.get().copy()?)?;
-        ahead.skip();
     }
     Ok(Listing::from_vec(list))
 }
@@ -62,7 +59,7 @@ impl Mrdt for Multi {
     fn initial(alloc: Global) -> Multi {
         Multi {
             alloc,
-            live: SharedLive::new(alloc),
+            live: Live::new(alloc),
         }
     }
 
@@ -79,7 +76,7 @@ impl Mrdt for Multi {
 
     fn apply(&self, op: &RegisterOp, time: Time) -> Result<(Multi, ()), Memory> {
         let payload = op.shared(self.alloc)?;
-        let mut live = SharedLive::new(self.alloc);
+        let mut live = Live::new(self.alloc);
         live.add(time, payload)?;
         let multi = Multi {
             alloc: self.alloc,
@@ -91,13 +88,13 @@ impl Mrdt for Multi {
     fn merge(base: &Multi, left: &Multi, right: &Multi) -> Result<Multi, Memory> {
         Ok(Multi {
             alloc: left.alloc,
-            live: SharedLive::merge(&base.live, &left.live, &right.live)?,
+            live: Live::merge(&base.live, &left.live, &right.live)?,
         })
     }
 
     fn answer(&self, query: &MultiQuery) -> Result<Listing<Bytes>, Memory> {
         match query {
-            MultiQuery::Values => Ok(payloads(self.alloc, &self.live)?),
+            MultiQuery::Values => Ok(payloads(self.alloc, self.live.items())?),
         }
     }
 
@@ -112,7 +109,7 @@ impl Mrdt for Multi {
     fn get(alloc: Global, bytes: &[u8]) -> Result<Multi, Unread> {
         Ok(Multi {
             alloc,
-            live: SharedLive::get(alloc, bytes)?,
+            live: Live::get(alloc, bytes)?,
         })
     }
 

@@ -5,7 +5,6 @@
 mod members;
 mod same;
 pub mod set;
-mod slot;
 mod spelled;
 mod table;
 

@@ -4,8 +4,7 @@ ghost use Rattle.live_set.specs.Payloads.{nothing_spelling};
 ghost use Rattle.live_set.specs.Spelling.{live_spelling};
 ghost use Rattle.mrdt_set.specs.Members.{member_spelling, set_spelling};
 
-use crate::slot::Times;
-use crate::table::Table;
+use crate::table::{Table, Times};
 
 // Whether times are the same as others. Those whose spellings stand at the front of the same bytes are.
 fn same_times(times: &Times, others: &Times) -> bool
@@ -13,9 +12,9 @@ fn same_times(times: &Times, others: &Times) -> bool
     ensures spelled { (a b : List ℕ) → live_spelling nothing_spelling times.now ++ a
         ≡ live_spelling nothing_spelling others.now ++ b → times.now ≡ others.now }
 {
-    let mine = times.len();
-    let theirs = others.len();
-    mine == theirs && times.same(others)
+    let mine = times.get().items();
+    let theirs = others.get().items();
+    mine.len() == theirs.len() && times.get().same(others.get())
 }
 
 // Whether an element and its times are equal to others. Those whose spellings stand at the front of the same bytes
@@ -37,22 +36,18 @@ pub(crate) fn same_tables(table: &Table, other: &Table) -> bool
     if table.size() != other.size() {
         return false;
     }
-    let mut walk = table.walk();
-    let mut others = other.walk();
-    while let Some(slot) = walk.first() {
-        let Some(theirs) = others.first() else {
+    let theirs = other.in_order();
+    let mut others = theirs.iter();
+    let all = table.in_order();
+    for (element, times) in all.iter() {
+        let Some((other_element, other_times)) = others.next() else {
             return false;
         };
-        if !same_member(
-            slot.element(),
-            slot.times(),
-            theirs.element(),
-            theirs.times(),
-        ) {
+        let mine = element.as_slice();
+        let their = other_element.as_slice();
+        if !same_member(mine, times, their, other_times) {
             return false;
         }
-        walk.skip();
-        others.skip();
     }
     true
 }

@@ -1,0 +1,18 @@
+use Rattle.std.proofs.Common.{rules, ◌≡◌, ◌∙◌, ◌<◌, ◌^◌, sym, subst, length, ℕ}
+use Rattle.branch_wire.specs.Fields.{field}
+use Rattle.branch_wire.proofs.Numbers.{number-same}
+use Rattle.live_set.specs.Spelling.{kept_spelling}
+use Rattle.live_set.proofs.Alike.{counted-parts}
+use Rattle.mrdt_queue.proofs.queue.QueueMrdt.same.Goals as goal
+
+pub returns-then-mine-theirs-clause-spelled : goal.returns-then-mine-theirs-clause-spelled
+returns-then-mine-theirs-clause-spelled c short spelled = c.has_same.ensures.spelled (counted-parts (kept_spelling field) c.args.self.now c.args.other.now spelled).1
+
+pub returns-else-mine-theirs-clause-spelled : goal.returns-else-mine-theirs-clause-spelled
+returns-else-mine-theirs-clause-spelled c short spelled =
+    let mine : c.length-mine.result < 2 ^ 64 = search rules in
+    let theirs : c.length-theirs.result < 2 ^ 64 = search rules in
+    let fits = λ (n m : ℕ) (is : n ≡ m) (h : n < 2 ^ 64). subst (λ (k : ℕ). k < 2 ^ 64) is h in
+    let counts : length c.args.self.now ≡ length c.args.other.now =
+    number-same (length c.args.self.now) (length c.args.other.now) (fits c.length-mine.result (length c.args.self.now) c.length-mine.ensures mine) (fits c.length-theirs.result (length c.args.other.now) c.length-theirs.ensures theirs) (counted-parts (kept_spelling field) c.args.self.now c.args.other.now spelled).0 in
+    absurd (c.if-mine-theirs.false (c.length-mine.ensures ∙ counts ∙ sym c.length-theirs.ensures))

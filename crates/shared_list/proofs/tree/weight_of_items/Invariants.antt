@@ -1,6 +1,0 @@
-use Rattle.std.proofs.Common.{◌≡◌, take}
-use Rattle.shared_list.specs.Trees.{capped, weights}
-use Rattle.shared_list.proofs.tree.weight_of_items.Given as goal
-
-abbrev pub invariant-loop-item : goal.invariant-loop-item
-invariant-loop-item g l = l.weight ≡ capped (weights g.T.Entry.weight_of (take l.item-index l.items))
