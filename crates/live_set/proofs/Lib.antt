@@ -10,3 +10,7 @@ pub mod Lengths
 pub mod ShortTexts
 pub mod Unchanged
 pub mod AnyOrder
+pub mod Ahead
+pub mod Finding
+pub mod Merging
+pub mod Sharing

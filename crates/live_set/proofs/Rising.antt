@@ -24,7 +24,7 @@ pub among-tail : (s t : Time) (ts : List Time) → IsTrue (among ts t) → IsTru
 among-tail s t ts m = or_right (same_time t s) (among ts t) m
 
 -- of two tests that never hold together, either may be asked first
-either_first : {A : Type 0} (x y z : A) (p q : Bool) → (p ≡ true → q ≡ true → ⊥) → cond p x (cond q y z) ≡ cond q y (cond p x z)
+pub either_first : {A : Type 0} (x y z : A) (p q : Bool) → (p ≡ true → q ≡ true → ⊥) → cond p x (cond q y z) ≡ cond q y (cond p x z)
 either_first x y z true true apart = absurd (apart refl refl)
 either_first x y z true false apart = refl
 either_first x y z false true apart = refl

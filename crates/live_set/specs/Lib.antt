@@ -1,4 +1,5 @@
 pub mod Entries
+pub mod Finding
 pub mod Payloads
 pub mod Spelling
 pub mod Effects

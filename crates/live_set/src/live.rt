@@ -1,23 +1,68 @@
 // The live set.
-ghost use Rattle.std.specs.Prelude.{◌≡◌, ◌↔◌, length, IsTrue, IfOk};
+ghost use Rattle.std.specs.Prelude.{◌≡◌, ◌↔◌, ◌<◌, ◌++◌, ◌∷◌, [], drop, length, slice_get, IsTrue, IfOk, OnOk, OnErr};
 ghost use Rattle.std.specs.List.{flat_map};
+ghost use Rattle.std.specs.Option.{option_copied};
+ghost use Rattle.shared_list.specs.Trees.{amounts};
+ghost use Rattle.mrdt_model.specs.Spelled.{capped};
+ghost use Rattle.mrdt_model.specs.Times.{is_earlier};
+ghost use Rattle.live_set.specs.Effects.{has_any};
+ghost use Rattle.live_set.specs.Entries.{kept_times, AllBefore, IsRising, MergesEntries};
+ghost use Rattle.live_set.specs.Finding.{IsFound, LosesTime, ChangesAt};
 ghost use Rattle.live_set.specs.Spelling.{kept_spelling};
 
 use crate::kept::Kept;
 use crate::payload::Payload;
-use crate::walk::{Ahead, earlier, stays};
+use crate::spelled::kept_length;
+use crate::walk::{Ahead, earlier, is_at};
 use mrdt_model::{Memory, Time};
+use shared_list::{Entry, Probe, SharedList, Walk};
 use std::alloc::Global;
 use std::marker::Model;
 
-/// Payloads by time. Contracts see the entries, by rising time.
-#[derive(Drop)]
-pub struct Live<V> {
-    alloc: Global,
-    entries: Vec<Kept<V>>,
+impl<V: Payload> Entry for Kept<V> {
+    // the bytes of the spelling, and what the payload counts
+    ghost weight_of = { λ k. capped (length (kept_spelling V.spelling k)) };
+
+    ghost amount_of = { λ k. V.amount_of k.payload };
+
+    fn copy(&self) -> Result<Kept<V>, Memory> {
+        Ok(Kept {
+            time: self.time,
+            payload: self.payload.copy()?,
+        })
+    }
+
+    fn weight(&self) -> u64 {
+        kept_length(self)
+    }
+
+    fn amount(&self) -> i128 {
+        self.payload.amount()
+    }
 }
 
-impl<V> Model for Live<V> {
+// A time that is sought.
+#[derive(Clone, Copy)]
+struct Sought {
+    time: Time,
+}
+
+impl<V: Payload> Probe<Kept<V>> for Sought {
+    ghost precedes = { λ s k. is_earlier k.time s.time };
+
+    fn precedes(&self, entry: &Kept<V>) -> bool {
+        entry.time.is_before(self.time)
+    }
+}
+
+/// Payloads by time, whose versions share their entries. Contracts see the entries, by rising time.
+#[derive(Drop)]
+pub struct Live<V: Payload> {
+    alloc: Global,
+    entries: SharedList<Kept<V>>,
+}
+
+impl<V: Payload> Model for Live<V> {
     ghost use Rattle.std.specs.Prelude.{List};
     ghost use Rattle.live_set.specs.declared.kept.Kept.{Kept};
 
@@ -25,73 +70,82 @@ impl<V> Model for Live<V> {
 
     ghost use Rattle.live_set.specs.Entries.{kept_times, IsRising};
 
-    ghost view = { λ l. l.entries.items };
+    ghost view = { λ l. l.entries };
 
-    ghost invariant = { λ l. IsRising (kept_times l.entries.items) };
+    ghost invariant = { λ l. IsRising (kept_times l.entries) };
 }
 
-// Equal entries.
-fn copies<V: Payload>(alloc: Global, entries: &[Kept<V>]) -> Result<Vec<Kept<V>>, Memory>
-    ensures { IfOk result (λ copied. copied.items ≡ entries.now) }
-{
-    let mut copied = Vec::new(alloc);
-    for kept in entries {
-        copied.push(kept.copy()?)?;
-    }
-    Ok(copied)
-}
-
-// Whether as many entries are equal, each to the other at its place.
-fn are_same<V: Payload>(entries: &[Kept<V>], others: &[Kept<V>]) -> bool
-    requires { length entries.now ≡ length others.now }
-    ensures same { IsTrue result ↔ (entries.now ≡ others.now) }
-    ensures spelled { flat_map (kept_spelling V.spelling) entries.now
-        ≡ flat_map (kept_spelling V.spelling) others.now → entries.now ≡ others.now }
-{
-    for index in 0..entries.len() {
-        if !entries[index].same(&others[index]) {
-            return false;
-        }
-    }
-    true
-}
-
-impl<V> Live<V> {
-    ghost use Rattle.std.specs.Prelude.{◌≡◌, ◌↔◌, [], IsTrue};
-    ghost use Rattle.live_set.specs.Entries.{kept_times, AllBefore, IsRising};
-
+impl<V: Payload> Live<V> {
     /// No payload. It takes no memory.
     pub fn new(alloc: Global) -> Live<V>
         ensures { result ≡ [] }
     {
         Live {
             alloc,
-            entries: Vec::new(alloc),
+            entries: SharedList::new(alloc),
         }
     }
 
-    /// The entries, by rising time.
-    pub fn items(&self) -> &[Kept<V>]
-        ensures items { result.now ≡ self.now }
+    /// Whether there is a payload. It takes no memory.
+    #[tactic(auto, using(crate::proofs::Sharing::any_long))]
+    pub fn any(&self) -> bool
+        ensures { result ≡ has_any self.now }
+    {
+        self.entries.len() > 0
+    }
+
+    /// How many payloads there are.
+    pub fn len(&self) -> u64
+        ensures { result ≡ length self.now }
+    {
+        self.entries.len()
+    }
+
+    /// The sum of what the payloads count, with no wrapping.
+    pub fn amount(&self) -> i128
+        ensures { result ≡ amounts (λ k. V.amount_of k.payload) self.now }
+    {
+        self.entries.amount()
+    }
+
+    /// How many bytes the entries are spelled with, or 2^64 - 1 where there are more. It takes no memory.
+    #[tactic(auto, using(crate::proofs::Sharing::capped_lengths))]
+    pub fn entries_length(&self) -> u64
+        ensures { result ≡ capped (length (flat_map (kept_spelling V.spelling) self.now)) }
+    {
+        self.entries.weight()
+    }
+
+    /// The entry at a place.
+    pub fn entry_at(&self, place: u64) -> &Kept<V>
+        requires { place < length self.now }
+        ensures { slice_get self.now place ≡ Some result.now }
+    {
+        self.entries.get(place)
+    }
+
+    /// The first entry.
+    pub fn first(&self) -> Option<&Kept<V>>
+        ensures { option_copied result ≡ slice_get self.now 0 }
+    {
+        self.walk().first()
+    }
+
+    /// A walk over the entries, by rising time.
+    pub fn walk(&self) -> Walk<'_, Kept<V>>
+        ensures items { result ≡ self.now }
         ensures rising { IsRising (kept_times self.now) }
     {
-        &self.entries
+        Walk::new(&self.entries, 0)
     }
 
-    // Whether all times are before this one.
-    pub(crate) fn ends_before(&self, time: Time) -> bool
+    /// Whether all times are before this one. It takes no memory.
+    pub fn ends_before(&self, time: Time) -> bool
         ensures { IsTrue result ↔ AllBefore (kept_times self.now) time }
     {
-        match self.entries.split_last() {
-            Some((kept, _)) => kept.time.is_before(time),
-            None => true,
-        }
+        let count = self.entries.len();
+        count == 0 || self.entries.get(count - 1).time.is_before(time)
     }
-}
-
-impl<V: Drop> Live<V> {
-    ghost use Rattle.std.specs.Prelude.{◌≡◌, ◌++◌, ◌∷◌, [], IfOk, OnOk, OnErr};
-    ghost use Rattle.live_set.specs.Entries.{kept_times, AllBefore};
 
     /// Puts a payload behind all others, at a time that is greater than theirs. After `Memory` nothing has
     /// changed.
@@ -103,78 +157,128 @@ impl<V: Drop> Live<V> {
         } ∷ []) }
         ensures err { OnErr result (self.new ≡ self.old) }
     {
-        Ok(self.entries.push(Kept { time, payload })?)
+        let entries = self.entries.push(Kept { time, payload })?;
+        self.entries = entries;
+        Ok(())
     }
 
     /// Drops all payloads. It takes no memory.
     pub fn drop_seen(&mut self)
         ensures { self.new ≡ [] }
     {
-        self.entries.clear();
+        self.entries = SharedList::new(self.alloc);
     }
-}
 
-impl<V: Payload> Live<V> {
-    ghost use Rattle.std.specs.Prelude.{◌≡◌, ◌↔◌, IsTrue, IfOk, OnOk};
-    ghost use Rattle.live_set.specs.Spelling.{live_spelling};
-    ghost use Rattle.std.specs.Option.{option_copied};
-    ghost use Rattle.live_set.specs.Entries.{kept_times, AllBefore, IsRising, MergesEntries, with_payload};
-
-    /// The same payloads at the same times.
+    /// The same payloads at the same times. It takes no memory.
     pub fn copy(&self) -> Result<Live<V>, Memory>
         ensures { IfOk result (λ live. live ≡ self.now) }
     {
         Ok(Live {
             alloc: self.alloc,
-            entries: copies(self.alloc, &self.entries)?,
+            entries: self.entries.copy()?,
         })
     }
 
-    /// Whether the same payloads are at the same times. Live sets that are spelled alike are the same. It takes no
-    /// memory.
-    pub fn same(&self, other: &Live<V>) -> bool
-        ensures same { IsTrue result ↔ (self.now ≡ other.now) }
-        ensures spelled { live_spelling V.spelling self.now ≡ live_spelling V.spelling other.now
-            → self.now ≡ other.now }
+    /// The payloads without the first one.
+    pub fn without_first(&self) -> Result<Live<V>, Memory>
+        requires { 0 < length self.now }
+        ensures { IfOk result (λ live. live ≡ drop 1 self.now) }
     {
-        let (mine, theirs) = (self.items(), other.items());
-        mine.len() == theirs.len() && are_same(mine, theirs)
+        Ok(Live {
+            alloc: self.alloc,
+            entries: self.entries.remove(0)?,
+        })
     }
 
-    // Puts a copy of a payload, if there is one, behind all others.
-    fn add_copy(&mut self, time: Time, payload: Option<&V>) -> Result<(), Memory>
-        requires { AllBefore (kept_times self.old) time }
-        ensures { OnOk result
-            (self.new ≡ with_payload self.old time (option_copied payload.entry)) }
+    // How many entries are before a time, and whether the next one is at it.
+    #[tactic(auto, using(crate::proofs::Finding::found_end, crate::proofs::Finding::found_last, crate::proofs::Finding::found_at, crate::proofs::Finding::partitioned))]
+    fn find(&self, time: Time) -> (u64, bool)
+        ensures { IsFound self.now time result.0 result.1 }
     {
-        match payload {
-            Some(payload) => self.add(time, payload.copy()?),
-            None => Ok(()),
+        if self.ends_before(time) {
+            return (self.entries.len(), false);
         }
+        let place = self.entries.partition_point(&Sought { time });
+        if place == self.entries.len() {
+            return (place, false);
+        }
+        (place, is_at(time, self.entries.get(place).time))
+    }
+
+    /// The payloads with one more at a time, where there is none yet.
+    pub fn with(&self, time: Time, payload: V) -> Result<Live<V>, Memory>
+        ensures merges { IfOk result (MergesEntries [] self.now (record {
+          time = time;
+          payload = payload;
+        } ∷ [])) }
+        ensures rising { IfOk result (λ live. IsRising (kept_times live)) }
+    {
+        let (place, here) = self.find(time);
+        if here {
+            let _ahead = self.walk();
+            return self.copy();
+        }
+        Ok(Live {
+            alloc: self.alloc,
+            entries: self.entries.insert(place, Kept { time, payload })?,
+        })
+    }
+
+    // The payloads but for the one at a time, if there is one.
+    fn without(&self, time: Time) -> Result<Live<V>, Memory>
+        ensures { IfOk result (LosesTime time self.now) }
+    {
+        let (place, here) = self.find(time);
+        if !here {
+            return self.copy();
+        }
+        Ok(Live {
+            alloc: self.alloc,
+            entries: self.entries.remove(place)?,
+        })
+    }
+
+    // Leaves at a time what stays there of what base, this and right have.
+    #[tactic(auto, using(crate::proofs::Finding::change_put, crate::proofs::Finding::change_cut, crate::proofs::Finding::change_both, crate::proofs::Finding::change_neither))]
+    fn change(&mut self, time: Time, base: Option<&V>, right: Option<&V>) -> Result<(), Memory>
+        ensures { OnOk result (ChangesAt time (option_copied base.entry)
+            (option_copied right.entry) self.old self.new) }
+    {
+        match (base, right) {
+            (None, Some(payload)) => {
+                *self = self.with(time, payload.copy()?)?;
+            }
+            (Some(_), None) => {
+                *self = self.without(time)?;
+            }
+            (Some(_), Some(_)) | (None, None) => {}
+        }
+        Ok(())
+    }
+
+    // The entries, all ahead.
+    fn ahead(&self) -> Ahead<'_, V>
+        ensures items { result ≡ self.now }
+        ensures rising { IsRising (kept_times self.now) }
+    {
+        Ahead::new(self.walk())
     }
 
     /// What all three have, and what a side has and the base has not, with the left's payload where both sides
-    /// have one.
+    /// have one. It takes memory for what the right side has changed alone.
     pub fn merge(base: &Live<V>, left: &Live<V>, right: &Live<V>) -> Result<Live<V>, Memory>
         ensures merges { IfOk result (MergesEntries base.now left.now right.now) }
         ensures rising { IfOk result (λ live. IsRising (kept_times live)) }
     {
-        let mut merged = Live::new(left.alloc);
-        let mut base_ahead = Ahead::new(base.items());
-        let mut left_ahead = Ahead::new(left.items());
-        let mut right_ahead = Ahead::new(right.items());
-        while let Some(time) = earlier(
-            base_ahead.first_time(),
-            earlier(left_ahead.first_time(), right_ahead.first_time()),
-        ) {
-            let payload = stays(
-                base_ahead.take_at(time),
-                left_ahead.take_at(time),
-                right_ahead.take_at(time),
-            );
-            merged.add_copy(time, payload)?;
+        let mut merged = left.copy()?;
+        let mut base_ahead = base.ahead();
+        let mut right_ahead = right.ahead();
+        while let Some(time) = earlier(base_ahead.first_time(), right_ahead.first_time()) {
+            let old = base_ahead.take_at(time);
+            let new = right_ahead.take_at(time);
+            merged.change(time, old, new)?;
         }
-        let _items = merged.items();
+        let _ahead = merged.ahead();
         Ok(merged)
     }
 }

@@ -1,5 +1,5 @@
 // What a live set holds at a time.
-ghost use Rattle.std.specs.Prelude.{◌≡◌, ◌↔◌, ◌++◌, [], List, ℕ, length, IsTrue, IfOk, OnOk, OnErr, IsErrOf};
+ghost use Rattle.std.specs.Prelude.{◌≡◌, ◌↔◌, ◌++◌, [], List, ℕ, ℤ, pos, length, IsTrue, IfOk, OnOk, OnErr, IsErrOf};
 ghost use Rattle.mrdt_model.specs.Spelled.{AppendsPart, capped};
 ghost use Rattle.branch_wire.specs.Fields.{field, signed_number};
 ghost use Rattle.branch_wire.specs.Reading.{ReadsOneWay};
@@ -15,6 +15,9 @@ pub trait Payload: Sized + Drop {
     ghost fits: { Self → Type 0 };
 
     ghost spelling: { Self → List ℕ };
+
+    // What it counts in the sum of a live set.
+    ghost amount_of: { Self → ℤ };
 
     /// An equal payload.
     fn copy(&self) -> Result<Self, Memory>
@@ -36,6 +39,10 @@ pub trait Payload: Sized + Drop {
     fn spelled_length(&self) -> u64
         ensures { result ≡ capped (length (spelling self.now)) };
 
+    /// What it counts in the sum of a live set.
+    fn amount(&self) -> i128
+        ensures { result ≡ amount_of self.now };
+
     /// Takes a payload that is spelled at the front, and leaves all bytes where it refuses. `NotCanonical` comes
     /// exactly where none is spelled there.
     fn take(alloc: Global, cursor: &mut Cursor<'_>) -> Result<Self, Unread>
@@ -54,6 +61,8 @@ impl Payload for () {
 
     ghost spelling = { nothing_spelling };
 
+    ghost amount_of = { λ _. pos 0 };
+
     fn copy(&self) -> Result<(), Memory> {
         Ok(())
     }
@@ -70,6 +79,10 @@ impl Payload for () {
         0
     }
 
+    fn amount(&self) -> i128 {
+        0
+    }
+
     fn take(_alloc: Global, _cursor: &mut Cursor<'_>) -> Result<(), Unread> {
         Ok(())
     }
@@ -81,6 +94,8 @@ impl Payload for i64 {
     ghost fits = { IsAmount };
 
     ghost spelling = { signed_number };
+
+    ghost amount_of = { λ n. n };
 
     fn copy(&self) -> Result<i64, Memory> {
         Ok(*self)
@@ -96,6 +111,10 @@ impl Payload for i64 {
 
     fn spelled_length(&self) -> u64 {
         8
+    }
+
+    fn amount(&self) -> i128 {
+        i128::from(*self)
     }
 
     fn take(_alloc: Global, cursor: &mut Cursor<'_>) -> Result<i64, Unread> {
@@ -139,6 +158,8 @@ impl Payload for Shared<Bytes> {
 
     ghost spelling = { field };
 
+    ghost amount_of = { λ _. pos 0 };
+
     fn copy(&self) -> Result<Shared<Bytes>, Memory> {
         Shared::copy(self)
     }
@@ -155,6 +176,10 @@ impl Payload for Shared<Bytes> {
 
     fn spelled_length(&self) -> u64 {
         (self.get().as_slice().len() as u64).saturating_add(8)
+    }
+
+    fn amount(&self) -> i128 {
+        0
     }
 
     fn take(alloc: Global, cursor: &mut Cursor<'_>) -> Result<Shared<Bytes>, Unread> {

@@ -1,5 +1,5 @@
 // Live sets as bytes: a count, and that many times and payloads.
-ghost use Rattle.std.specs.Prelude.{◌≡◌, ◌++◌, List, ℕ, length, IfOk, OnOk, OnErr, IsErrOf};
+ghost use Rattle.std.specs.Prelude.{◌≡◌, ◌↔◌, ◌++◌, List, ℕ, length, IsTrue, IfOk, OnOk, OnErr, IsErrOf};
 ghost use Rattle.std.specs.List.{flat_map};
 ghost use Rattle.mrdt_model.specs.Spelled.{AppendsPart, capped};
 ghost use Rattle.live_set.specs.declared.kept.Kept.{Kept as SpecKept};
@@ -31,16 +31,27 @@ pub fn kept_length<V: Payload>(kept: &Kept<V>) -> u64
     kept.payload.spelled_length().saturating_add(12)
 }
 
-/// How many bytes the times and the payloads of entries have together, or 2^64 - 1 where they have more. It takes
-/// no memory.
-pub fn entries_length<V: Payload>(entries: &[Kept<V>]) -> u64
-    ensures { result ≡ capped (length (flat_map (kept_spelling V.spelling) entries.now)) }
+// Whether as many entries are equal, each to the other at its place.
+#[tactic(auto, using(crate::proofs::Sharing::alike_start, crate::proofs::Sharing::alike_more, crate::proofs::Sharing::alike_end, crate::proofs::Sharing::alike_apart, crate::proofs::Sharing::alike_short, crate::proofs::Sharing::walk_shorter))]
+fn are_same<V: Payload>(entries: &Live<V>, others: &Live<V>) -> bool
+    requires { length entries.now ≡ length others.now }
+    ensures same { IsTrue result ↔ (entries.now ≡ others.now) }
+    ensures spelled { flat_map (kept_spelling V.spelling) entries.now
+        ≡ flat_map (kept_spelling V.spelling) others.now → entries.now ≡ others.now }
 {
-    let mut length = 0u64;
-    for kept in entries {
-        length = length.saturating_add(kept_length(kept));
+    let mut mine = entries.walk();
+    let mut theirs = others.walk();
+    while let Some(kept) = mine.first() {
+        let Some(other) = theirs.first() else {
+            return false;
+        };
+        if !kept.same(other) {
+            return false;
+        }
+        mine.skip();
+        theirs.skip();
     }
-    length
+    true
 }
 
 // Takes an entry that is later than all others, and puts it behind them.
@@ -80,18 +91,32 @@ fn live_at_front<V: Payload>(alloc: Global, cursor: &mut Cursor<'_>) -> Result<L
 }
 
 impl<V: Payload> Live<V> {
+    /// Whether the same payloads are at the same times. Live sets that are spelled alike are the same. It takes no
+    /// memory.
+    pub fn same(&self, other: &Live<V>) -> bool
+        ensures same { IsTrue result ↔ (self.now ≡ other.now) }
+        ensures spelled { live_spelling V.spelling self.now ≡ live_spelling V.spelling other.now
+            → self.now ≡ other.now }
+    {
+        let mine = self.len();
+        let theirs = other.len();
+        mine == theirs && are_same(self, other)
+    }
+
     /// Writes the count of the payloads, and the time and the spelling of each, by rising time, at the end of
     /// `out`; after `Memory`, a first part of that.
+    #[tactic(auto, using(crate::proofs::Sharing::written_more, crate::proofs::Sharing::written_part, crate::proofs::Sharing::walk_shorter, crate::proofs::Sharing::first_not))]
     pub fn put(&self, out: &mut Vec<u8>) -> Result<(), Memory>
         ensures ok { OnOk result (out.new.items
             ≡ out.old.items ++ live_spelling V.spelling self.now) }
         ensures err { OnErr result (AppendsPart out.old.items out.new.items
             (live_spelling V.spelling self.now)) }
     {
-        let entries = self.items();
-        put_u64(entries.len() as u64, out)?;
-        for kept in entries {
+        put_u64(self.len(), out)?;
+        let mut ahead = self.walk();
+        while let Some(kept) = ahead.first() {
             put_kept(kept, out)?;
+            ahead.skip();
         }
         Ok(())
     }
@@ -100,7 +125,7 @@ impl<V: Payload> Live<V> {
     pub fn spelled_length(&self) -> u64
         ensures { result ≡ capped (length (live_spelling V.spelling self.now)) }
     {
-        entries_length(self.items()).saturating_add(8)
+        self.entries_length().saturating_add(8)
     }
 
     /// Takes a live set that is spelled at the front, and leaves all bytes where it refuses. `NotCanonical` comes

@@ -2,6 +2,7 @@
 ghost use Rattle.std.specs.Prelude.{◌≡◌, ◌++◌, IfOk, OnOk};
 
 use crate::kept::Kept;
+use crate::live::Live;
 use mrdt_model::{Bytes, Memory, Shared};
 
 /// An equal entry with a text of its own.
@@ -15,14 +16,14 @@ pub fn own_copy(kept: &Kept<Shared<Bytes>>) -> Result<Kept<Bytes>, Memory>
 }
 
 /// Puts equal entries, with texts of their own, behind those of a list.
-pub fn push_texts(
-    entries: &[Kept<Shared<Bytes>>],
-    list: &mut Vec<Kept<Bytes>>,
-) -> Result<(), Memory>
-    ensures { OnOk result (list.new.items ≡ list.old.items ++ entries.now) }
+#[tactic(auto, using(crate::proofs::Sharing::first_is, crate::proofs::Sharing::first_not, crate::proofs::Sharing::walk_shorter))]
+pub fn push_texts(live: &Live<Shared<Bytes>>, list: &mut Vec<Kept<Bytes>>) -> Result<(), Memory>
+    ensures { OnOk result (list.new.items ≡ list.old.items ++ live.now) }
 {
-    for kept in entries {
+    let mut ahead = live.walk();
+    while let Some(kept) = ahead.first() {
         list.push(own_copy(kept)?)?;
+        ahead.skip();
     }
     Ok(())
 }

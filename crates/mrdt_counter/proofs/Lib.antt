@@ -1,6 +1,3 @@
 pub mod Whole
 pub mod Totals
 pub mod Next
-pub mod Parts
-pub mod Places
-pub mod Staying

@@ -1,5 +1,3 @@
-pub mod Parts
-pub mod Walks
 pub mod Counter
 pub mod Values
 pub mod CounterLaws

@@ -3,9 +3,8 @@ ghost use Rattle.std.specs.Prelude.{◌≡◌, ◌∷◌, [], IfOk};
 ghost use Rattle.live_set.specs.Entries.{kept_times, IsRising, MergesEntries};
 ghost use Rattle.mrdt_counter.specs.Counter.{sum_of};
 
-use crate::adds::Adds;
 use branch_wire::{Cursor, put_i64};
-use live_set::unit_reply;
+use live_set::{Live, unit_reply};
 use mrdt_model::{Memory, Mrdt, Time, Unread};
 use std::alloc::Global;
 use std::marker::Model;
@@ -15,7 +14,7 @@ use std::marker::Model;
 #[derive(Drop)]
 pub struct Counter {
     alloc: Global,
-    adds: Adds,
+    adds: Live<i64>,
 }
 
 impl Model for Counter {
@@ -48,7 +47,7 @@ impl Counter {
     pub fn value(&self) -> i128
         ensures { result ≡ sum_of self.now }
     {
-        self.adds.sum()
+        self.adds.amount()
     }
 
     // The counter with one amount more. It shares all entries that it had.
@@ -71,7 +70,7 @@ impl Counter {
     {
         Counter {
             alloc: self.alloc,
-            adds: Adds::new(self.alloc),
+            adds: Live::new(self.alloc),
         }
     }
 }
@@ -93,7 +92,7 @@ impl Mrdt for Counter {
     fn initial(alloc: Global) -> Counter {
         Counter {
             alloc,
-            adds: Adds::new(alloc),
+            adds: Live::new(alloc),
         }
     }
 
@@ -118,7 +117,7 @@ impl Mrdt for Counter {
     fn merge(base: &Counter, left: &Counter, right: &Counter) -> Result<Counter, Memory> {
         Ok(Counter {
             alloc: left.alloc,
-            adds: Adds::merge(&base.adds, &left.adds, &right.adds)?,
+            adds: Live::merge(&base.adds, &left.adds, &right.adds)?,
         })
     }
 
@@ -139,7 +138,7 @@ impl Mrdt for Counter {
     fn get(alloc: Global, bytes: &[u8]) -> Result<Counter, Unread> {
         Ok(Counter {
             alloc,
-            adds: Adds::get(alloc, bytes)?,
+            adds: Live::get(alloc, bytes)?,
         })
     }
 

@@ -2,11 +2,8 @@
 //! counter without resets, which keeps its number alone.
 #![tactic(auto)]
 
-mod adds;
 pub mod counter;
-mod list;
 pub mod sum;
-mod walk;
 
 pub use counter::{Counter, CounterOp, CounterQuery};
 pub use sum::{Sum, SumOp};

@@ -51,7 +51,7 @@ impl Flag {
     pub fn is_on(&self) -> bool
         ensures { result ≡ has_any self.now }
     {
-        !self.enabled.items().is_empty()
+        self.enabled.any()
     }
 
     /// The flag after a Disable that has seen all. It takes no memory.

@@ -67,7 +67,7 @@ impl LogOp {
 // Copies of the entries, the last one first.
 fn newest_first(
     alloc: Global,
-    entries: &[Kept<Shared<Bytes>>],
+    entries: &Live<Shared<Bytes>>,
 ) -> Result<Listing<Kept<Bytes>>, Memory>
     ensures { IfOk result (λ list. list ≡ reverse entries.now) }
 {
@@ -82,7 +82,7 @@ impl Log {
     pub fn length(&self) -> u64
         ensures { result ≡ length self.now }
     {
-        self.entries.items().len() as u64
+        self.entries.len()
     }
 }
 
@@ -119,12 +119,10 @@ impl Mrdt for Log {
     }
 
     fn apply(&self, op: &LogOp, time: Time) -> Result<(Log, ()), Memory> {
-        let mut appended = Live::new(self.alloc);
         let payload = shared_text(self.alloc, op.payload().as_slice())?;
-        appended.add(time, payload)?;
         let log = Log {
             alloc: self.alloc,
-            entries: Live::merge(&Live::new(self.alloc), &self.entries, &appended)?,
+            entries: self.entries.with(time, payload)?,
         };
         Ok((log, ()))
     }
@@ -138,10 +136,7 @@ impl Mrdt for Log {
 
     fn answer(&self, query: &LogQuery) -> Result<LogAnswer, Memory> {
         match query {
-            LogQuery::Read => Ok(LogAnswer::OnEntries(newest_first(
-                self.alloc,
-                self.entries.items(),
-            )?)),
+            LogQuery::Read => Ok(LogAnswer::OnEntries(newest_first(self.alloc, &self.entries)?)),
             LogQuery::Length => Ok(LogAnswer::OnLength(self.length())),
         }
     }

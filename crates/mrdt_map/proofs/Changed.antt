@@ -12,7 +12,6 @@ use Rattle.mrdt_model.specs.Laws.{Meaning, Merges}
 use Rattle.mrdt_map.specs.Keyed.{same_key, value_at, MergesAt}
 use Rattle.mrdt_map.specs.Keys.{same_key-eq, same_key-refl, same_key-sym}
 use Rattle.mrdt_map.specs.AtKeys.{merges-right, merges-both, merges-new}
-use Rattle.mrdt_map.proofs.Rebuilt.{rebuilt-more}
 
 abbrev cmp : List ℕ → List ℕ → Ordering
 cmp = slice_cmp nat_cmp
@@ -66,25 +65,27 @@ module _ {V O R Q A : Type 0} (t : Meaning V O R Q A) (base left right rest more
   to_come : (k : List ℕ) → is_some (value_at more k) ≡ true → value_at merged k ≡ value_at right k
   to_come k some = so_far.still k (ap is_some (others k (above-apart key k more tail.0 some)) ∙ some)
 
-  -- the right side's value stays
-  pub merged-kept : MergesAt t (value_at base key) (Some mine) (value_at right key) (value_at right key) → MergedSoFar t base left right more merged
-  merged-kept made = record {
+  -- what the left side changes at the next key is merged
+  pub merged-next : (new : List (List ℕ × V)) → MergesAt t (value_at base key) (Some mine) (value_at merged key) (value_at new key) → ((k : List ℕ) → same_key key k ≡ false → value_at new k ≡ value_at merged k) → MergedSoFar t base left right more new
+  merged-next new here kept = record {
     values = λ k none. at k none (same_key key k) refl;
-    still = to_come;
+    still = λ k some. kept k (above-apart key k more tail.0 some) ∙ to_come k some;
     sorted = tail.1;
   }
     where
-      at : (k : List ℕ) → value_at more k ≡ None → (p : Bool) → same_key key k ≡ p → MergesAt t (value_at base k) (value_at left k) (value_at right k) (value_at merged k)
-      at k none true e =
-          subst (λ j. MergesAt t (value_at base j) (value_at left j) (value_at right j) (value_at merged j)) (same_key-eq key k e)
-          (subst (λ o. MergesAt t (value_at base key) o (value_at right key) (value_at merged key)) (sym found) (subst (MergesAt t (value_at base key) (Some mine) (value_at right key)) (sym (so_far.still key (ap is_some first))) made))
-      at k none false e = so_far.values k (others k e ∙ none)
+      own : MergesAt t (value_at base key) (value_at left key) (value_at right key) (value_at new key)
+      own =
+          subst (λ o. MergesAt t (value_at base key) o (value_at right key) (value_at new key)) (sym found)
+          (subst (λ o. MergesAt t (value_at base key) (Some mine) o (value_at new key)) (so_far.still key (ap is_some first)) here)
 
-  -- another value takes its place
-  pub merged-changed : (new : List (List ℕ × V)) (value : V) → ((k : List ℕ) → value_at new k ≡ cond (same_key key k) (Some value) (value_at merged k)) → MergesAt t (value_at base key) (Some mine) (value_at right key) (Some value)
-      → MergedSoFar t base left right more new
-  merged-changed new value set made = record {
-    values = rebuilt-more (λ k o. MergesAt t (value_at base k) (value_at left k) (value_at right k) o) rest more key mine merged new value is set (subst (λ o. MergesAt t (value_at base key) o (value_at right key) (Some value)) (sym found) made) so_far.values;
-    still = λ k some. set k ∙ ap (λ p. cond p (Some value) (value_at merged k)) (above-apart key k more tail.0 some) ∙ to_come k some;
-    sorted = tail.1;
-  }
+      at : (k : List ℕ) → value_at more k ≡ None → (p : Bool) → same_key key k ≡ p → MergesAt t (value_at base k) (value_at left k) (value_at right k) (value_at new k)
+      at k none true e = subst (λ j. MergesAt t (value_at base j) (value_at left j) (value_at right j) (value_at new j)) (same_key-eq key k e) own
+      at k none false e = subst (MergesAt t (value_at base k) (value_at left k) (value_at right k)) (sym (kept k e)) (so_far.values k (others k e ∙ none))
+
+-- a value is set at a key
+module _ {V O R Q A : Type 0} (t : Meaning V O R Q A) (key j : List ℕ) (v : V) (both table : List (List ℕ × V)) (set : (k : List ℕ) → value_at table k ≡ cond (same_key j k) (Some v) (value_at both k)) (same : j ≡ key) where
+  pub set-here : (base right : Option V) (left : V) → MergesAt t base (Some left) right (Some v) → MergesAt t base (Some left) right (value_at table key)
+  set-here base right left made = subst (MergesAt t base (Some left) right) (sym (set key ∙ ap (λ q. cond q (Some v) (value_at both key)) (ap (λ i. same_key i key) same ∙ same_key-refl key))) made
+
+  pub set-others : (k : List ℕ) → same_key key k ≡ false → value_at table k ≡ value_at both k
+  set-others k other = set k ∙ ap (λ q. cond q (Some v) (value_at both k)) (ap (λ i. same_key i k) same ∙ other)

@@ -1,4 +1,3 @@
-pub mod Rebuilt
 pub mod Changed
 pub mod OnKeys
 pub mod Writing

@@ -1,17 +1,12 @@
 -- Entries that were read, against the entries that the bytes may spell.
 use Rattle.std.proofs.Common.{◌≡◌, ℕ, suc, ◌+◌, ◌^◌, ◌<◌, ◌≤◌, Bool, true, false, cond, Some, List, [], ◌∷◌, ◌++◌, length, map, refl, ◌∙◌, ap, sym, subst, append_assoc, arith, length-append, Result, Err, IsErrOf}
-use Rattle.std.specs.Bool.{◌==◌}
-use Rattle.std.specs.List.{All, flat_map, AllByRecursion}
-use Rattle.std.proofs.lemmas.List.Elements.{recursion_from_All}
-use Rattle.std.proofs.lemmas.Map.Lookups.{exact_bytes}
+use Rattle.std.specs.List.{flat_map, AllByRecursion}
 use Rattle.std.specs.Map.{keys_of}
-use Rattle.std.specs.BTreeMap.{insert_entry}
 use Rattle.std.specs.declared.cmp.Ordering.{Ordering}
-use Rattle.std.specs.declared.cmp.Ordering.TheVariants.{Less, Equal, Greater}
-use Rattle.std.specs.Ordering.{nat_cmp, is_lt, ordering_index, ordering_reverse, match_ordering}
+use Rattle.std.specs.declared.cmp.Ordering.TheVariants.{Less}
+use Rattle.std.specs.Ordering.{nat_cmp}
 use Rattle.std.specs.Cmp.Lexicographic.{slice_cmp}
 use Rattle.std.specs.List.Sorted.{IsStrictlySortedBy}
-use Rattle.std.proofs.lemmas.Cmp.{nat_list_cmp_total}
 use Rattle.std.proofs.lemmas.List.{append-nil}
 use Rattle.mrdt_model.specs.Laws.{Meaning, StandsAsWell}
 use Rattle.branch_wire.specs.Fields.{number, field}
@@ -20,22 +15,13 @@ use Rattle.branch_wire.proofs.Numbers.{length-field}
 use Rattle.branch_wire.proofs.OneWay.{pairs, fields, PairFits}
 use Rattle.branch_wire.proofs.Lists.{flat_map-front, flat_map-each, flat_map-count, flat_map-push, counted-one_way, length-counted}
 use Rattle.mrdt_map.specs.Keyed.{same_key, value_at, entry_spelling, entries_spelling, as_spelled, IsEntry, AreInOrder, IsEntriesSpelling, CopiesAt, map_meaning}
-use Rattle.mrdt_map.specs.Reading.{IsAbove, as_text, IsTaken, TakesEntry, AreTaken}
-use Rattle.mrdt_map.specs.Keys.{same_key-eq}
+use Rattle.keyed_slots.specs.Slots.{IsAbove}
+use Rattle.mrdt_map.specs.Reading.{as_text, IsTaken, TakesEntry, AreTaken}
 use Rattle.mrdt_map.specs.AtKeys.{copies-some, copies-none}
 use Rattle.mrdt_map.proofs.OnKeys.{copies}
 
 abbrev cmp : List ℕ → List ℕ → Ordering
 cmp = slice_cmp nat_cmp
-
-reversed : (j k : List ℕ) → cmp j k ≡ Less → cmp k j ≡ Greater
-reversed j k h = nat_list_cmp_total.antisymm k j ∙ ap ordering_reverse h
-
--- an entry whose key is above all keys goes behind all entries
-pub insert-behind : {V : Type 0} (es : List (List ℕ × V)) (key : List ℕ) (value : V) → IsAbove key (keys_of es) → insert_entry cmp es key value ≡ es ++ (key, value) ∷ []
-insert-behind [] key value above = refl
-insert-behind (e ∷ es) key value above =
-    ap (λ o. match_ordering o ((key, value) ∷ e ∷ es) ((e.0, value) ∷ es) (e ∷ insert_entry cmp es key value)) (reversed e.0 key above.0) ∙ ap (λ rest. e ∷ rest) (insert-behind es key value above.1)
 
 -- of keys that rise, one that stands behind others is above them
 above-others : (ks js : List (List ℕ)) (k : List ℕ) → IsStrictlySortedBy cmp (ks ++ (k ∷ js)) → IsAbove k ks
@@ -51,39 +37,6 @@ all-weaker : {X : Type 0} (P Q : X → Type 0) (xs : List X) → ((x : X) → P 
 all-weaker P Q [] weaker all = tt
 all-weaker P Q (x ∷ xs) weaker all = (weaker x all.0, all-weaker P Q xs weaker all.1)
 
--- not above the last key, and so below what is above that one
-below-last : (j last key : List ℕ) → is_lt (cmp last j) ≡ false → cmp last key ≡ Less → cmp j key ≡ Less
-below-last j last key up_to above = at (cmp last j) refl up_to
-  where
-    at : (o : Ordering) → cmp last j ≡ o → is_lt o ≡ false → cmp j key ≡ Less
-    at Less is not_less = cc
-    at Equal is not_less = subst (λ k. cmp k key ≡ Less) (exact_bytes last j is) above
-    at Greater is not_less = nat_list_cmp_total.trans j last key (nat_list_cmp_total.antisymm j last ∙ ap ordering_reverse is) above
-
--- what is above the last key is above all keys
-pub above-last : (ks : List (List ℕ)) (last key : List ℕ) → All (λ j. is_lt (cmp last j) ≡ false) ks → cmp last key ≡ Less → IsAbove key ks
-above-last ks last key up_to above = all-weaker (λ j. is_lt (cmp last j) ≡ false) (λ j. cmp j key ≡ Less) ks (λ j not_less. below-last j last key not_less above) (recursion_from_All (λ j. is_lt (cmp last j) ≡ false) ks up_to)
-
--- what holds of each key holds of one that is found
-pub found-key : {V : Type 0} (P : List ℕ → Type 0) (es : List (List ℕ × V)) (k : List ℕ) (value : V) → AllByRecursion P (keys_of es) → value_at es k ≡ Some value → P k
-found-key P [] k value all found = cc
-found-key P (e ∷ es) k value all found = at (same_key k e.0) refl found (found-key P es k value all.1)
-  where
-    at : (p : Bool) → same_key k e.0 ≡ p → cond p (Some e.1) (value_at es k) ≡ Some value → (value_at es k ≡ Some value → P k) → P k
-    at true is here later = subst P (sym (same_key-eq k e.0 is)) all.0
-    at false is there later = later there
-
--- the test that an order is `Less`
-pub less-from_index : (o : Ordering) → (ordering_index o == 0) ≡ true → o ≡ Less
-less-from_index Less h = refl
-less-from_index Equal h = cc
-less-from_index Greater h = cc
-
-pub index-less : (o : Ordering) → o ≡ Less → (ordering_index o == 0) ≡ true
-index-less Less h = refl
-index-less Equal h = cc
-index-less Greater h = cc
-
 all-behind : {X : Type 0} (P : X → Type 0) (xs ys : List X) (y : X) → AllByRecursion P (xs ++ (y ∷ ys)) → P y
 all-behind P [] ys y all = all.0
 all-behind P (x ∷ xs) ys y all = all-behind P xs ys y all.1
@@ -91,6 +44,16 @@ all-behind P (x ∷ xs) ys y all = all-behind P xs ys y all.1
 all-push : {X : Type 0} (P : X → Type 0) (xs : List X) (y : X) → AllByRecursion P xs → P y → AllByRecursion P (xs ++ y ∷ [])
 all-push P [] y all last = (last, tt)
 all-push P (x ∷ xs) y all last = (all.0, all-push P xs y all.1 last)
+
+-- the keys still rise with one above all
+sorted-push : {V : Type 0} (es : List (List ℕ × V)) (e : List ℕ × V) → IsStrictlySortedBy cmp (keys_of es) → IsAbove e.0 (keys_of es) → IsStrictlySortedBy cmp (keys_of (es ++ e ∷ []))
+unfolding IsStrictlySortedBy
+sorted-push {V} [] e s above = (tt, tt)
+sorted-push {V} (x ∷ es) e s above = (above_push es s.0, sorted-push es e s.1 above.1)
+  where
+    above_push : (xs : List (List ℕ × V)) → AllByRecursion (λ j. cmp x.0 j ≡ Less) (keys_of xs) → AllByRecursion (λ j. cmp x.0 j ≡ Less) (keys_of (xs ++ e ∷ []))
+    above_push [] all = (above.0, tt)
+    above_push (y ∷ xs) all = (all.0, above_push xs all.1)
 
 keys-append : {V : Type 0} (es fs : List (List ℕ × V)) → keys_of (es ++ fs) ≡ keys_of es ++ keys_of fs
 keys-append [] fs = refl
@@ -130,12 +93,17 @@ module _ {V O R Q A : Type 0} (t : Meaning V O R Q A) where
   short-texts : (es : List (List ℕ × V)) → AllByRecursion (IsTaken t) es → AllByRecursion AreShort (texts es)
   short-texts es all = all-weaker (IsEntry t.is_state_spelling) AreShort (texts es) (short-entry t.is_state_spelling) (taken-texts es all)
 
+  -- before any entry is taken
+  pub taken-none : (bytes : List ℕ) → AreTaken t bytes 0 bytes []
+  unfolding IsStrictlySortedBy
+  taken-none bytes = record { many = refl; good = tt; ordered = tt; spelled = refl }
+
   -- one more entry is taken
-  pub taken-more : (bytes rest more : List ℕ) (n : ℕ) (es fs : List (List ℕ × V)) → AreTaken t bytes n rest es → TakesEntry t rest es more fs → IsStrictlySortedBy cmp (keys_of fs) → AreTaken t bytes (n + 1) more fs
-  taken-more bytes rest more n es fs so_far next sorted = record {
+  pub taken-more : (bytes rest more : List ℕ) (n : ℕ) (es fs : List (List ℕ × V)) → AreTaken t bytes n rest es → TakesEntry t rest es more fs → AreTaken t bytes (n + 1) more fs
+  taken-more bytes rest more n es fs so_far next = record {
     many = ap length next.entries ∙ length-append es (next.taken ∷ []) ∙ ap (λ m. m + 1) so_far.many;
     good = subst (AllByRecursion (IsTaken t)) (sym next.entries) (all-push (IsTaken t) es next.taken so_far.good next.good);
-    ordered = sorted;
+    ordered = subst (λ (xs : List (List ℕ × V)). IsStrictlySortedBy cmp (keys_of xs)) (sym next.entries) (sorted-push es next.taken so_far.ordered next.above);
     spelled =
         so_far.spelled ∙ ap (λ r. flat_map (entry_spelling t.state_spelling) es ++ r) next.spelled
         ∙ sym (append_assoc (flat_map (entry_spelling t.state_spelling) es) (entry_spelling t.state_spelling next.taken) more)

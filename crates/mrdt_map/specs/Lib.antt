@@ -5,3 +5,4 @@ pub mod OnKeys
 pub mod Touched
 pub mod MapLaws
 pub mod Reading
+pub mod Slots

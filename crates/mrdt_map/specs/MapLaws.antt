@@ -125,7 +125,7 @@ module _ {V O R Q A : Type 0} (t : Meaning V O R Q A) (laws : KeepsLaws t) where
       )
 
   -- where the left side has the base's value, the merge has the right side's
-  left_unchanged-at : (o l r : Option V) → AreSameAt t.is_same o l → MergesAt t o l r r
+  pub left_unchanged-at : (o l r : Option V) → AreSameAt t.is_same o l → MergesAt t o l r r
   left_unchanged-at None None r same = merges-right t None r r (λ y lawful is. is)
   left_unchanged-at None (Some l) r same = absurd same
   left_unchanged-at (Some o) None r same = absurd same

@@ -2,16 +2,12 @@
 use Rattle.std.specs.Prelude.{◌≡◌, ℕ, List, [], ◌∷◌, ◌++◌, length}
 use Rattle.std.specs.List.{AllByRecursion, flat_map}
 use Rattle.std.specs.Map.{keys_of}
-use Rattle.std.specs.declared.cmp.Ordering.TheVariants.{Less}
 use Rattle.std.specs.Ordering.{nat_cmp}
 use Rattle.std.specs.Cmp.Lexicographic.{slice_cmp}
 use Rattle.std.specs.List.Sorted.{IsStrictlySortedBy}
 use Rattle.mrdt_model.specs.Laws.{Meaning, StandsAsWell}
+use Rattle.keyed_slots.specs.Slots.{IsAbove}
 use Rattle.mrdt_map.specs.Keyed.{entry_spelling, IsEntry}
-
--- the key is above all of these
-abbrev pub IsAbove : List ℕ → List (List ℕ) → Type 0
-IsAbove key keys = AllByRecursion (λ j. slice_cmp nat_cmp j key ≡ Less) keys
 
 -- a key, and its value as it is spelled
 abbrev pub as_text : {V : Type 0} → (V → List ℕ) → List ℕ × V → List ℕ × List ℕ

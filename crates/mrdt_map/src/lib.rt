@@ -2,8 +2,10 @@
 //! values' type says over the operations on that key.
 #![tactic(auto)]
 
-mod entries;
+mod inner;
 pub mod map;
-mod spelling;
+mod slot;
+mod table;
+mod tables;
 
 pub use map::{Map, MapAnswer, MapQuery, OnKey};

@@ -1,10 +1,11 @@
 // The map, its operations and its laws.
-use crate::entries::{AtKeys, Table, keys_in_order, set_value, shared};
-use crate::spelling::Entries;
+use crate::table::Table;
+use crate::tables::{
+    answer_on, applied, are_same, keys_in_order, merged, put_entries, table_length, take_entries,
+};
 use branch_wire::{Cursor, put_bytes};
-use mrdt_model::{Bytes, Listing, Memory, Mrdt, Shared, Time, Unread};
+use mrdt_model::{Bytes, Listing, Memory, Mrdt, Time, Unread};
 use std::alloc::Global;
-use std::collections::BTreeMap;
 use std::marker::Model;
 
 /// An operation on the value at a key.
@@ -37,17 +38,17 @@ pub enum MapAnswer<A> {
 /// A value for each key that an operation has touched, also where that value is the initial one. Contracts see
 /// the keys, in byte order, with their values. Copies and merges share the values that they do not change.
 #[derive(Drop)]
-pub struct Map<T> {
+pub struct Map<T: Mrdt> {
     alloc: Global,
     entries: Table<T>,
 }
 
-impl<T> Model for Map<T> {
+impl<T: Mrdt> Model for Map<T> {
     ghost use Rattle.std.specs.Prelude.{List, ℕ};
 
     ghost Value = { List (List ℕ × T) };
 
-    ghost view = { λ m. m.entries.entries };
+    ghost view = { λ m. m.entries };
 }
 
 impl<T: Mrdt> Mrdt for Map<T> {
@@ -67,28 +68,25 @@ impl<T: Mrdt> Mrdt for Map<T> {
     fn initial(alloc: Global) -> Map<T> {
         Map {
             alloc,
-            entries: BTreeMap::new(alloc),
+            entries: Table::new(alloc),
         }
     }
 
     fn copy(&self) -> Result<Map<T>, Memory> {
         Ok(Map {
             alloc: self.alloc,
-            entries: shared(&self.entries)?,
+            entries: self.entries.copy()?,
         })
     }
 
     fn same(&self, other: &Map<T>) -> bool {
-        T::are_same(&self.entries, &other.entries)
+        are_same(&self.entries, &other.entries)
     }
 
     fn apply(&self, op: &OnKey<T::Op>, time: Time) -> Result<(Map<T>, T::Reply), Memory> {
         let _bytes = op.key.as_slice();
         let alloc = self.alloc;
-        let key = Shared::new(alloc, op.key.copy()?)?;
-        let (value, reply) = T::apply_at(alloc, self.entries.get(&key), &op.operation, time)?;
-        let mut entries = shared(&self.entries)?;
-        set_value(&mut entries, key, Shared::new(alloc, value)?)?;
+        let (entries, reply) = applied(alloc, &self.entries, &op.key, &op.operation, time)?;
         Ok((Map { alloc, entries }, reply))
     }
 
@@ -101,32 +99,31 @@ impl<T: Mrdt> Mrdt for Map<T> {
         }
         Ok(Map {
             alloc: left.alloc,
-            entries: T::merged(left.alloc, &base.entries, &left.entries, &right.entries)?,
+            entries: merged(left.alloc, &base.entries, &left.entries, &right.entries)?,
         })
     }
 
     fn answer(&self, query: &MapQuery<T::Query>) -> Result<MapAnswer<T::Answer>, Memory> {
         match query {
             MapQuery::AtKey(key, query) => {
-                let key = Shared::new(self.alloc, key.copy()?)?;
-                Ok(MapAnswer::OnValue(T::answer_at(self.alloc, self.entries.get(&key), query)?))
+                Ok(MapAnswer::OnValue(answer_on(self.alloc, &self.entries, key, query)?))
             }
             MapQuery::Keys => Ok(MapAnswer::OnKeys(keys_in_order(self.alloc, &self.entries)?)),
         }
     }
 
     fn put(&self, out: &mut Vec<u8>) -> Result<(), Memory> {
-        T::put_entries(self.alloc, &self.entries, out)
+        put_entries(self.alloc, &self.entries, out)
     }
 
     fn spelled_length(&self) -> u64 {
-        T::table_length(&self.entries)
+        table_length(&self.entries)
     }
 
     fn get(alloc: Global, bytes: &[u8]) -> Result<Map<T>, Unread> {
         let mut cursor = Cursor::new(bytes);
         let count = cursor.take_u64()?;
-        let entries = T::take_entries(alloc, &mut cursor, count)?;
+        let entries = take_entries(alloc, &mut cursor, count)?;
         if cursor.is_at_end() {
             Ok(Map { alloc, entries })
         } else {

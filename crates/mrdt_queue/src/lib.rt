@@ -4,7 +4,6 @@
 //! their merge.
 #![tactic(auto)]
 
-mod entries;
 pub mod op;
 pub mod queue;
 mod spelling;

@@ -2,7 +2,7 @@
 ghost use Rattle.std.specs.Prelude.{◌≡◌, map, IfOk};
 
 use crate::op::RegisterOp;
-use live_set::{Kept, Live, unit_reply, whole_text};
+use live_set::{Live, unit_reply, whole_text};
 use mrdt_model::{Bytes, Listing, Memory, Mrdt, Shared, Time, Unread};
 use std::alloc::Global;
 use std::marker::Model;
@@ -32,12 +32,15 @@ pub enum MultiQuery {
 }
 
 // The payloads of entries, copied.
-fn payloads(alloc: Global, entries: &[Kept<Shared<Bytes>>]) -> Result<Listing<Bytes>, Memory>
-    ensures { IfOk result (λ list. list ≡ map (λ k. k.payload) entries.now) }
+#[tactic(auto, using(live_set::proofs::Sharing::first_is, live_set::proofs::Sharing::first_not, live_set::proofs::Sharing::walk_shorter))]
+fn payloads(alloc: Global, live: &Live<Shared<Bytes>>) -> Result<Listing<Bytes>, Memory>
+    ensures { IfOk result (λ list. list ≡ map (λ k. k.payload) live.now) }
 {
     let mut list = Vec::new(alloc);
-    for kept in entries {
+    let mut ahead = live.walk();
+    while let Some(kept) = ahead.first() {
         list.push(kept.payload.get().copy()?)?;
+        ahead.skip();
     }
     Ok(Listing::from_vec(list))
 }
@@ -94,7 +97,7 @@ impl Mrdt for Multi {
 
     fn answer(&self, query: &MultiQuery) -> Result<Listing<Bytes>, Memory> {
         match query {
-            MultiQuery::Values => Ok(payloads(self.alloc, self.live.items())?),
+            MultiQuery::Values => Ok(payloads(self.alloc, &self.live)?),
         }
     }
 

@@ -1,8 +1,9 @@
 pub mod Preorder
-pub mod Steps
 pub mod Spelled
 pub mod Paths
 pub mod NodesRead
 pub mod Rising
 pub mod Sorted
-pub mod Chunked
+pub mod Walks
+pub mod Items
+pub mod Weaving

@@ -105,10 +105,10 @@ length-marked d [] = refl
 length-marked d (n ∷ ns) = ap suc (length-marked d ns)
 
 -- all times differ
-other_time : (s t : Time) → same_time s t ≡ false → same_time t s ≡ false
+pub other_time : (s t : Time) → same_time s t ≡ false → same_time t s ≡ false
 other_time s t h = false_from_ne_true (same_time t s) (λ e. both_ways (same_time s t) h (subst (λ u. same_time u t ≡ true) (same_time-eq t s e) (same_time-refl t)))
 
-neither : (p q : Bool) → (p || q) ≡ false → (p ≡ false) × (q ≡ false)
+pub neither : (p q : Bool) → (p || q) ≡ false → (p ≡ false) × (q ≡ false)
 neither false q h = (refl, h)
 neither true q h = cc
 
@@ -198,6 +198,10 @@ fits (n ∷ ns) known bare short =
       fits ns known.1 bare.1 (omega (arith, size, short)),
     )
 
+-- the times of an execution's nodes differ
+pub nodes-different : (x : Events) → IsWellFormed IsOp IsReply x → AreDifferent (node_times (nodes x))
+nodes-different x w = subst AreDifferent (sym (marked-times (is_deleted x) (order x))) (order-different x w)
+
 -- the nodes of an execution are in the grammar where they are not too long
 pub nodes-inside : (x : Events) → IsWellFormed IsOp IsReply x → IsFaithful sequence_reply x → length x < 2 ^ 32 → length (sequence_spelling (nodes x)) < 2 ^ 64 → AreNodes (nodes x)
 nodes-inside x w faithful few short =
@@ -208,6 +212,6 @@ nodes-inside x w faithful few short =
     record {
       few = omega (arith, count, fewer, few);
       each = fits (nodes x) (marked-known d (order x) (order-known x w)) (marked-bare d (order x)) (omega (arith, size, short));
-      different = subst AreDifferent (sym (marked-times d (order x))) (order-different x w);
+      different = nodes-different x w;
       ordered = marked-ordered d [] (order x) (order-ordered x w faithful);
     }

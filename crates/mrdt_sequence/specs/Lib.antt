@@ -1,4 +1,4 @@
-pub mod Chunks
+pub mod Places
 pub mod Order
 pub mod Sequence
 pub mod Edits

@@ -41,7 +41,7 @@ fn is_same_place(mine: &Node, theirs: &Node) -> bool
 }
 
 // Whether two nodes are equal. Those whose spellings stand at the front of the same bytes are.
-fn is_same_node(mine: &Node, theirs: &Node) -> bool
+pub(crate) fn is_same_node(mine: &Node, theirs: &Node) -> bool
     ensures same { IsTrue result ↔ (mine.now ≡ theirs.now) }
     ensures spelled { (a b : List ℕ) → node_spelling mine.now ++ a ≡ node_spelling theirs.now ++ b
         → mine.now ≡ theirs.now }

@@ -1,41 +1,36 @@
 // The nodes of a sequence.
-ghost use Rattle.std.specs.Prelude.{◌≡◌, ◌++◌, ◌∷◌, [], Some, take, drop, length, IfOk, OnOk, OnErr};
-ghost use Rattle.std.specs.List.{flat_map};
+ghost use Rattle.std.specs.Prelude.{◌≡◌, ◌+◌, ◌<◌, ◌≤◌, ◌++◌, ◌∷◌, [], Some, take, drop, length, slice_get, IfOk, OnOk, OnErr};
 ghost use Rattle.mrdt_model.specs.Spelled.{AppendsPart, capped};
-ghost use Rattle.mrdt_sequence.specs.Chunks.{all_of, end_to_end};
-ghost use Rattle.mrdt_sequence.specs.Order.{insert_behind, woven};
-ghost use Rattle.mrdt_sequence.specs.Sequence.{hide_at, node_spelling, sequence_spelling};
+ghost use Rattle.mrdt_sequence.specs.Edits.{StartsAt, StandsFrom, WeavesNext};
+ghost use Rattle.mrdt_sequence.specs.Order.{AreDifferent, insert_behind, joined, woven};
+ghost use Rattle.mrdt_sequence.specs.Places.{IsItem};
+ghost use Rattle.mrdt_sequence.specs.Sequence.{new_node, hide_at, items_of, first_time, last_time, node_times, sequence_spelling};
 
-use crate::chunk::{Chunk, Walk};
-use crate::edit::{copy_of, has_time, hidden_copy, next, place_of};
+use crate::compare::{is_same_node, is_same_time};
+use crate::edit::{bare_copy, newer_in_front};
 use crate::node::Node;
+use crate::spelling::put_node;
+use crate::walk::Walk;
 use branch_wire::put_u64;
-use mrdt_model::{Memory, Shared, Time};
+use mrdt_model::{Bytes, Memory, Shared, Time};
+use shared_list::{Entry, SharedList, from_vec};
 use std::alloc::Global;
 use std::marker::Model;
-use std::mem;
 
-// How many nodes a chunk has at most.
-const MOST: usize = 64;
-
-/// Nodes in an order. Contracts see their list.
+/// Nodes in an order, in a list whose versions share what they have in common. Contracts see their list.
 #[derive(Drop)]
 pub(crate) struct Nodes {
     alloc: Global,
-    count: usize,
-    chunks: Vec<Shared<Chunk>>,
+    list: SharedList<Node>,
 }
 
 impl Model for Nodes {
-    ghost use Rattle.std.specs.Prelude.{◌≡◌, List, length};
+    ghost use Rattle.std.specs.Prelude.{List};
     ghost use Rattle.mrdt_sequence.specs.declared.node.Node.{Node};
-    ghost use Rattle.mrdt_sequence.specs.Chunks.{end_to_end};
 
     ghost Value = { List Node };
 
-    ghost view = { λ n. end_to_end n.chunks.items };
-
-    ghost invariant = { λ n. n.count ≡ length (end_to_end n.chunks.items) };
+    ghost view = { λ n. n.list };
 }
 
 impl Nodes {
@@ -45,18 +40,18 @@ impl Nodes {
     {
         Nodes {
             alloc,
-            count: 0,
-            chunks: Vec::new(alloc),
+            list: SharedList::new(alloc),
         }
     }
 
     // These nodes.
-    pub(crate) fn of(alloc: Global, nodes: &[Node]) -> Result<Nodes, Memory>
-        ensures { IfOk result (λ made. made ≡ nodes.now) }
+    pub(crate) fn of(alloc: Global, nodes: Vec<Node>) -> Result<Nodes, Memory>
+        ensures { IfOk result (λ made. made ≡ nodes.items) }
     {
-        let mut made = Builder::new(alloc, MOST, nodes.len() / MOST + 1)?;
-        made.push_copies(nodes)?;
-        made.finish()
+        Ok(Nodes {
+            alloc,
+            list: from_vec(alloc, nodes)?,
+        })
     }
 
     // The allocator that they lie in.
@@ -65,296 +60,212 @@ impl Nodes {
     }
 
     // How many there are.
-    pub(crate) fn len(&self) -> usize
+    pub(crate) fn len(&self) -> u64
         ensures { result ≡ length self.now }
     {
-        self.count
+        self.list.len()
+    }
+
+    // How many of them are items.
+    pub(crate) fn count(&self) -> u64
+        ensures { result ≡ length (items_of self.now) }
+    {
+        let _count = self.list.len();
+        self.list.amount() as u64
     }
 
     // A walk over all.
     pub(crate) fn walk<'a>(&'a self) -> Walk<'a>
         ensures { result ≡ self.now }
     {
-        Walk::over(&self.chunks)
+        Walk::over(&self.list, 0)
     }
 
-    // The same nodes, in chunks that both share.
+    // The same nodes, which both share. It takes no memory.
     pub(crate) fn shared(&self) -> Result<Nodes, Memory>
         ensures { IfOk result (λ made. made ≡ self.now) }
     {
-        let mut made = Builder::new(self.alloc, MOST, self.chunks.len())?;
-        made.share_all(&self.chunks)?;
-        made.finish()
+        Ok(Nodes {
+            alloc: self.alloc,
+            list: self.list.copy()?,
+        })
     }
 
-    // The nodes with a new one behind so many.
-    fn with(&self, place: usize, node: Node) -> Result<Nodes, Memory>
-        ensures { IfOk result (λ made. made ≡ take place self.now ++ (node ∷ drop place self.now)) }
+    // The place of the item behind this many.
+    #[tactic(auto, using(crate::proofs::Items::living_rises, crate::proofs::Items::living_sum, crate::proofs::Items::is_item))]
+    fn place_of(&self, index: u64) -> u64
+        requires { index < length (items_of self.now) }
+        ensures { IsItem self.now index result }
     {
-        let (front, before, after, behind) = split(&self.chunks, place);
-        let mut made = Builder::new(self.alloc, most_for(before, after), self.chunks.len())?;
-        made.share_all(front)?;
-        made.push_copies(before)?;
-        made.push(node)?;
-        made.push_copies(after)?;
-        made.share_all(behind)?;
-        made.finish()
+        self.list.find_by_amount(i128::from(index))
     }
 
-    // The nodes with a new one behind its parent.
-    pub(crate) fn inserted(&self, node: Node) -> Result<Nodes, Memory>
-        ensures { IfOk result (λ made. made ≡ insert_behind node.parent node self.now) }
+    // The last of this many items, or of all where there are fewer: behind how many nodes it ends, and its time.
+    #[tactic(auto, using(crate::proofs::Items::parent_none, crate::proofs::Items::parent_some, crate::proofs::Items::starts_none, crate::proofs::Items::starts_some, crate::proofs::Items::item_within))]
+    fn parent_at(&self, index: u64) -> (u64, Option<Time>)
+        ensures starts { StartsAt result.1 self.now result.0 }
+        ensures last { result.1 ≡ last_time None (take index (items_of self.now)) }
     {
-        match place_of(self, node.parent, node.time) {
-            Some(place) => self.with(place, node),
-            None => self.shared(),
+        let _nodes = self.len();
+        let count = self.count();
+        let last = index.min(count);
+        if last == 0 {
+            return (0, None);
         }
+        let place = self.place_of(last - 1);
+        (place + 1, Some(self.list.get(place).time))
     }
 
-    // The nodes where the one at this time, if any, is hidden.
-    pub(crate) fn hidden_at(&self, time: Option<Time>) -> Result<Nodes, Memory>
-        ensures { IfOk result (λ made. made ≡ hide_at time self.now) }
+    // The nodes with a new one behind this many items, and the time of its parent.
+    #[tactic(auto, using(crate::proofs::Items::inserts_within, crate::proofs::Items::inserts_at))]
+    pub(crate) fn inserted(
+        &self,
+        index: u32,
+        time: Time,
+        payload: Shared<Bytes>,
+    ) -> Result<(Nodes, Option<Time>), Memory>
+        ensures nodes { IfOk result (λ made. AreDifferent (node_times self.now)
+            → made.0 ≡ insert_behind made.1 (new_node time made.1 payload) self.now) }
+        ensures last { IfOk result (λ made.
+            made.1 ≡ last_time None (take index (items_of self.now))) }
     {
-        match time {
-            Some(time) => {
-                let mut made = Builder::new(self.alloc, MOST, self.chunks.len())?;
-                made.share_all_hidden(&self.chunks, time)?;
-                made.finish()
+        let _count = self.list.len();
+        let (from, parent) = self.parent_at(u64::from(index));
+        let mut ahead = Walk::over(&self.list, from);
+        let place = from + newer_in_front(&mut ahead, time);
+        let node = Node {
+            time,
+            parent,
+            hidden: false,
+            payload,
+        };
+        let nodes = Nodes {
+            alloc: self.alloc,
+            list: self.list.insert(place, node)?,
+        };
+        Ok((nodes, parent))
+    }
+
+    // The nodes where the item behind this many, if there is one, is hidden, and its time.
+    #[tactic(auto, using(crate::proofs::Items::first_none, crate::proofs::Items::first_item, crate::proofs::Items::hides_item, crate::proofs::Items::item_within))]
+    pub(crate) fn deleted(&self, index: u32) -> Result<(Nodes, Option<Time>), Memory>
+        ensures nodes { IfOk result (λ made. AreDifferent (node_times self.now)
+            → made.0 ≡ hide_at made.1 self.now) }
+        ensures first { IfOk result (λ made.
+            made.1 ≡ first_time (drop index (items_of self.now))) }
+    {
+        if u64::from(index) >= self.count() {
+            return Ok((self.shared()?, None));
+        }
+        let place = self.place_of(u64::from(index));
+        let node = self.list.get(place);
+        let nodes = Nodes {
+            alloc: self.alloc,
+            list: self.list.replace(place, bare_copy(self.alloc, node)?)?,
+        };
+        Ok((nodes, Some(node.time)))
+    }
+
+    // Puts the same node at a place.
+    fn add_at(&mut self, place: u64, node: &Node) -> Result<(), Memory>
+        requires { place ≤ length self.old }
+        ensures { OnOk result (self.new ≡ take place self.old ++ node.now ∷ drop place self.old) }
+    {
+        let list = self.list.insert(place, node.copy()?)?;
+        self.list = list;
+        Ok(())
+    }
+
+    // Leaves at a place what two nodes of one time are together.
+    #[tactic(auto, using(crate::proofs::Weaving::joined_hidden, crate::proofs::Weaving::joined_same, crate::proofs::Weaving::joined_other, crate::proofs::Items::within_of))]
+    fn join_at(&mut self, place: u64, node: &Node, other: &Node) -> Result<(), Memory>
+        requires { slice_get self.old place ≡ Some node.now }
+        ensures { OnOk result (self.new
+            ≡ take place self.old ++ joined node.now other.now ∷ drop (place + 1) self.old) }
+    {
+        let _count = self.list.len();
+        if node.hidden {
+            return Ok(());
+        }
+        if is_same_node(node, other) {
+            return Ok(());
+        }
+        let list = self.list.replace(place, other.copy()?)?;
+        self.list = list;
+        Ok(())
+    }
+
+    // Weaves the first node ahead of two lists into this one, where the left ones stand from a place on.
+    #[tactic(auto, using(crate::proofs::Weaving::weaves_joined, crate::proofs::Weaving::weaves_added, crate::proofs::Weaving::weaves_kept, crate::proofs::Weaving::weaves_last, crate::proofs::Weaving::stands_there))]
+    fn weave_next(
+        &mut self,
+        place: u64,
+        mine: &mut Walk<'_>,
+        others: &mut Walk<'_>,
+    ) -> Result<(), Memory>
+        requires here { StandsFrom place self.old mine.old }
+        requires some { ¬ (others.old ≡ []) }
+        ensures { OnOk result (WeavesNext place self.old mine.old others.old self.new mine.new
+            others.new) }
+    {
+        match (mine.first(), others.first()) {
+            (Some(node), Some(other)) => {
+                if is_same_time(node.time, other.time) {
+                    self.join_at(place, node, other)?;
+                    mine.skip();
+                    others.skip();
+                } else if node.time.is_before(other.time) {
+                    self.add_at(place, other)?;
+                    others.skip();
+                } else {
+                    mine.skip();
+                }
             }
-            None => self.shared(),
+            (None, Some(other)) => {
+                self.add_at(place, other)?;
+                others.skip();
+            }
+            (_, None) => unreachable!(),
         }
+        Ok(())
     }
 
-    // Both lists of nodes, woven.
-    pub(crate) fn woven<'a>(left: &'a Nodes, right: &'a Nodes) -> Result<Nodes, Memory>
+    // Both lists of nodes, woven: the left one, with what the right one has more. It takes memory for that alone.
+    #[tactic(auto, using(crate::proofs::Weaving::woven_start, crate::proofs::Weaving::woven_from, crate::proofs::Weaving::woven_more, crate::proofs::Weaving::woven_room, crate::proofs::Weaving::woven_end))]
+    pub(crate) fn woven(left: &Nodes, right: &Nodes) -> Result<Nodes, Memory>
         ensures { IfOk result (λ made. made ≡ woven left.now right.now) }
     {
+        let mut made = left.shared()?;
         let mut mine = left.walk();
         let mut others = right.walk();
-        let mut made = Builder::new(left.alloc(), MOST, left.len() / MOST + 1)?;
-        while let Some(node) = next(&mut mine, &mut others) {
-            let copy = copy_of(node)?;
-            made.push(copy)?;
+        let mut place = 0;
+        while !others.is_at_end() {
+            made.weave_next(place, &mut mine, &mut others)?;
+            let _count = made.len();
+            place += 1;
         }
-        made.finish()
+        Ok(made)
     }
 
     // Writes the number of the nodes, and the nodes in order.
+    #[tactic(auto, using(crate::proofs::Walks::put_more, crate::proofs::Walks::put_part, crate::proofs::Walks::put_end))]
     pub(crate) fn put(&self, out: &mut Vec<u8>) -> Result<(), Memory>
         ensures ok { OnOk result (out.new.items ≡ out.old.items ++ sequence_spelling self.now) }
         ensures err { OnErr result
             (AppendsPart out.old.items out.new.items (sequence_spelling self.now)) }
     {
-        out.reserve(text_len(&self.chunks))?;
-        put_u64(self.count as u64, out)?;
-        put_chunks(&self.chunks, out)
+        put_u64(self.len(), out)?;
+        let mut ahead = self.walk();
+        while let Some(node) = ahead.next() {
+            put_node(node, out)?;
+        }
+        Ok(())
     }
 
     // How many bytes that has, or 2^64 - 1 where it has more. It takes no memory.
     pub(crate) fn spelled_length(&self) -> u64
         ensures { result ≡ capped (length (sequence_spelling self.now)) }
     {
-        text_len(&self.chunks) as u64
-    }
-}
-
-// Writes the nodes of chunks.
-fn put_chunks(chunks: &[Shared<Chunk>], out: &mut Vec<u8>) -> Result<(), Memory>
-    ensures ok { OnOk result (out.new.items
-        ≡ out.old.items ++ flat_map node_spelling (end_to_end chunks.now)) }
-    ensures err { OnErr result (AppendsPart out.old.items out.new.items
-        (flat_map node_spelling (end_to_end chunks.now))) }
-{
-    for chunk in chunks {
-        chunk.get().put(out)?;
-    }
-    Ok(())
-}
-
-// How many bytes the chunks and the number of their nodes take, or the greatest number where they take more.
-fn text_len(chunks: &[Shared<Chunk>]) -> usize
-    ensures { result ≡ capped (length (sequence_spelling (end_to_end chunks.now))) }
-{
-    let mut len: usize = 8;
-    for chunk in chunks {
-        len = len.saturating_add(chunk.get().text_len());
-    }
-    len
-}
-
-// How many nodes the chunks have.
-fn nodes_in(chunks: &[Shared<Chunk>]) -> Result<usize, Memory>
-    ensures { IfOk result (λ count. count ≡ length (end_to_end chunks.now)) }
-{
-    let mut count: usize = 0;
-    for chunk in chunks {
-        count = match count.checked_add(chunk.get().nodes().len()) {
-            Some(more) => more,
-            None => return Err(Memory),
-        };
-    }
-    Ok(count)
-}
-
-// The chunks behind which so many nodes end, the nodes before and after that place in the next chunk, and the chunks
-// behind that one.
-fn split<'a>(
-    chunks: &'a [Shared<Chunk>],
-    place: usize,
-) -> (
-    &'a [Shared<Chunk>],
-    &'a [Node],
-    &'a [Node],
-    &'a [Shared<Chunk>],
-)
-    ensures before { end_to_end result.0.now ++ result.1.now ≡ take place (end_to_end chunks.now) }
-    ensures after { result.2.now ++ end_to_end result.3.now ≡ drop place (end_to_end chunks.now) }
-{
-    let mut left = place;
-    for index in 0..chunks.len() {
-        let nodes = chunks[index].get().nodes();
-        if left <= nodes.len() {
-            let (before, after) = nodes.split_at(left);
-            return (&chunks[..index], before, after, &chunks[index + 1..]);
-        }
-        left -= nodes.len();
-    }
-    (chunks, &[], &[], &[])
-}
-
-// How many nodes a chunk is to have at most, so that these and one more are one chunk where they can, or else two alike.
-fn most_for(before: &[Node], after: &[Node]) -> usize {
-    if before.len().saturating_add(after.len()) < MOST {
-        MOST
-    } else {
-        MOST / 2 + 1
-    }
-}
-
-// Nodes that are put one behind another.
-#[derive(Drop)]
-struct Builder {
-    alloc: Global,
-    // how many nodes a new chunk has at most
-    most: usize,
-    chunks: Vec<Shared<Chunk>>,
-    // what comes behind these, in no chunk yet
-    nodes: Vec<Node>,
-}
-
-impl Builder {
-    // No nodes yet, and room for so many chunks.
-    fn new(alloc: Global, most: usize, room: usize) -> Result<Builder, Memory>
-        ensures chunks { IfOk result (λ made. made.chunks.items ≡ []) }
-        ensures nodes { IfOk result (λ made. made.nodes.items ≡ []) }
-    {
-        let mut chunks = Vec::new(alloc);
-        chunks.reserve(room)?;
-        Ok(Builder {
-            alloc,
-            most,
-            chunks,
-            nodes: Vec::new(alloc),
-        })
-    }
-
-    // Makes a chunk of the nodes that are in none.
-    #[tactic(auto, using(crate::proofs::Chunked::end_push))]
-    fn close(&mut self) -> Result<(), Memory>
-        ensures same { OnOk result (end_to_end self.new.chunks.items
-            ≡ all_of self.old.chunks.items self.old.nodes.items) }
-        ensures closed { OnOk result (self.new.nodes.items ≡ []) }
-    {
-        if self.nodes.is_empty() {
-            return Ok(());
-        }
-        let nodes = mem::replace(&mut self.nodes, Vec::new(self.alloc));
-        let chunk = Chunk::of(self.alloc, nodes)?;
-        self.chunks.push(Shared::new(self.alloc, chunk)?)?;
-        Ok(())
-    }
-
-    // Puts a node behind the others.
-    fn push(&mut self, node: Node) -> Result<(), Memory>
-        ensures { OnOk result (all_of self.new.chunks.items self.new.nodes.items
-            ≡ all_of self.old.chunks.items self.old.nodes.items ++ node ∷ []) }
-    {
-        self.nodes.push(node)?;
-        if self.nodes.len() >= self.most {
-            self.close()?;
-        }
-        Ok(())
-    }
-
-    // Puts copies of nodes behind the others.
-    fn push_copies(&mut self, nodes: &[Node]) -> Result<(), Memory>
-        ensures { OnOk result (all_of self.new.chunks.items self.new.nodes.items
-            ≡ all_of self.old.chunks.items self.old.nodes.items ++ nodes.now) }
-    {
-        for node in nodes {
-            self.push(copy_of(node)?)?;
-        }
-        Ok(())
-    }
-
-    // Puts a chunk behind the others, and shares it.
-    fn share(&mut self, chunk: &Shared<Chunk>) -> Result<(), Memory>
-        ensures { OnOk result (all_of self.new.chunks.items self.new.nodes.items
-            ≡ all_of self.old.chunks.items self.old.nodes.items ++ chunk.now) }
-    {
-        self.close()?;
-        self.chunks.push(chunk.copy()?)?;
-        Ok(())
-    }
-
-    // Puts chunks behind the others, and shares them.
-    fn share_all(&mut self, chunks: &[Shared<Chunk>]) -> Result<(), Memory>
-        ensures { OnOk result (all_of self.new.chunks.items self.new.nodes.items
-            ≡ all_of self.old.chunks.items self.old.nodes.items ++ end_to_end chunks.now) }
-    {
-        for chunk in chunks {
-            self.share(chunk)?;
-        }
-        Ok(())
-    }
-
-    // Puts a chunk behind the others, where the node at a time is hidden; shares it where it has none.
-    fn share_hidden(&mut self, chunk: &Shared<Chunk>, time: Time) -> Result<(), Memory>
-        ensures { OnOk result (all_of self.new.chunks.items self.new.nodes.items
-            ≡ all_of self.old.chunks.items self.old.nodes.items ++ hide_at (Some time) chunk.now) }
-    {
-        let nodes = chunk.get().nodes();
-        if !has_time(nodes, time) {
-            return self.share(chunk);
-        }
-        for node in nodes {
-            self.push(hidden_copy(self.alloc, node, time)?)?;
-        }
-        Ok(())
-    }
-
-    // Puts chunks behind the others, where the node at a time is hidden.
-    fn share_all_hidden(&mut self, chunks: &[Shared<Chunk>], time: Time) -> Result<(), Memory>
-        ensures { OnOk result (all_of self.new.chunks.items self.new.nodes.items
-            ≡ all_of self.old.chunks.items self.old.nodes.items
-            ++ hide_at (Some time) (end_to_end chunks.now)) }
-    {
-        for chunk in chunks {
-            self.share_hidden(chunk, time)?;
-        }
-        Ok(())
-    }
-
-    // All of the nodes.
-    fn finish(mut self) -> Result<Nodes, Memory>
-        ensures { IfOk result (λ made. made ≡ all_of self.chunks.items self.nodes.items) }
-    {
-        self.close()?;
-        let count = nodes_in(&self.chunks)?;
-        Ok(Nodes {
-            alloc: self.alloc,
-            count,
-            chunks: self.chunks,
-        })
+        self.list.weight().saturating_add(8)
     }
 }

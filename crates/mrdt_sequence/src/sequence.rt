@@ -1,11 +1,10 @@
 // The sequence and its laws.
 ghost use Rattle.std.specs.Prelude.{◌≡◌, length, IfOk};
-ghost use Rattle.mrdt_sequence.specs.Order.{woven};
-ghost use Rattle.mrdt_sequence.specs.Sequence.{items_of, nodes_behind, reply_at, answer_at};
+ghost use Rattle.mrdt_sequence.specs.Order.{AreDifferent, woven};
+ghost use Rattle.mrdt_sequence.specs.Sequence.{items_of, node_times, nodes_behind, reply_at, answer_at};
 
 use crate::compare::are_same;
-use crate::edit::{count_of, first_behind, items, last_of};
-use crate::node::Node;
+use crate::edit::items;
 use crate::nodes::Nodes;
 use crate::op::{SequenceAnswer, SequenceOp, SequenceQuery};
 use crate::reading::get_nodes;
@@ -35,7 +34,7 @@ impl Sequence {
     pub fn length(&self) -> u64
         ensures { result ≡ length (items_of self.now) }
     {
-        count_of(&self.nodes)
+        self.nodes.count()
     }
 
     // A sequence of the same nodes, with payloads that both share.
@@ -47,30 +46,20 @@ impl Sequence {
         })
     }
 
-    // What an operation replies.
-    fn reply(&self, op: &SequenceOp) -> Option<Time>
-        ensures value { result ≡ reply_at self.now op.now }
+    // The sequence behind an operation, and what the operation replies.
+    fn behind(&self, op: &SequenceOp, time: Time) -> Result<(Sequence, Option<Time>), Memory>
+        ensures nodes { IfOk result (λ made. AreDifferent (node_times self.now)
+            → made.0 ≡ nodes_behind time op.now made.1 self.now) }
+        ensures reply { IfOk result (λ made. made.1 ≡ reply_at self.now op.now) }
     {
-        match op {
-            SequenceOp::Insert(place, _) => last_of(&self.nodes, *place),
-            SequenceOp::Delete(place) => first_behind(&self.nodes, *place),
-        }
-    }
-
-    // The sequence behind an operation with this reply.
-    fn behind(&self, op: &SequenceOp, time: Time, reply: Option<Time>) -> Result<Sequence, Memory>
-        ensures { IfOk result (λ made. made ≡ nodes_behind time op.now reply self.now) }
-    {
-        let nodes = match op {
-            SequenceOp::Insert(_, payload) => self.nodes.inserted(Node {
-                time,
-                parent: reply,
-                hidden: false,
-                payload: shared_text(self.nodes.alloc(), payload.as_slice())?,
-            })?,
-            SequenceOp::Delete(_) => self.nodes.hidden_at(reply)?,
+        let (nodes, reply) = match op {
+            SequenceOp::Insert(place, payload) => {
+                let shared = shared_text(self.nodes.alloc(), payload.as_slice())?;
+                self.nodes.inserted(*place, time, shared)?
+            }
+            SequenceOp::Delete(place) => self.nodes.deleted(*place)?,
         };
-        Ok(Sequence { nodes })
+        Ok((Sequence { nodes }, reply))
     }
 
     // Two sequences, woven.
@@ -127,8 +116,8 @@ impl Mrdt for Sequence {
 
     fn apply(&self, op: &SequenceOp, time: Time) -> Result<(Sequence, Option<Time>), Memory> {
         op.known();
-        let reply = self.reply(op);
-        Ok((self.behind(op, time, reply)?, reply))
+        let (made, reply) = self.behind(op, time)?;
+        Ok((made, reply))
     }
 
     fn merge(_base: &Sequence, left: &Sequence, right: &Sequence) -> Result<Sequence, Memory> {
@@ -149,7 +138,7 @@ impl Mrdt for Sequence {
 
     fn get(alloc: Global, bytes: &[u8]) -> Result<Sequence, Unread> {
         Ok(Sequence {
-            nodes: Nodes::of(alloc, &get_nodes(alloc, bytes)?)?,
+            nodes: Nodes::of(alloc, get_nodes(alloc, bytes)?)?,
         })
     }
 

@@ -1,7 +1,6 @@
 // How sequences, operations and replies are spelled.
-ghost use Rattle.std.specs.Prelude.{◌≡◌, ◌++◌, ◌∷◌, Option, List, ℕ, IfOk, OnOk, OnErr, IsErrOf};
-ghost use Rattle.std.specs.List.{flat_map};
-ghost use Rattle.mrdt_model.specs.Spelled.{AppendsPart};
+ghost use Rattle.std.specs.Prelude.{◌≡◌, ◌≤◌, ◌++◌, ◌∷◌, Option, List, ℕ, length, IfOk, OnOk, OnErr, IsErrOf};
+ghost use Rattle.mrdt_model.specs.Spelled.{AppendsPart, capped};
 ghost use Rattle.mrdt_model.specs.declared.time.Time.{Time as SpecTime};
 ghost use Rattle.branch_wire.specs.Fields.{field};
 ghost use Rattle.mrdt_sequence.specs.declared.op.SequenceOp.{SequenceOp as SpecOp};
@@ -10,7 +9,7 @@ ghost use Rattle.mrdt_sequence.specs.Sequence.{IsOp, IsReply, named_time, hidden
 use crate::node::Node;
 use crate::op::SequenceOp;
 use branch_wire::{Cursor, put_bytes, put_time, put_u32};
-use live_set::whole_text;
+use live_set::{Payload, whole_text};
 use mrdt_model::{Memory, Time, Unread};
 use std::alloc::Global;
 
@@ -62,7 +61,7 @@ fn put_rest(node: &Node, out: &mut Vec<u8>) -> Result<(), Memory>
 }
 
 // Writes a node.
-fn put_node(node: &Node, out: &mut Vec<u8>) -> Result<(), Memory>
+pub(crate) fn put_node(node: &Node, out: &mut Vec<u8>) -> Result<(), Memory>
     ensures ok { OnOk result (out.new.items ≡ out.old.items ++ node_spelling node.now) }
     ensures err { OnErr result (AppendsPart out.old.items out.new.items (node_spelling node.now)) }
 {
@@ -70,26 +69,23 @@ fn put_node(node: &Node, out: &mut Vec<u8>) -> Result<(), Memory>
     put_rest(node, out)
 }
 
-// How many bytes the nodes take.
-pub(crate) fn room_for(nodes: &[Node]) -> usize {
-    let mut room: usize = 0;
-    for node in nodes {
-        let parent = if node.parent.is_some() { 13 } else { 1 };
-        room = room
-            .saturating_add(21 + parent)
-            .saturating_add(node.payload.get().as_slice().len());
+// How many bytes a time that may be none is spelled with.
+fn named_length(time: Option<Time>) -> u64
+    ensures value { result ≡ length (named_time time) }
+    ensures few { result ≤ 13 }
+{
+    match time {
+        Some(_) => 13,
+        None => 1,
     }
-    room
 }
 
-// Writes nodes in order.
-pub(crate) fn put_each(nodes: &[Node], out: &mut Vec<u8>) -> Result<(), Memory>
-    ensures { OnOk result (out.new.items ≡ out.old.items ++ flat_map node_spelling nodes.now) }
+// How many bytes a node's spelling has, or 2^64 - 1 where it has more. It takes no memory.
+pub(crate) fn length_of(node: &Node) -> u64
+    ensures { result ≡ capped (length (node_spelling node.now)) }
 {
-    for node in nodes {
-        put_node(node, out)?;
-    }
-    Ok(())
+    let named = named_length(node.parent);
+    node.payload.spelled_length().saturating_add(13 + named)
 }
 
 // Writes an operation.

@@ -1,6 +1,6 @@
 pub mod Writing
 pub mod Reading
-pub mod Keys
 pub mod Walked
 pub mod Rebuilt
+pub mod Merging
 pub mod Standing

@@ -1,36 +1,22 @@
 -- Members that were read, against those that the bytes may spell.
-use Rattle.std.proofs.Common.{◌≡◌, ◌≢◌, ℕ, ◌+◌, ◌^◌, ◌<◌, ◌≤◌, Bool, true, false, cond, Some, List, [], ◌∷◌, ◌++◌, length, refl, ◌∙◌, ap, sym, subst, append_assoc, arith, length-append, Result, Err, IsErrOf}
-use Rattle.std.specs.Bool.{◌==◌}
+use Rattle.std.proofs.Common.{◌≡◌, ◌≢◌, ℕ, ◌+◌, ◌^◌, ◌<◌, ◌≤◌, true, false, List, [], ◌∷◌, ◌++◌, length, refl, ◌∙◌, ap, sym, subst, append_assoc, arith, length-append, Result, Err, IsErrOf}
 use Rattle.std.specs.List.{flat_map, AllByRecursion}
-use Rattle.std.proofs.lemmas.Bool.{eqb-true}
 use Rattle.std.proofs.lemmas.List.{append-nil}
-use Rattle.std.proofs.lemmas.Map.Lookups.{exact_bytes}
 use Rattle.std.specs.Map.{keys_of}
-use Rattle.std.specs.BTreeMap.{insert_entry}
-use Rattle.std.specs.declared.cmp.Ordering.{Ordering}
-use Rattle.std.specs.declared.cmp.Ordering.TheVariants.{Less, Equal, Greater}
-use Rattle.std.specs.Ordering.{is_lt, ordering_index, ordering_reverse, match_ordering}
+use Rattle.std.specs.declared.cmp.Ordering.TheVariants.{Less}
 use Rattle.std.specs.List.Sorted.{IsStrictlySortedBy}
-use Rattle.std.proofs.lemmas.Cmp.{nat_list_cmp_total}
 use Rattle.branch_wire.specs.Fields.{number, field}
 use Rattle.branch_wire.specs.Reading.{ReadsOneWay, HasLength64}
 use Rattle.branch_wire.proofs.OneWay.{pairs, fields, PairFits}
 use Rattle.branch_wire.proofs.Lists.{flat_map-front, flat_map-push, counted-one_way}
+use Rattle.live_set.specs.Effects.{has_any}
 use Rattle.live_set.specs.Payloads.{IsNothing, nothing_spelling, nothing_way}
 use Rattle.live_set.specs.Spelling.{live_spelling, AreLive}
 use Rattle.live_set.proofs.Reading.{live_way}
-use Rattle.mrdt_set.specs.Members.{Times, same_element, times_at, member_spelling, set_spelling, IsMember, AreMembers}
-use Rattle.mrdt_model.proofs.Tables.{cmp, same_bytes-eq}
-use Rattle.mrdt_set.specs.Reading.{IsAbove, AreRising, TakesMember, AreTaken}
-
-reversed : (j k : List ℕ) → cmp j k ≡ Less → cmp k j ≡ Greater
-reversed j k h = nat_list_cmp_total.antisymm k j ∙ ap ordering_reverse h
-
--- a member whose element is above all goes behind all
-pub insert-behind : {V : Type 0} (es : List (List ℕ × V)) (key : List ℕ) (value : V) → IsAbove key (keys_of es) → insert_entry cmp es key value ≡ es ++ (key, value) ∷ []
-insert-behind [] key value above = refl
-insert-behind (e ∷ es) key value above =
-    ap (λ o. match_ordering o ((key, value) ∷ e ∷ es) ((e.0, value) ∷ es) (e ∷ insert_entry cmp es key value)) (reversed e.0 key above.0) ∙ ap (λ rest. e ∷ rest) (insert-behind es key value above.1)
+use Rattle.mrdt_set.specs.Members.{Times, member_spelling, set_spelling, IsMember, AreMembers}
+use Rattle.mrdt_model.proofs.Tables.{cmp}
+use Rattle.keyed_slots.specs.Slots.{IsAbove}
+use Rattle.mrdt_set.specs.Reading.{AreRising, TakesMember, AreTaken}
 
 -- of elements that rise, one that stands behind others is above them
 above-others : (ks js : List (List ℕ)) (k : List ℕ) → IsStrictlySortedBy cmp (ks ++ (k ∷ js)) → IsAbove k ks
@@ -45,39 +31,6 @@ above-others (i ∷ ks) js k s = (behind ks js k (λ j. cmp i j ≡ Less) s.0, a
 all-weaker : {X : Type 0} (P Q : X → Type 0) (xs : List X) → ((x : X) → P x → Q x) → AllByRecursion P xs → AllByRecursion Q xs
 all-weaker P Q [] weaker all = tt
 all-weaker P Q (x ∷ xs) weaker all = (weaker x all.0, all-weaker P Q xs weaker all.1)
-
--- not above the last element, and so below what is above that one
-below-last : (j last key : List ℕ) → is_lt (cmp last j) ≡ false → cmp last key ≡ Less → cmp j key ≡ Less
-below-last j last key up_to above = at (cmp last j) refl up_to
-  where
-    at : (o : Ordering) → cmp last j ≡ o → is_lt o ≡ false → cmp j key ≡ Less
-    at Less is not_less = cc
-    at Equal is not_less = subst (λ k. cmp k key ≡ Less) (exact_bytes last j is) above
-    at Greater is not_less = nat_list_cmp_total.trans j last key (nat_list_cmp_total.antisymm j last ∙ ap ordering_reverse is) above
-
--- what is above the last element is above all
-pub above-last : (ks : List (List ℕ)) (last key : List ℕ) → AllByRecursion (λ j. is_lt (cmp last j) ≡ false) ks → cmp last key ≡ Less → IsAbove key ks
-above-last ks last key up_to above = all-weaker (λ j. is_lt (cmp last j) ≡ false) (λ j. cmp j key ≡ Less) ks (λ j not_less. below-last j last key not_less above) up_to
-
--- what holds of each element holds of one that is found
-pub found-key : (P : List ℕ → Type 0) (es : List (List ℕ × Times)) (k : List ℕ) (value : Times) → AllByRecursion P (keys_of es) → times_at es k ≡ Some value → P k
-found-key P [] k value all found = cc
-found-key P (e ∷ es) k value all found = at (same_element k e.0) refl found (found-key P es k value all.1)
-  where
-    at : (p : Bool) → same_element k e.0 ≡ p → cond p (Some e.1) (times_at es k) ≡ Some value → (times_at es k ≡ Some value → P k) → P k
-    at true is here later = subst P (sym (same_bytes-eq k e.0 is)) all.0
-    at false is there later = later there
-
--- the test that an order is `Less`
-pub less-from_index : (o : Ordering) → (ordering_index o == 0) ≡ true → o ≡ Less
-less-from_index Less h = refl
-less-from_index Equal h = cc
-less-from_index Greater h = cc
-
-pub index-less : (o : Ordering) → o ≡ Less → (ordering_index o == 0) ≡ true
-index-less Less h = refl
-index-less Equal h = cc
-index-less Greater h = cc
 
 all-behind : {X : Type 0} (P : X → Type 0) (xs ys : List X) (y : X) → AllByRecursion P (xs ++ (y ∷ ys)) → P y
 all-behind P [] ys y all = all.0
@@ -104,11 +57,22 @@ fits-member e is = (is.1, is.2)
 fit-all : (es : List (List ℕ × Times)) → AllByRecursion IsMember es → AllByRecursion Fits es
 fit-all es all = all-weaker IsMember Fits es fits-member all
 
+sorted-push : (es : List (List ℕ × Times)) (e : List ℕ × Times) → IsStrictlySortedBy cmp (keys_of es) → IsAbove e.0 (keys_of es) → IsStrictlySortedBy cmp (keys_of (es ++ e ∷ []))
+unfolding IsStrictlySortedBy
+sorted-push [] e sorted above = (tt, tt)
+sorted-push (x ∷ es) e sorted above =
+    (subst (AllByRecursion (λ j. cmp x.0 j ≡ Less)) (sym (keys-append es (e ∷ []))) (all-push (λ j. cmp x.0 j ≡ Less) (keys_of es) e.0 sorted.0 above.0), sorted-push es e sorted.1 above.1)
+
+-- before any member is taken
+pub taken-none : (bytes : List ℕ) → AreTaken bytes 0 bytes []
+unfolding IsStrictlySortedBy
+taken-none bytes = record { many = refl; rising = (tt, tt); spelled = refl }
+
 -- one more member is taken
-pub taken-more : (bytes rest more : List ℕ) (n : ℕ) (es fs : List (List ℕ × Times)) → AreTaken bytes n rest es → TakesMember rest es more fs → IsStrictlySortedBy cmp (keys_of fs) → AreTaken bytes (n + 1) more fs
-taken-more bytes rest more n es fs so_far next sorted = record {
+pub taken-more : (bytes rest more : List ℕ) (n : ℕ) (es fs : List (List ℕ × Times)) → AreTaken bytes n rest es → TakesMember rest es more fs → AreTaken bytes (n + 1) more fs
+taken-more bytes rest more n es fs so_far next = record {
   many = ap length next.members ∙ length-append es (next.taken ∷ []) ∙ ap (λ m. m + 1) so_far.many;
-  rising = (sorted, subst (AllByRecursion IsMember) (sym next.members) (all-push IsMember es next.taken so_far.rising.1 next.good));
+  rising = (subst (λ (xs : List (List ℕ × Times)). IsStrictlySortedBy cmp (keys_of xs)) (sym next.members) (sorted-push es next.taken so_far.rising.0 next.above), subst (AllByRecursion IsMember) (sym next.members) (all-push IsMember es next.taken so_far.rising.1 next.good));
   spelled =
       so_far.spelled ∙ ap (λ r. flat_map member_spelling es ++ r) next.spelled
       ∙ sym (append_assoc (flat_map member_spelling es) (member_spelling next.taken) more)
@@ -170,12 +134,12 @@ same_error r y e is other = cc
 pub passed-on : {S T E : Type 0} (r : Result T E) (x y e : E) → r ≡ Err y → y ≡ x → IsErrOf r e → IsErrOf {T = S} {E = E} (Err x) e
 passed-on {S} {T} {E} r x y e is same error = ap {B = Result S E} Err (sym same ∙ same_error r y e is error)
 
-pub no-times : (times : Times) → (length times == 0) ≡ true → times ≡ []
+pub no-times : (times : Times) → has_any times ≡ false → times ≡ []
 no-times [] h = refl
-no-times (k ∷ times) h = absurd (omega (arith, eqb-true (length (k ∷ times)) 0 h))
+no-times (k ∷ times) h = absurd (cc h)
 
-pub some-times : (times : Times) → (length times == 0) ≡ false → times ≢ []
-some-times [] h = cc
+pub some-times : (times : Times) → has_any times ≡ true → times ≢ []
+some-times [] h = absurd (cc h)
 some-times (k ∷ times) h = λ is. cc
 
 pub times_way : ReadsOneWay (AreLive IsNothing) (live_spelling nothing_spelling)

@@ -1,5 +1,5 @@
 -- Sets that stand for executions, told by what they have at each element.
-use Rattle.std.proofs.Common.{◌≡◌, ℕ, Bool, true, false, cond, None, Some, is_some, List, [], ◌∷◌, refl, ◌∙◌, ap, sym}
+use Rattle.std.proofs.Common.{◌≡◌, ℕ, Bool, true, false, cond, None, Some, is_some, List, [], ◌∷◌, refl, ◌∙◌, ap, sym, subst}
 use Rattle.std.specs.Map.{keys_of}
 use Rattle.std.specs.List.Sorted.{IsStrictlySortedBy}
 use Rattle.mrdt_model.specs.declared.time.Time.{Time}
@@ -10,13 +10,15 @@ use Rattle.mrdt_model.proofs.Executions.{is_earlier-irrefl, restrict-well_formed
 use Rattle.mrdt_model.proofs.Parts.{AllSeenIn, all_seen}
 use Rattle.live_set.specs.Effects.{replacing, removing, apart, has_any, live_of, live_after}
 use Rattle.live_set.specs.UnitReply.{IsAnyReply, no_reply}
-use Rattle.live_set.proofs.Standing.{merged-live, live-next}
+use Rattle.live_set.specs.Entries.{kept_times, IsRising}
+use Rattle.live_set.proofs.Standing.{merged-live, live-next, live-rising}
 use Rattle.mrdt_model.proofs.SameEvents.{own-times}
 use Rattle.mrdt_set.specs.declared.set.SetOp.{SetOp}
 use Rattle.mrdt_set.specs.declared.set.SetOp.TheVariants.{Add, Remove, Clear}
-use Rattle.mrdt_set.specs.Members.{Times, same_element, times_at, some_times, all_times, IsMergedAt}
+use Rattle.mrdt_set.specs.Members.{Times, same_element, times_at, some_times, all_times, IsKept, IsMergedAt}
 use Rattle.mrdt_set.specs.Set.{set_effect, times_after, IsSetOp, holds, set_of}
 use Rattle.mrdt_model.proofs.Tables.{cmp, same_tables, same_bytes-sym}
+use Rattle.mrdt_set.proofs.Rebuilt.{some-all, all-some}
 use Rattle.mrdt_set.specs.Lawful.{Events, times-set_of, element-times, set_of-sorted, holds-element}
 
 abbrev Sound : Events → Type 0
@@ -74,14 +76,22 @@ applied-at s made x op t k l after is made_is =
     ∙ times-effect op t k (live_of (set_effect k) x)
     ∙ ap some_times (sym (live-next (set_effect k) x t op tt (all_seen IsSetOp IsAnyReply x l) after))
 
+-- a set keeps times that rise, and some, or none at all
+kept-at : (k : List ℕ) (s : List (List ℕ × Times)) (x : Events) → Sound x → s ≡ set_of x → IsKept (times_at s k)
+kept-at k s x l is =
+    let live = live_of (set_effect k) x in
+    let same : times_at s k ≡ some_times live = ap (λ es. times_at es k) is ∙ times-set_of k x l in
+    subst IsKept (sym same) (record { some = some-all live; rising = subst (λ ts. IsRising (kept_times ts)) (all-some live) (live-rising (set_effect k) x) })
+
 -- what a merge makes of what the three have at an element
 pub merged-at : (base left right merged : List (List ℕ × Times)) (x : Events) (a b : Time → Bool) (k : List ℕ) → Sound x → IsClosed a x → IsClosed b x
     → base ≡ set_of (restrict (both a b) x) → left ≡ set_of (restrict a x) → right ≡ set_of (restrict b x)
-    → IsMergedAt (times_at base k) (times_at left k) (times_at right k) (times_at merged k) → times_at merged k ≡ some_times (live_of (set_effect k) (restrict (either a b) x))
-merged-at base left right merged x a b k l closed_a closed_b is_base is_left is_right m =
+    → (IsKept (times_at left k) → IsMergedAt (times_at base k) (times_at left k) (times_at right k) (times_at merged k)) → times_at merged k ≡ some_times (live_of (set_effect k) (restrict (either a b) x))
+merged-at base left right merged x a b k l closed_a closed_b is_base is_left is_right merges =
     let sound = λ (c : Time → Bool) (closed : IsClosed c x). restrict-well_formed IsSetOp IsAnyReply no_reply c x closed l in
     let f = set_effect k in
     let own = λ (s : List (List ℕ × Times)) (c : Time → Bool) (closed : IsClosed c x) (is : s ≡ set_of (restrict c x)). ap (λ es. all_times (times_at es k)) is ∙ element-times k (restrict c x) (sound c closed) in
+    let m = merges (kept-at k left (restrict a x) (sound a closed_a) is_left) in
     m.some
     ∙ ap some_times (merged-live f x a b (all_times (times_at base k)) (all_times (times_at left k)) (all_times (times_at right k)) (all_times (times_at merged k)) (own-times IsSetOp IsAnyReply x l) closed_a closed_b
     (own base (both a b) (closed_both a b x closed_a closed_b) is_base) (own left a closed_a is_left) (own right b closed_b is_right) m.rising m.merges)

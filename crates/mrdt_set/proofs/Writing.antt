@@ -1,8 +1,11 @@
 -- Texts that are written in pieces.
-use Rattle.std.proofs.Common.{◌≡◌, ℕ, List, [], ◌++◌, ◌∙◌, ap, sym, subst, append_assoc}
+use Rattle.std.proofs.Common.{◌≡◌, ℕ, ◌+◌, List, [], ◌∷◌, ◌++◌, length, refl, ◌∙◌, ap, sym, subst, arith, append_assoc, length-append}
 use Rattle.std.proofs.lemmas.List.{append-nil}
-use Rattle.mrdt_model.specs.Spelled.{AppendsPart}
+use Rattle.std.specs.List.{flat_map, sum_by}
+use Rattle.std.proofs.lemmas.List.Sums.{sum_by-cons}
+use Rattle.mrdt_model.specs.Spelled.{AppendsPart, capped}
 use Rattle.branch_wire.proofs.Parts.{part-first, part-second}
+use Rattle.mrdt_set.specs.Members.{Times, member_spelling, member_size}
 
 -- behind the old bytes stands what was written of the whole, and the rest is still to come
 pub record PutSoFar (old out rest whole : List ℕ) : Type 0 where
@@ -25,3 +28,9 @@ so_far-part old out new piece rest whole so_far part =
 pub so_far-end : (old out rest whole : List ℕ) → PutSoFar old out rest whole → rest ≡ [] → out ≡ old ++ whole
 so_far-end old out rest whole so_far none =
     so_far.behind ∙ ap (λ w. old ++ w) (sym (append-nil so_far.written) ∙ ap (λ r. so_far.written ++ r) (sym none) ∙ so_far.all)
+
+-- the sizes of members add up to that of all
+pub sizes : (es : List (List ℕ × Times)) → capped (sum_by member_size es) ≡ capped (length (flat_map member_spelling es))
+sizes [] = refl
+sizes (e ∷ es) = let rest = sizes es in let both = length-append (member_spelling e) (flat_map member_spelling es) in
+    omega (arith, rest, both, sum_by-cons member_size e es)

@@ -1,11 +1,11 @@
 -- Elements with their live times, in byte order.
-use Rattle.std.specs.Prelude.{◌≡◌, ◌≢◌, ℕ, ◌<◌, ◌^◌, Bool, if◌then◌else◌, ◌⊎◌, Option, None, Some, List, [], ◌∷◌, ◌++◌, length, map}
+use Rattle.std.specs.Prelude.{◌≡◌, ◌≢◌, ℕ, ◌<◌, ◌^◌, Bool, true, if◌then◌else◌, Option, None, Some, is_some, List, [], ◌∷◌, ◌++◌, length}
 use Rattle.std.specs.List.{AllByRecursion}
 use Rattle.std.specs.Map.{lookup, keys_of}
 use Rattle.std.specs.Ordering.{nat_cmp, is_eq}
 use Rattle.std.specs.Cmp.Lexicographic.{slice_cmp}
 use Rattle.std.specs.List.Sorted.{IsStrictlySortedBy}
-use Rattle.mrdt_model.specs.Spelled.{IsBytes}
+use Rattle.mrdt_model.specs.Spelled.{IsBytes, capped}
 use Rattle.branch_wire.specs.Fields.{field, counted}
 use Rattle.live_set.specs.declared.kept.Kept.{Kept}
 use Rattle.live_set.specs.Entries.{kept_times, IsRising, MergesEntries}
@@ -14,10 +14,6 @@ use Rattle.live_set.specs.Spelling.{live_spelling, AreLive}
 
 abbrev pub Times : Type 0
 Times = List (Kept (Unit {0}))
-
--- the entries by the bytes of their keys
-abbrev pub by_bytes : {K X : Type 0} → (K → List ℕ) → List (K × X) → List (List ℕ × X)
-by_bytes {K} {X} bytes entries = map {B = List ℕ × X} (λ (e : K × X). (bytes e.0, e.1)) entries
 
 abbrev pub same_element : List ℕ → List ℕ → Bool
 same_element j k = is_eq (slice_cmp nat_cmp j k)
@@ -49,17 +45,22 @@ pub record IsMergedAt (base left right merged : Option Times) : Type 0 where
   pub rising : IsRising (kept_times (all_times merged))
   pub merges : MergesEntries (all_times base) (all_times left) (all_times right) (all_times merged)
 
--- so it is at each element
+-- times that a side may have at an element: rising, and some, or none at all
+pub record IsKept (times : Option Times) : Type 0 where
+  pub some : times ≡ some_times (all_times times)
+  pub rising : IsRising (kept_times (all_times times))
+
+-- so it is at each element of which the left side has such times
 abbrev pub AreMerged : List (List ℕ × Times) → List (List ℕ × Times) → List (List ℕ × Times) → List (List ℕ × Times) → Type 0
-AreMerged base left right merged = (k : List ℕ) → IsMergedAt (times_at base k) (times_at left k) (times_at right k) (times_at merged k)
+AreMerged base left right merged = (k : List ℕ) → IsKept (times_at left k) → IsMergedAt (times_at base k) (times_at left k) (times_at right k) (times_at merged k)
 
--- merged, or as before where the side has nothing
-abbrev pub IsMergedOr : Option Times → Option Times → Option Times → Option Times → Option Times → Option Times → Type 0
-IsMergedOr side old base left right new = ((side ≡ None) × (new ≡ old)) ⊎ IsMergedAt base left right new
+-- merged at the elements of the right side, and as in the left side at all others
+pub record IsRightMergedAt (base left right merged : Option Times) : Type 0 where
+  pub there : is_some right ≡ true → IsKept left → IsMergedAt base left right merged
+  pub apart : right ≡ None → merged ≡ left
 
--- merged at the elements of the left side, and nothing at all others
-abbrev pub IsLeftMerged : List (List ℕ × Times) → List (List ℕ × Times) → List (List ℕ × Times) → List (List ℕ × Times) → Type 0
-IsLeftMerged base left right merged = (k : List ℕ) → IsMergedOr (times_at left k) None (times_at base k) (times_at left k) (times_at right k) (times_at merged k)
+abbrev pub IsRightMerged : List (List ℕ × Times) → List (List ℕ × Times) → List (List ℕ × Times) → List (List ℕ × Times) → Type 0
+IsRightMerged base left right merged = (k : List ℕ) → IsRightMergedAt (times_at base k) (times_at left k) (times_at right k) (times_at merged k)
 
 -- an element, and behind it its times
 abbrev pub member_spelling : List ℕ × Times → List ℕ
@@ -67,6 +68,10 @@ member_spelling e = field e.0 ++ live_spelling nothing_spelling e.1
 
 abbrev pub set_spelling : List (List ℕ × Times) → List ℕ
 set_spelling members = counted member_spelling members
+
+-- how many bytes a member is spelled in, as 64 bits hold it
+abbrev pub member_size : List ℕ × Times → ℕ
+member_size e = capped (length (member_spelling e))
 
 -- a short element with one time at least
 abbrev pub IsMember : List ℕ × Times → Type 0

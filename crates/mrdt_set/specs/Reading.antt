@@ -2,14 +2,11 @@
 use Rattle.std.specs.Prelude.{◌≡◌, ℕ, List, [], ◌∷◌, ◌++◌, length}
 use Rattle.std.specs.List.{AllByRecursion, flat_map}
 use Rattle.std.specs.Map.{keys_of}
-use Rattle.std.specs.declared.cmp.Ordering.TheVariants.{Less}
 use Rattle.std.specs.Ordering.{nat_cmp}
 use Rattle.std.specs.Cmp.Lexicographic.{slice_cmp}
 use Rattle.std.specs.List.Sorted.{IsStrictlySortedBy}
+use Rattle.keyed_slots.specs.Slots.{IsAbove}
 use Rattle.mrdt_set.specs.Members.{Times, member_spelling, IsMember}
-
-abbrev pub IsAbove : List ℕ → List (List ℕ) → Type 0
-IsAbove element others = AllByRecursion (λ j. slice_cmp nat_cmp j element ≡ Less) others
 
 -- members whose elements rise
 abbrev pub AreRising : List (List ℕ × Times) → Type 0

@@ -5,6 +5,7 @@
 mod members;
 mod same;
 pub mod set;
+mod slot;
 mod spelled;
 mod table;
 

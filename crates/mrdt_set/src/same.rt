@@ -4,7 +4,8 @@ ghost use Rattle.live_set.specs.Payloads.{nothing_spelling};
 ghost use Rattle.live_set.specs.Spelling.{live_spelling};
 ghost use Rattle.mrdt_set.specs.Members.{member_spelling, set_spelling};
 
-use crate::table::{Table, Times};
+use crate::slot::Times;
+use crate::table::Table;
 
 // Whether times are the same as others. Those whose spellings stand at the front of the same bytes are.
 fn same_times(times: &Times, others: &Times) -> bool
@@ -12,9 +13,9 @@ fn same_times(times: &Times, others: &Times) -> bool
     ensures spelled { (a b : List ℕ) → live_spelling nothing_spelling times.now ++ a
         ≡ live_spelling nothing_spelling others.now ++ b → times.now ≡ others.now }
 {
-    let mine = times.get().items();
-    let theirs = others.get().items();
-    mine.len() == theirs.len() && times.get().same(others.get())
+    let mine = times.len();
+    let theirs = others.len();
+    mine == theirs && times.same(others)
 }
 
 // Whether an element and its times are equal to others. Those whose spellings stand at the front of the same bytes
@@ -36,18 +37,22 @@ pub(crate) fn same_tables(table: &Table, other: &Table) -> bool
     if table.size() != other.size() {
         return false;
     }
-    let theirs = other.in_order();
-    let mut others = theirs.iter();
-    let all = table.in_order();
-    for (element, times) in all.iter() {
-        let Some((other_element, other_times)) = others.next() else {
+    let mut walk = table.walk();
+    let mut others = other.walk();
+    while let Some(slot) = walk.first() {
+        let Some(theirs) = others.first() else {
             return false;
         };
-        let mine = element.as_slice();
-        let their = other_element.as_slice();
-        if !same_member(mine, times, their, other_times) {
+        if !same_member(
+            slot.element(),
+            slot.times(),
+            theirs.element(),
+            theirs.times(),
+        ) {
             return false;
         }
+        walk.skip();
+        others.skip();
     }
     true
 }

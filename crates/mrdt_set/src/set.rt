@@ -7,8 +7,9 @@ ghost use Rattle.mrdt_set.specs.Set.{IsSetOp, element_of, op_spelling, IsOpSpell
 
 use crate::members::{Sides, elements_in_order, first_times, merged, with_times};
 use crate::same::same_tables;
+use crate::slot::Times;
 use crate::spelled::{members_length, put_members, take_members};
-use crate::table::{Table, Times};
+use crate::table::Table;
 use branch_wire::Cursor;
 use live_set::{unit_reply, whole_text};
 use mrdt_model::{Bytes, Listing, Memory, Mrdt, Time, Unread};
@@ -128,7 +129,7 @@ impl Set {
     pub fn size(&self) -> u64
         ensures { result ≡ length self.now }
     {
-        self.members.size() as u64
+        self.members.size()
     }
 
     /// The set after a Clear that has seen all. It takes no memory, and looks at no element.

@@ -1,39 +1,34 @@
 // The table of the elements and their live times.
-ghost use Rattle.std.specs.Prelude.{◌≡◌, [], length, is_some, IfOk, OnOk};
+ghost use Rattle.std.specs.Prelude.{◌≡◌, ◌≤◌, [], length, Some, None, is_some, IfOk};
+ghost use Rattle.std.specs.List.{sum_by};
 ghost use Rattle.std.specs.Option.{option_copied};
-ghost use Rattle.std.specs.BTreeMap.{insert_entry};
-ghost use Rattle.std.specs.Map.{remove_entry};
-ghost use Rattle.std.specs.Cmp.Lexicographic.{slice_cmp};
-ghost use Rattle.std.specs.Ordering.{nat_cmp};
-ghost use Rattle.std.specs.Vec.{vec_items};
-ghost use Rattle.mrdt_set.specs.Members.{by_bytes, same_element, times_at, AreInOrder};
+ghost use Rattle.mrdt_model.specs.Spelled.{capped};
+ghost use Rattle.keyed_slots.specs.Slots.{slot_key, IsPlaceOf, IsFound, IsRest};
+ghost use Rattle.mrdt_set.specs.Members.{member_size, times_at, AreInOrder, ChangesOnly};
 
-use live_set::Live;
-use mrdt_model::{Memory, Shared};
+use crate::slot::{Slot, Times};
+use keyed_slots::{place_of, slot_at};
+use mrdt_model::{Bytes, Memory, Shared};
+use shared_list::{SharedList, Walk, from_vec};
 use std::alloc::Global;
-use std::collections::BTreeMap;
 use std::marker::Model;
 
-// The live times of an element, which several tables may share.
-pub(crate) type Times = Shared<Live<()>>;
-
-// Elements with their live times. Contracts see them in byte order.
+// Elements with their live times. Contracts see them in byte order. Versions share what they have in common.
 #[derive(Drop)]
 pub(crate) struct Table {
-    entries: BTreeMap<Vec<u8>, Times>,
+    entries: SharedList<Slot>,
 }
 
 impl Model for Table {
     ghost use Rattle.std.specs.Prelude.{List, ℕ};
     ghost use Rattle.live_set.specs.declared.kept.Kept.{Kept};
-    ghost use Rattle.std.specs.Vec.{vec_items};
-    ghost use Rattle.mrdt_set.specs.Members.{by_bytes, AreInOrder};
+    ghost use Rattle.mrdt_set.specs.Members.{AreInOrder};
 
     ghost Value = { List (List ℕ × List (Kept (Unit {0}))) };
 
-    ghost view = { λ t. by_bytes vec_items t.entries.entries };
+    ghost view = { λ t. t.entries };
 
-    ghost invariant = { λ t. AreInOrder (by_bytes vec_items t.entries.entries) };
+    ghost invariant = { λ t. AreInOrder t.entries };
 }
 
 impl Table {
@@ -42,62 +37,165 @@ impl Table {
         ensures { result ≡ [] }
     {
         Table {
-            entries: BTreeMap::new(alloc),
+            entries: SharedList::new(alloc),
         }
     }
 
+    // A table of members whose elements rise.
+    pub(crate) fn from_slots(alloc: Global, slots: Vec<Slot>) -> Result<Table, Memory>
+        requires { AreInOrder slots.items }
+        ensures { IfOk result (λ table. table ≡ slots.items) }
+    {
+        Ok(Table {
+            entries: from_vec(alloc, slots)?,
+        })
+    }
+
     // How many elements there are.
-    pub(crate) fn size(&self) -> usize
+    pub(crate) fn size(&self) -> u64
         ensures size { result ≡ length self.now }
         ensures sorted { AreInOrder self.now }
     {
         self.entries.len()
     }
 
-    // The elements with their times, in order.
-    pub(crate) fn in_order(&self) -> &BTreeMap<Vec<u8>, Times>
-        ensures { by_bytes vec_items result.now.entries ≡ self.now }
+    // How many bytes the members are spelled in, or 2^64 - 1 where there are more.
+    pub(crate) fn weight(&self) -> u64
+        ensures { result ≡ capped (sum_by member_size self.now) }
     {
-        &self.entries
+        self.entries.weight()
     }
 
-    // Whether the element is there.
-    pub(crate) fn has(&self, element: &[u8]) -> bool
-        ensures { result ≡ is_some (times_at self.now element.now) }
+    // The same table. It takes no memory.
+    pub(crate) fn copy(&self) -> Result<Table, Memory>
+        ensures { IfOk result (λ table. table ≡ self.now) }
     {
-        self.entries.contains_key(element)
+        Ok(Table {
+            entries: self.entries.copy()?,
+        })
+    }
+
+    // A walk over the members.
+    pub(crate) fn walk(&self) -> Walk<'_, Slot>
+        ensures walk { result ≡ self.now }
+        ensures sorted { AreInOrder self.now }
+    {
+        Walk::new(&self.entries, 0)
+    }
+
+    // A walk over the members from the place of an element on.
+    fn walk_from(&self, place: u64) -> Walk<'_, Slot>
+        requires { place ≤ length self.now }
+        ensures { IsRest self.now result }
+    {
+        Walk::new(&self.entries, place)
+    }
+
+    // Where an element stands, or is to stand.
+    pub(crate) fn place_of(&self, element: &[u8]) -> u64
+        ensures { IsPlaceOf slot_key element.now self.now result }
+    {
+        place_of(&self.entries, element)
+    }
+
+    // The member at the place of an element, where it is of that element.
+    fn slot_at(&self, place: u64, element: &[u8]) -> Option<&Slot>
+        requires { IsPlaceOf slot_key element.now self.now place }
+        ensures { IsFound slot_key element.now self.now place (option_copied result) }
+    {
+        slot_at(&self.entries, place, element)
+    }
+
+    // The live times of the element at a place.
+    fn times_at(&self, place: u64, element: &[u8]) -> Option<&Times>
+        requires { IsPlaceOf slot_key element.now self.now place }
+        ensures { option_copied result ≡ times_at self.now element.now }
+    {
+        match self.slot_at(place, element) {
+            Some(slot) => Some(slot.times()),
+            None => None,
+        }
     }
 
     // The live times of an element.
     pub(crate) fn times(&self, element: &[u8]) -> Option<&Times>
         ensures { option_copied result ≡ times_at self.now element.now }
     {
-        self.entries.get(element)
+        self.times_at(self.place_of(element), element)
     }
 
-    // The same elements, which share their times.
-    pub(crate) fn copy(&self) -> Result<Table, Memory>
-        ensures { IfOk result (λ table. table ≡ self.now) }
+    // Whether the element is there.
+    pub(crate) fn has(&self, element: &[u8]) -> bool
+        ensures { result ≡ is_some (times_at self.now element.now) }
     {
-        Ok(Table {
-            entries: self.entries.clone()?,
-        })
+        self.times(element).is_some()
     }
 
-    // Puts an element with its times, in place of those that it had.
-    pub(crate) fn put(&mut self, element: Vec<u8>, times: Times) -> Result<(), Memory>
-        ensures { OnOk result (self.new
-            ≡ insert_entry (slice_cmp nat_cmp) self.old element.items times) }
+    // The element, which is shared with the table where it stands there.
+    pub(crate) fn own_element(
+        &self,
+        alloc: Global,
+        place: u64,
+        element: &[u8],
+    ) -> Result<Shared<Bytes>, Memory>
+        requires { IsPlaceOf slot_key element.now self.now place }
+        ensures { IfOk result (λ own. own ≡ element.now) }
     {
-        self.entries.insert(element, times)?;
-        Ok(())
+        match self.slot_at(place, element) {
+            Some(slot) => slot.own().copy(),
+            None => Shared::new(alloc, Bytes::from_slice(alloc, element)?),
+        }
     }
 
-    // Takes an element away.
-    pub(crate) fn take_away(&mut self, element: &[u8])
-        ensures entries { self.new ≡ remove_entry (same_element element.now) self.old }
-        ensures sorted { AreInOrder self.old }
+    // The table with this member in the place of its element.
+    pub(crate) fn with(&self, place: u64, slot: Slot) -> Result<Table, Memory>
+        requires { IsPlaceOf slot_key slot.0 self.now place }
+        ensures { IfOk result (ChangesOnly slot.0 (Some slot.1) self.now) }
     {
-        let _times = self.entries.remove(element);
+        match self.slot_at(place, slot.element()) {
+            Some(_) => Ok(Table {
+                entries: self.entries.replace(place, slot)?,
+            }),
+            None => Ok(Table {
+                entries: self.entries.insert(place, slot)?,
+            }),
+        }
     }
+
+    // The table without an element.
+    pub(crate) fn without(&self, place: u64, element: &[u8]) -> Result<Table, Memory>
+        requires { IsPlaceOf slot_key element.now self.now place }
+        ensures { IfOk result (ChangesOnly element.now None self.now) }
+    {
+        match self.slot_at(place, element) {
+            Some(_) => Ok(Table {
+                entries: self.entries.remove(place)?,
+            }),
+            None => self.copy(),
+        }
+    }
+}
+
+// The live times of an element. Its member is the first that a walk has ahead, or is sought, and the walk goes on
+// from there.
+pub(crate) fn times_along<'a>(
+    table: &'a Table,
+    walk: &mut Walk<'a, Slot>,
+    element: &[u8],
+) -> Option<&'a Times>
+    requires { IsRest table.now walk.old }
+    ensures times { option_copied result ≡ times_at table.now element.now }
+    ensures along { IsRest table.now walk.new }
+{
+    let _size = table.size();
+    if let Some(slot) = walk.first() {
+        let same = slot.element() == element;
+        if same {
+            walk.skip();
+            return Some(slot.times());
+        }
+    }
+    let place = table.place_of(element);
+    *walk = table.walk_from(place);
+    table.times_at(place, element)
 }

@@ -1,9 +1,11 @@
-//! Tests of sequences, and of what a merge of maps merges. The cases of `run_cases` have the other types.
+//! Tests of lists that versions share, of live sets and of sequences. The cases of `run_cases` have the other types.
 #![tactic(auto)]
 
+#[cfg(test)]
+mod lists;
+#[cfg(test)]
+mod live;
 #[cfg(test)]
 mod sequence;
 #[cfg(test)]
 mod steps;
-#[cfg(test)]
-mod watched;

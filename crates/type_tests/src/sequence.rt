@@ -94,7 +94,7 @@ fn sequences_are_spelled(rt: HostRuntime) -> Result<(), Fail> {
     let base: Sequence = after_all(alloc, &Sequence::initial(alloc), &WORD)?;
     assert!(rt; does_reply(alloc, &base, &SequenceOp::Delete(0), FIRST));
     let one = after_all(alloc, &base, &[(DELETE_FIRST, at(3, 0))])?;
-    assert!(rt; is_spelled(alloc, &one, DELETED) && is_spelling::<Sequence>(alloc, DELETED));
+    assert!(rt; is_spelled(alloc, &one, DELETED) && is_spelling(alloc, DELETED));
     let answer = one.answer(&SequenceQuery::Length);
     assert!(rt; matches!(answer, Ok(SequenceAnswer::OnLength(1))));
     Ok(())
@@ -104,14 +104,14 @@ fn sequences_are_spelled(rt: HostRuntime) -> Result<(), Fail> {
 fn operations_and_replies_of_sequences_are_read(rt: HostRuntime) -> Result<(), Fail> {
     let alloc = rt.alloc();
     let op = insert(alloc, 1, b"x")?;
-    assert!(rt; is_op_spelled::<Sequence>(alloc, &op, b"\x01\x00\x00\x00\x01x"));
+    assert!(rt; is_op_spelled(alloc, &op, b"\x01\x00\x00\x00\x01x"));
     let delete = SequenceOp::Delete(2);
-    assert!(rt; is_op_spelled::<Sequence>(alloc, &delete, b"\x02\x00\x00\x00\x02"));
+    assert!(rt; is_op_spelled(alloc, &delete, b"\x02\x00\x00\x00\x02"));
     for bytes in [b"\x01\x00\x00\x00\x01x".as_slice(), b"\x02\x00\x00\x00\x02"] {
-        assert!(rt; is_op_spelling::<Sequence>(alloc, bytes));
+        assert!(rt; is_op_spelling(alloc, bytes));
     }
     for bytes in [b"\x00".as_slice(), FIRST] {
-        assert!(rt; is_reply_spelling::<Sequence>(alloc, bytes));
+        assert!(rt; is_reply_spelling(alloc, bytes));
     }
     Ok(())
 }

@@ -2,7 +2,7 @@ use Rattle.std.proofs.Common.{false, refl}
 use Rattle.std.specs.List.{flat_map}
 use Rattle.std.proofs.lemmas.Bool.{both_ways}
 use Rattle.mrdt_sequence.specs.Sequence.{node_spelling}
-use Rattle.mrdt_sequence.proofs.Chunked.{alike-first, alike-next, alike-more}
+use Rattle.mrdt_sequence.proofs.Walks.{alike-first, alike-next, alike-more}
 use Rattle.mrdt_sequence.proofs.compare.are_same.Goals as goal
 
 pub returns-then-not-is_same_node-clause-same : goal.returns-then-not-is_same_node-clause-same

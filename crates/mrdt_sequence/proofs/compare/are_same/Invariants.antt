@@ -1,5 +1,5 @@
 use Rattle.std.proofs.Common.{length}
-use Rattle.mrdt_sequence.proofs.Chunked.{Alike}
+use Rattle.mrdt_sequence.proofs.Walks.{Alike}
 use Rattle.mrdt_sequence.proofs.compare.are_same.Given as goal
 
 abbrev pub invariant-loop-node : goal.invariant-loop-node

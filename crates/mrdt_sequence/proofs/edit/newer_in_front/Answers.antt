@@ -1,5 +1,5 @@
 use Rattle.std.proofs.Common.{◌∙◌, sym}
-use Rattle.mrdt_sequence.proofs.Chunked.{settles-more}
+use Rattle.mrdt_sequence.proofs.Walks.{settles-more}
 use Rattle.mrdt_sequence.proofs.edit.newer_in_front.Goals as goal
 
 pub loop-node-preserved : goal.loop-node-preserved

@@ -1,8 +1,10 @@
-use Rattle.std.specs.Vec.{vec_items}
-use Rattle.mrdt_set.specs.Members.{by_bytes}
+use Rattle.std.proofs.Common.{length}
 use Rattle.mrdt_set.proofs.Walked.{BeginAlike}
 use Rattle.mrdt_set.proofs.same.same_tables.Given as goal
 
 -- what was compared is the same
-abbrev pub invariant-loop-element : goal.invariant-loop-element
-invariant-loop-element l = BeginAlike l.table l.other (by_bytes vec_items l.element-iterator) (by_bytes vec_items l.others)
+abbrev pub invariant-loop-slot : goal.invariant-loop-slot
+invariant-loop-slot l = BeginAlike l.table l.other l.walk l.others
+
+abbrev pub decreases-loop-slot : goal.decreases-loop-slot
+decreases-loop-slot l = length l.walk

@@ -1,11 +1,8 @@
-use Rattle.std.proofs.Common.{subst, OnErr}
 use Rattle.std.proofs.lemmas.Result.{on_err_weaker}
-use Rattle.mrdt_model.specs.Spelled.{AppendsPart}
 use Rattle.branch_wire.specs.Fields.{field}
 use Rattle.branch_wire.proofs.Parts.{part-first, part-second, on-err}
 use Rattle.live_set.specs.Payloads.{nothing_spelling}
 use Rattle.live_set.specs.Spelling.{live_spelling}
-use Rattle.mrdt_set.specs.Members.{Times}
 use Rattle.mrdt_set.proofs.spelled.put_member.Goals as goal
 
 pub returns-in_err-put_bytes-clause-err : goal.returns-in_err-put_bytes-clause-err
@@ -14,8 +11,4 @@ returns-in_err-put_bytes-clause-err c =
 
 pub returns-clause-err : goal.returns-clause-err
 returns-clause-err c =
-    let old = c.args.out.now.items in
-    let mid = c.put_bytes.new.out.items in
-    let new = c.put.new.out.items in
-    let err = subst (λ (ts : Times). OnErr c.put.result (AppendsPart mid new (live_spelling nothing_spelling ts))) c.get.ensures c.put.ensures.err in
-    on_err_weaker c.put.result (part-second old mid new (field c.args.element.now) (live_spelling nothing_spelling c.args.times.now) c.in_ok-put_bytes.ensures.ok) err
+    on_err_weaker c.put.result (part-second c.args.out.now.items c.put_bytes.new.out.items c.put.new.out.items (field c.args.element.now) (live_spelling nothing_spelling c.args.times.now) c.in_ok-put_bytes.ensures.ok) c.put.ensures.err

@@ -1,8 +1,11 @@
+use Rattle.std.proofs.Common.{length}
 use Rattle.std.specs.List.{flat_map}
-use Rattle.std.specs.Vec.{vec_items}
-use Rattle.mrdt_set.specs.Members.{by_bytes, member_spelling, set_spelling}
+use Rattle.mrdt_set.specs.Members.{member_spelling, set_spelling}
 use Rattle.mrdt_set.proofs.Writing.{PutSoFar}
 use Rattle.mrdt_set.proofs.spelled.put_members.Given as goal
 
-abbrev pub invariant-loop-element : goal.invariant-loop-element
-invariant-loop-element l = PutSoFar l.fn.out.items l.out.items (flat_map member_spelling (by_bytes vec_items l.element-iterator)) (set_spelling l.members)
+abbrev pub invariant-loop-slot : goal.invariant-loop-slot
+invariant-loop-slot l = PutSoFar l.fn.out.items l.out.items (flat_map member_spelling l.walk) (set_spelling l.members)
+
+abbrev pub decreases-loop-slot : goal.decreases-loop-slot
+decreases-loop-slot l = length l.walk

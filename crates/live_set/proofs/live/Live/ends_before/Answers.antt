@@ -1,14 +1,20 @@
-use Rattle.std.proofs.Common.{◌≡◌, ◌++◌, ◌∷◌, [], ◌∙◌, sym, subst}
+use Rattle.std.proofs.Common.{◌≡◌, ◌-◌, ◌+◌, ◌++◌, ◌∷◌, [], length, take, ◌∙◌, sym, subst, arith}
 use Rattle.live_set.specs.Entries.{kept_times, IsRising, AllBefore}
 use Rattle.live_set.proofs.Reading.{before-last, last-before}
+use Rattle.live_set.proofs.Finding.{last_split}
 use Rattle.live_set.proofs.live.Live.ends_before.Goals as goal
 
-pub returns-in-Some : goal.returns-in-Some
-returns-in-Some g c =
-    let front = c.in-Some.field-0-1.now in
-    let last = c.in-Some.kept.now in
-    let whole : c.self.inside.entries.items ≡ front ++ last ∷ [] = sym c.deref.ensures.value ∙ c.in-Some.ensures.cases.0 in
-    let own : c.args.self.now ≡ front ++ last ∷ [] = sym c.self.view_is ∙ whole in (
-      λ yes. subst (λ ks. AllBefore (kept_times ks) c.args.time) (sym own) (before-last front last c.args.time (subst (λ ks. IsRising (kept_times ks)) whole c.self.invariant) (sym c.is_before.ensures ∙ yes)),
-      λ before. c.is_before.ensures ∙ last-before front last c.args.time (subst (λ ks. AllBefore (kept_times ks) c.args.time) own before),
+pub returns-else-count-eq0 : goal.returns-else-count-eq0
+returns-else-count-eq0 g c =
+    let time = c.args.time in
+    let entries = c.self.inside.entries in
+    let place = c.len-count.result - 1 in
+    let k = c.get.result.now in
+    let some = c.if-count-eq0.false in
+    let long : place + 1 ≡ length entries = omega (arith, c.len-count.ensures, some) in
+    let front = take place entries in
+    let cut : entries ≡ front ++ k ∷ [] = last_split entries place k long c.get.ensures in
+    let whole : c.args.self.now ≡ front ++ k ∷ [] = sym c.self.view_is ∙ cut in (
+      λ yes. subst (λ ks. AllBefore (kept_times ks) time) (sym whole) (before-last front k time (subst (λ ks. IsRising (kept_times ks)) cut c.self.invariant) (sym c.is_before.ensures ∙ yes)),
+      λ before. c.is_before.ensures ∙ last-before front k time (subst (λ ks. AllBefore (kept_times ks) time) whole before),
     )

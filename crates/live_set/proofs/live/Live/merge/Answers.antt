@@ -1,34 +1,32 @@
 use Rattle.std.proofs.Common.{◌≡◌, Some, None}
-use Rattle.live_set.proofs.Walked.{earliest_of, walked-start, walked-before, walked-more, walked-end, walked-shorter}
+use Rattle.live_set.specs.Finding.{ChangesAt}
+use Rattle.live_set.specs.Walks.{first_time, earlier_of, payload_first}
+use Rattle.live_set.proofs.Merging.{merging_start, merging_more, merging_end, merging_shorter}
 use Rattle.live_set.proofs.live.Live.merge.Goals as goal
 
 pub loop-time-init : goal.loop-time-init
 loop-time-init g c =
-    rw (c.new-base_ahead.ensures, c.new-left_ahead.ensures, c.new-right_ahead.ensures, c.items.ensures.items, c.items-2.ensures.items, c.items-3.ensures.items, c.new-merged.ensures)
-    (walked-start c.args.base.now c.args.left.now c.args.right.now c.items.ensures.rising c.items-2.ensures.rising c.items-3.ensures.rising)
-
-pub add_copy-requires : goal.add_copy-requires
-add_copy-requires g c =
-    let now = c.loop-time in
-    let first : earliest_of now.base_ahead now.left_ahead now.right_ahead ≡ Some c.in-Some.time = cc c.in-Some.ensures in
-    walked-before c.args.base.now c.args.left.now c.args.right.now now.base_ahead now.left_ahead now.right_ahead now.merged c.in-Some.time now.invariant first
+    rw (c.ahead-base_ahead.ensures.items, c.ahead-right_ahead.ensures.items, c.in_ok-merged.ensures)
+    (merging_start c.args.base.now c.args.left.now c.args.right.now c.ahead-base_ahead.ensures.rising c.ahead-right_ahead.ensures.rising)
 
 pub loop-time-smaller : goal.loop-time-smaller
 loop-time-smaller g c =
     let now = c.loop-time in
-    let first : earliest_of now.base_ahead now.left_ahead now.right_ahead ≡ Some c.in-Some.time = cc c.in-Some.ensures in
-    let fewer = walked-shorter now.base_ahead now.left_ahead now.right_ahead c.in-Some.time first in
-    rw (c.take_at.ensures.rest, c.take_at-in-Some.ensures.rest, c.take_at-in-Some-2.ensures.rest) fewer
+    let first : earlier_of (first_time now.base_ahead) (first_time now.right_ahead) ≡ Some c.in-Some.time = cc c.in-Some.ensures in
+    let fewer = merging_shorter now.base_ahead now.right_ahead c.in-Some.time first in
+    rw (c.take_at-old.ensures.rest, c.take_at-new.ensures.rest) fewer
 
 pub loop-time-preserved : goal.loop-time-preserved
 loop-time-preserved g c =
     let now = c.loop-time in
-    let first : earliest_of now.base_ahead now.left_ahead now.right_ahead ≡ Some c.in-Some.time = cc c.in-Some.ensures in
-    let more = walked-more c.args.base.now c.args.left.now c.args.right.now now.base_ahead now.left_ahead now.right_ahead now.merged c.in-Some.time now.invariant first in
-    rw (c.take_at.ensures.rest, c.take_at-in-Some.ensures.rest, c.take_at-in-Some-2.ensures.rest, c.in_ok-add_copy.ensures, c.stays-payload.ensures, c.take_at.ensures.payload, c.take_at-in-Some.ensures.payload, c.take_at-in-Some-2.ensures.payload) more
+    let t = c.in-Some.time in
+    let first : earlier_of (first_time now.base_ahead) (first_time now.right_ahead) ≡ Some t = cc c.in-Some.ensures in
+    let changes : ChangesAt t (payload_first now.base_ahead t) (payload_first now.right_ahead t) now.merged c.change.new.self = rw (c.take_at-old.ensures.payload, c.take_at-new.ensures.payload) at c.in_ok-change.ensures in
+    let more = merging_more c.args.base.now c.args.left.now c.args.right.now now.base_ahead now.right_ahead now.merged c.change.new.self t now.invariant first changes in
+    rw (c.take_at-old.ensures.rest, c.take_at-new.ensures.rest) more
 
 pub returns-clause-merges : goal.returns-clause-merges
 returns-clause-merges g c =
     let now = c.loop-time in
-    let none : earliest_of now.base_ahead now.left_ahead now.right_ahead ≡ None = cc c.in_default.ensures in
-    walked-end c.args.base.now c.args.left.now c.args.right.now now.base_ahead now.left_ahead now.right_ahead now.merged now.invariant none
+    let none : earlier_of (first_time now.base_ahead) (first_time now.right_ahead) ≡ None = cc c.in_default.ensures in
+    merging_end c.args.base.now c.args.left.now c.args.right.now now.base_ahead now.right_ahead now.merged now.invariant none

@@ -19,16 +19,16 @@ returns-in_err-entries-clause-outside g c error inside =
 pub returns-then-is_at_end-clause-stands : goal.returns-then-is_at_end-clause-stands
 returns-then-is_at_end-clause-stands g c other spelled =
     let short : length c.args.bytes.now < 2 ^ 64 = search rules in
-    taken-stands g.T.Mrdt.meaning c.args.bytes.now c.take_u64.new.self c.take_entries.new.cursor c.in_ok-count.count c.in_ok-entries.entries.entries other (sym c.new-cursor.ensures ∙ c.in_ok-count.ensures.ok) c.in_ok-entries.ensures.ok (c.if-is_at_end.ensures.0 refl) short spelled
+    taken-stands g.T.Mrdt.meaning c.args.bytes.now c.take_u64.new.self c.take_entries.new.cursor c.in_ok-count.count c.in_ok-entries.entries other (sym c.new-cursor.ensures ∙ c.in_ok-count.ensures.ok) c.in_ok-entries.ensures.ok (c.if-is_at_end.ensures.0 refl) short spelled
 
 pub returns-then-is_at_end-clause-inside : goal.returns-then-is_at_end-clause-inside
 returns-then-is_at_end-clause-inside g c =
     let fit : c.in_ok-count.count < 2 ^ 64 = search rules in
-    taken-inside g.T.Mrdt.meaning c.args.bytes.now c.take_u64.new.self c.take_entries.new.cursor c.in_ok-count.count c.in_ok-entries.entries.entries (sym c.new-cursor.ensures ∙ c.in_ok-count.ensures.ok) c.in_ok-entries.ensures.ok (c.if-is_at_end.ensures.0 refl) fit
+    taken-inside g.T.Mrdt.meaning c.args.bytes.now c.take_u64.new.self c.take_entries.new.cursor c.in_ok-count.count c.in_ok-entries.entries (sym c.new-cursor.ensures ∙ c.in_ok-count.ensures.ok) c.in_ok-entries.ensures.ok (c.if-is_at_end.ensures.0 refl) fit
 
 pub returns-else-is_at_end-clause-outside : goal.returns-else-is_at_end-clause-outside
 returns-else-is_at_end-clause-outside g c error inside =
     let flat = flat_map (entry_spelling as_spelled) inside.0 in
     let found = c.in_ok-count.ensures.back (length inside.0) flat inside.1.0 (c.new-cursor.ensures ∙ inside.2) in
-    let none = taken-all g.T.Mrdt.meaning c.take_u64.new.self c.take_entries.new.cursor c.in_ok-count.count c.in_ok-entries.entries.entries inside.0 c.in_ok-entries.ensures.ok found.0 inside.1.1 found.1 in
+    let none = taken-all g.T.Mrdt.meaning c.take_u64.new.self c.take_entries.new.cursor c.in_ok-count.count c.in_ok-entries.entries inside.0 c.in_ok-entries.ensures.ok found.0 inside.1.1 found.1 in
     both_ways c.is_at_end.result c.if-is_at_end.false (c.is_at_end.ensures.1 none)

@@ -27,4 +27,4 @@ returns-then-same-2 g c =
 pub returns : goal.returns
 returns g c =
     let m = c.in_ok-merged in
-    rw (← c.base.view_is, ← c.left.view_is, ← c.right.view_is) (merges g.T.Mrdt.meaning c.base.inside.entries.entries c.left.inside.entries.entries c.right.inside.entries.entries m.field-0.entries m.ensures.ordered m.ensures.values)
+    rw (← c.base.view_is, ← c.left.view_is, ← c.right.view_is) (merges g.T.Mrdt.meaning c.base.inside.entries c.left.inside.entries c.right.inside.entries m.field-0 m.ensures.ordered m.ensures.values)

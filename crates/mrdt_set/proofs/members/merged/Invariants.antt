@@ -1,0 +1,16 @@
+use Rattle.std.proofs.Common.{length}
+use Rattle.keyed_slots.specs.Slots.{IsRest}
+use Rattle.mrdt_set.proofs.Merging.{DoneSoFar, IsDone}
+use Rattle.mrdt_set.proofs.members.merged.Given as goal
+
+-- the elements of the base that are not to come have been merged, too
+abbrev pub invariant-loop-slot : goal.invariant-loop-slot
+invariant-loop-slot l =
+    record {
+      along : IsRest l.sides.right.now l.news;
+      ahead : IsRest l.sides.base.now l.walk;
+      so_far : DoneSoFar (IsDone l.sides.base.now l.sides.left.now l.sides.right.now) l.initial.both l.sides.base.now l.walk l.both;
+    }
+
+abbrev pub decreases-loop-slot : goal.decreases-loop-slot
+decreases-loop-slot l = length l.walk
