@@ -437,6 +437,18 @@ class Store:
         self.log.append(lambda store: store.fork(new, of))
         return len(self.branches) - 1, self.branches[-1][1]
 
+    def place(self, new, commit):
+        """A new branch at a commit."""
+        for taken, branch in enumerate(self.branches):
+            if branch[0] == new and taken not in self.dropped:
+                raise Refused(f"error taken {taken}")
+        if len(self.branches) == self.limits["branches"]:
+            raise Refused(f"error full branches {len(self.branches)}")
+        self.check_moves()
+        self.branches.append([new, commit])
+        self.put_record(7, len(self.branches) - 1, commit, new)
+        return len(self.branches) - 1, commit
+
     def drop(self, branch, seen):
         """Drops a branch from the head that is seen. Gives its name."""
         self.check_kept(branch)
@@ -933,16 +945,25 @@ def fits(words):
     return more is not None and table is not None and len(words) == 5 + more
 
 
+def place_of_commit(words):
+    """The place of the word that stands for a commit, in the line of a query or a fork."""
+    place = {b"ask": 1, b"fork": 2}.get(words[0]) if VERSION != 1 else None
+    return place if place and words[place].startswith(b"#") else None
+
+
 def read_line(line):
-    """The words of a step; nothing of a line that says nothing."""
+    """The words of a line; nothing of a line that says nothing."""
     if not line or line.startswith(b"#"):
         return None
     words = line.split(b" ")
     if any(b < 32 or b > 126 for b in line) or b"" in words or not fits(words):
         raise Refused("error syntax")
     names = words[1:] if words[0] in (b"look", b"fork", b"merge", b"join") else words[1:2]
-    if not all(NAME.match(name) for name in names):
+    at = place_of_commit(words)
+    if not all(NAME.match(name) for place, name in enumerate(names, 1) if place != at):
         raise Refused("error name")
+    if at and (not PLACE.match(words[at][1:]) or int(words[at][1:]) >= 2**32):
+        raise Refused("error number")
     if words[0] == b"do" and words[2] == b"counter" and words[4] == b"add":
         if not INT.match(words[5]) or not -(2**63) <= int(words[5]) < 2**63:
             raise Refused("error number")
@@ -1022,8 +1043,15 @@ class Engine:
         self.sessions[session] = (number, head)
         return f"{session.decode()} sees {branch.decode()} at #{head}"
 
+    def commit(self, word):
+        """The number of the commit that a word stands for."""
+        number = int(word[1:])
+        if number >= len(self.store.commits):
+            raise Refused(f"error unknown #{number}")
+        return number
+
     def fork(self, new, of):
-        number, head = self.store.fork(new, of)
+        number, head = self.store.place(new, self.commit(of)) if of.startswith(b"#") else self.store.fork(new, of)
         return f"forked {new.decode()} as {number} at #{head}"
 
     def merge(self, session, branch):
@@ -1061,7 +1089,10 @@ class Engine:
             raise Refused("error no sequences")
 
     def ask(self, branch, kind, key, verb=None, word=b""):
-        head = self.store.branches[self.store.find(branch)][1]
+        if branch.startswith(b"#"):
+            head = self.commit(branch)
+        else:
+            head = self.store.branches[self.store.find(branch)][1]
         if kind == b"seq":
             self.check_sequences()
         events = self.store.visible(head)

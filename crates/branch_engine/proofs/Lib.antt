@@ -7,4 +7,6 @@ pub mod Does
 pub mod Replies
 pub mod Merges
 pub mod Joins
+pub mod Answered
 pub mod Drops
+pub mod Past

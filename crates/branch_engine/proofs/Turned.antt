@@ -1,17 +1,19 @@
 -- What a step is told, from the machine's turn.
-use Rattle.std.proofs.Common.{◌≡◌, ℕ, false, List, [], ◌∷◌, ap, ◌∙◌, None, Some}
+use Rattle.std.proofs.Common.{◌≡◌, ℕ, true, false, cond, List, [], ◌∷◌, refl, ap, ◌∙◌, None, Some}
 use Rattle.std.specs.Prelude.{Ok, Err}
 use Rattle.branch_history.specs.Steps as machine
 use Rattle.branch_history.specs.Machine.{answers}
 use Rattle.branch_machine.specs.Machine.{full_turn}
 use Rattle.branch_script.specs.declared.step.Step.TheVariants.{Look, Fork, Merge, Join, Drop, Do, Ask}
-use Rattle.branch_print.specs.Texts.{outcome_text, unseen_text, no_sequences_text, takes_item}
+use Rattle.branch_script.specs.declared.step.Step.{Step}
+use Rattle.branch_script.specs.declared.step.Line.TheVariants as form
+use Rattle.branch_print.specs.Texts.{outcome_text, unseen_text, no_sequences_text, unknown_commit_text, takes_item}
 use Rattle.branch_machine.specs.Fixed.{Fixed}
 use Rattle.branch_doc.specs.Types.{PlainForms}
 use Rattle.branch_engine.specs.Sessions.{Sight, seen_by}
 use Rattle.branch_doc.specs.declared.plain.PlainOp.{PlainOp}
 use Rattle.branch_doc.specs.declared.plain.PlainQuery.{PlainQuery}
-use Rattle.branch_engine.specs.Play.{Play, told, turn_told, says, op_told, do_told, head_merged_told, merge_told, heads_named, heads_joined_told, join_told, drop_told, query_told, ask_told, step_told}
+use Rattle.branch_engine.specs.Play.{Play, told, turn_told, says, op_told, do_told, head_merged_told, merge_told, heads_named, heads_joined_told, join_told, drop_told, query_told, ask_told, step_told, has_commit, form_told}
 
 module _ {S O R Q A : Type 0} (forms : PlainForms O Q R A) (fixed : Fixed S O R Q A) (p : Play O R) where
   pub told-look : (session branch : List ℕ) (t : machine.Turn O R A) → full_turn fixed p.moves (machine.Look branch) ≡ t → step_told forms fixed p (Look session branch) ≡ told forms false p session 0 branch t
@@ -93,3 +95,36 @@ module _ {S O R Q A : Type 0} (forms : PlainForms O Q R A) (fixed : Fixed S O R 
       → step_told forms fixed p (Ask branch query) ≡ says p (outcome_text forms false [] branch (machine.Refused refusal))
   unfolding step_told
   told-ask_refused branch query refusal looks = ap (λ t. ask_told forms fixed p branch (forms.query query) t.outcome) looks
+
+  pub told-step : (step : Step) → form_told forms fixed p (form.Step step) ≡ step_told forms fixed p step
+  unfolding form_told
+  told-step step = refl
+
+  pub told-ask_nowhere : (number : ℕ) (query : PlainQuery) → has_commit fixed p number ≡ false → form_told forms fixed p (form.AskAt number query) ≡ says p (unknown_commit_text number)
+  unfolding form_told
+  told-ask_nowhere number query none = ap (λ t. cond t (query_told forms fixed p [] number (forms.query query)) (says p (unknown_commit_text number))) none
+
+  pub told-ask_at : (number : ℕ) (query : PlainQuery) (made : Q) (answer : A) → has_commit fixed p number ≡ true → forms.query query ≡ Some made
+      → full_turn fixed p.moves (machine.Ask number made) ≡ answers (machine.Answered answer)
+      → form_told forms fixed p (form.AskAt number query) ≡ says p (outcome_text forms false [] [] (machine.Answered answer))
+  unfolding form_told
+  told-ask_at number query made answer there is asks =
+      ap (λ t. cond t (query_told forms fixed p [] number (forms.query query)) (says p (unknown_commit_text number))) there
+      ∙ ap (query_told forms fixed p [] number) is ∙ ap (λ t. says p (outcome_text forms false [] [] t.outcome)) asks
+
+  pub told-no_query_at : (number : ℕ) (query : PlainQuery) → has_commit fixed p number ≡ true → forms.query query ≡ None → form_told forms fixed p (form.AskAt number query) ≡ says p no_sequences_text
+  unfolding form_told
+  told-no_query_at number query there lacks =
+      ap (λ t. cond t (query_told forms fixed p [] number (forms.query query)) (says p (unknown_commit_text number))) there ∙ ap (query_told forms fixed p [] number) lacks
+
+  pub told-fork_nowhere : (new : List ℕ) (number : ℕ) → has_commit fixed p number ≡ false → form_told forms fixed p (form.ForkAt new number) ≡ says p (unknown_commit_text number)
+  unfolding form_told
+  told-fork_nowhere new number none =
+      ap (λ t. cond t (told forms false p [] 0 new (full_turn fixed p.moves (machine.Place new number))) (says p (unknown_commit_text number))) none
+
+  pub told-fork_at : (new : List ℕ) (number : ℕ) (t : machine.Turn O R A) → has_commit fixed p number ≡ true → full_turn fixed p.moves (machine.Place new number) ≡ t
+      → form_told forms fixed p (form.ForkAt new number) ≡ told forms false p [] 0 new t
+  unfolding form_told
+  told-fork_at new number t there is =
+      ap (λ t. cond t (told forms false p [] 0 new (full_turn fixed p.moves (machine.Place new number))) (says p (unknown_commit_text number))) there
+      ∙ ap (told forms false p [] 0 new) is

@@ -1,6 +1,6 @@
 -- The machine that keeps objects runs the lines of a script, with what each named session sees, for stores of any type
 -- whose operations, queries, replies and answers have plain forms.
-use Rattle.std.specs.Prelude.{ℕ, Bool, false, List, [], ◌∷◌, ◌++◌, Result, Ok, Err, Some, None}
+use Rattle.std.specs.Prelude.{ℕ, Bool, false, nat_lt, List, [], ◌∷◌, ◌++◌, length, Result, Ok, Err, Some, None, if◌then◌else◌}
 use Rattle.std.specs.declared.option.Option.{Option}
 use Rattle.branch_doc.specs.declared.plain.PlainOp.{PlainOp}
 use Rattle.branch_doc.specs.Types.{PlainForms}
@@ -12,9 +12,11 @@ use Rattle.branch_machine.specs.Fixed.{Fixed}
 use Rattle.branch_machine.specs.Machine.{full_turn}
 use Rattle.branch_script.specs.declared.step.Step.{Step}
 use Rattle.branch_script.specs.declared.step.Step.TheVariants.{Look, Fork, Merge, Join, Drop, Do, Ask}
+use Rattle.branch_script.specs.declared.step.Line.{Line}
+use Rattle.branch_script.specs.declared.step.Line.TheVariants as form
 use Rattle.branch_script.specs.declared.step.LineRefused.{LineRefused}
-use Rattle.branch_script.specs.Script.{step_of}
-use Rattle.branch_print.specs.Texts.{takes_item, outcome_text, line_refusal_text, unseen_text, no_sequences_text, line_end}
+use Rattle.branch_script.specs.Script.{line_of}
+use Rattle.branch_print.specs.Texts.{takes_item, outcome_text, line_refusal_text, unseen_text, no_sequences_text, unknown_commit_text, line_end}
 use Rattle.branch_engine.specs.Sessions.{Sight, Session, seen_by}
 
 abbrev pub History : Type 0 → Type 0 → Type 0
@@ -58,6 +60,10 @@ abbrev pub heads_named : {S O R Q A : Type 0} → Fixed S O R Q A → Play O R �
 heads_named fixed p [] = Ok []
 heads_named fixed p (name ∷ names) =
     and_head name (full_turn fixed p.moves (machine.Look name)).outcome (heads_named fixed p names)
+
+-- whether the store has a commit of this number
+abbrev pub has_commit : {S O R Q A : Type 0} → Fixed S O R Q A → Play O R → ℕ → Bool
+has_commit fixed p number = nat_lt number (length (store_of fixed.terms.origin p.moves).commits)
 
 -- a turn of the machine for a session, on the branch of this number and name, for a type of these plain forms; of a step
 -- it is told whether it takes an item out of a sequence
@@ -116,11 +122,12 @@ module _ {S O R Q A : Type 0} (forms : PlainForms O Q R A) (fixed : Fixed S O R 
   drop_told p session None = says p (unseen_text session)
   drop_told p session (Some sight) = turn_told false p session sight.branch (machine.Drop sight.branch sight.head)
 
-  -- a query at a branch with this head, where the store has values of its kind; only sequences it may lack
+  -- a query at a commit, of the branch of this name or of none, where the store has values of its kind; only sequences it
+  -- may lack
   abbrev pub query_told : Play O R → List ℕ → ℕ → Option Q → Told O R
-  query_told p branch head None = says p no_sequences_text
-  query_told p branch head (Some query) =
-      says p (outcome_text forms false [] branch (full_turn fixed p.moves (machine.Ask head query)).outcome)
+  query_told p branch commit None = says p no_sequences_text
+  query_told p branch commit (Some query) =
+      says p (outcome_text forms false [] branch (full_turn fixed p.moves (machine.Ask commit query)).outcome)
 
   -- and given the outcome of a look at the branch: it is asked at the head
   abbrev pub ask_told : Play O R → List ℕ → Option Q → machine.Outcome A R → Told O R
@@ -136,14 +143,23 @@ module _ {S O R Q A : Type 0} (forms : PlainForms O Q R A) (fixed : Fixed S O R 
   step_told p (Do session op) = do_told p session op (seen_by p.sessions session)
   step_told p (Ask branch query) = ask_told p branch (forms.query query) (full_turn fixed p.moves (machine.Look branch)).outcome
 
-  -- an empty line or a comment is not answered; another line is, also where it is no step
-  abbrev pub read_told : Play O R → Result (Option Step) LineRefused → Told O R
+  -- a line is a step, or about the commit of a number, which the store may lack
+  unfoldable pub form_told : Play O R → Line → Told O R
+  form_told p (form.Step step) = step_told p step
+  form_told p (form.AskAt number query) =
+      if has_commit fixed p number then query_told p [] number (forms.query query) else says p (unknown_commit_text number)
+  form_told p (form.ForkAt new number) =
+      if has_commit fixed p number then told forms false p [] 0 new (full_turn fixed p.moves (machine.Place new number))
+      else says p (unknown_commit_text number)
+
+  -- an empty line or a comment is not answered; another line is, also where it says nothing
+  abbrev pub read_told : Play O R → Result (Option Line) LineRefused → Told O R
   read_told p (Ok None) = record { text = []; after = p }
-  read_told p (Ok (Some step)) = step_told p step
+  read_told p (Ok (Some line)) = form_told p line
   read_told p (Err refusal) = says p (line_refusal_text refusal)
 
   abbrev pub line_told : Play O R → List ℕ → Told O R
-  line_told p line = read_told p (step_of line)
+  line_told p line = read_told p (line_of line)
 
   -- the text of lines, from a play on, and the play after them
   abbrev pub text_from : Play O R → List (List ℕ) → List ℕ

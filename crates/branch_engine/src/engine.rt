@@ -1,5 +1,5 @@
 // The engine of a script: a core on a disk, and what each session sees.
-ghost use Rattle.std.specs.Prelude.{◌≡◌, ◌<◌, ◌≤◌, ◌++◌, [], length, Ok, Err, IsErr, OnOk, OnErr, false};
+ghost use Rattle.std.specs.Prelude.{◌≡◌, ◌<◌, ◌≤◌, ◌++◌, [], length, nat_lt, Ok, Err, IsErr, OnOk, OnErr, true, false};
 ghost use mathlib.Core.List.{IsPrefix};
 ghost use Rattle.branch_names.specs.Heads.{name_of, IsKeptBranch};
 ghost use Rattle.branch_history.specs.History.{store_of};
@@ -9,9 +9,10 @@ ghost use Rattle.store_core.specs.Views.{held};
 ghost use Rattle.branch_print.specs.Texts.{refusal_text, line_end};
 ghost use Rattle.mrdt_model.specs.Spelled.{AppendsPart};
 ghost use Rattle.branch_machine.specs.Fixed.{fix};
-ghost use Rattle.store_core.specs.Answers.{had_failed, drop_answer};
+ghost use Rattle.store_core.specs.Answers.{had_failed, drop_answer, place_answer};
 ghost use Rattle.branch_engine.specs.Engines.{IsAt, Does, Puts, KeepsLooks, SeesHead, kind_text, ungrouped_text, RepliesAs};
-ghost use Rattle.branch_engine.specs.Play.{begins, turn_told, step_told, line_told};
+ghost use Rattle.branch_engine.specs.Play.{begins, turn_told, step_told, form_told, line_told};
+ghost use Rattle.branch_script.specs.declared.step.Line.TheVariants as form;
 ghost use Rattle.branch_script.specs.declared.step.Step.TheVariants as step;
 ghost use Rattle.store_seen.specs.declared.answers.PairRefused.TheVariants as pair_refusal;
 
@@ -24,20 +25,20 @@ use branch_names::Name;
 use branch_print::refusals::{
     put_collision, put_dropped, put_exhausted, put_full_branches, put_full_commits, put_full_moves,
     put_keeps_main, put_line_refusal, put_no_sequences, put_stale, put_taken, put_too_large,
-    put_unknown, put_unseen,
+    put_unknown, put_unknown_commit, put_unseen,
 };
 use branch_print::replies::{
     put_answer, put_dropped_branch, put_forked, put_forward, put_joined, put_landed, put_merged,
     put_same, put_sees, takes_item,
 };
-use branch_script::{LineRefused, Step, read_line};
+use branch_script::{Line, LineRefused, Step, read_line};
 use mrdt_model::Memory;
 use std::alloc::Global;
 use std::collections::BTreeMap;
 use std::marker::Model;
 use store_core::{
-    Core, DropRefused, ForkRefused, Kind, LandRefused, LookRefused, PairPrepareRefused,
-    PairRefused, PairStep, PrepareRefused, Prepared, Seen,
+    Core, DropRefused, ForkRefused, Forked, Kind, LandRefused, LookRefused, PairPrepareRefused,
+    PairRefused, PairStep, PlaceRefused, PrepareRefused, Prepared, Seen,
 };
 
 /// A core on a disk, and what each session sees, for values of a type with plain forms. Contracts see an `EngineView`: the
@@ -116,6 +117,16 @@ fn name_at<T: Forms, D: Disk + Drop, A: Address>(core: &Core<T, D, A>, branch: u
     name
 }
 
+// Whether the store has a commit of this number.
+fn has_commit<T: Forms, D: Disk + Drop, A: Address>(core: &Core<T, D, A>, commit: u32) -> bool
+    ensures is { result ≡ nat_lt commit
+        (length (store_of core.now.terms.origin core.now.history).commits) }
+    ensures there { result ≡ true
+        → commit < length (store_of core.now.terms.origin core.now.history).commits }
+{
+    commit < core.commits()
+}
+
 // Replies what the core answered to a drop of what was seen, on the branch with this name.
 fn put_drop<T: Forms>(
     out: &mut Vec<u8>,
@@ -137,6 +148,26 @@ fn put_drop<T: Forms>(
         Err(DropRefused::DiskFault) => Err(TellRefused::DiskFault),
         Err(DropRefused::Failed { .. }) => unreachable!(),
         Err(DropRefused::Memory) => Err(TellRefused::Memory),
+    }
+}
+
+// Replies what the core answered to a branch of this name that was placed at a commit.
+fn put_placed<T: Forms>(
+    out: &mut Vec<u8>,
+    new: &Name,
+    answer: Result<Forked, PlaceRefused>,
+) -> Result<(), TellRefused>
+    requires worked { had_failed {A = T.Answer} {R = T.Reply} (place_answer answer) ≡ false }
+    ensures { RepliesAs T.forms new.now (place_answer answer) out.old.items out.new.items result }
+{
+    match answer {
+        Ok(forked) => replied(put_forked(out, new, forked.number, forked.head)),
+        Err(PlaceRefused::NameTaken { number }) => replied(put_taken(out, number)),
+        Err(PlaceRefused::FullBranches { count }) => replied(put_full_branches(out, count)),
+        Err(PlaceRefused::FullMoves { count }) => replied(put_full_moves(out, count)),
+        Err(PlaceRefused::DiskFault) => Err(TellRefused::DiskFault),
+        Err(PlaceRefused::Failed { .. }) => unreachable!(),
+        Err(PlaceRefused::Memory) => Err(TellRefused::Memory),
     }
 }
 
@@ -253,6 +284,41 @@ impl<T: Forms, D: Disk + Drop, A: Address> Engine<T, D, A> {
         };
         let answer = seen.ask(&query)?;
         replied(put_answer(out, &<T as Forms>::answer(answer)))
+    }
+
+    // A query is asked at the commit of a number.
+    fn ask_at(&self, out: &mut Vec<u8>, commit: u32, query: &PlainQuery) -> Result<(), TellRefused>
+        requires { self.now.core.failed ≡ false }
+        ensures { Does D.may_leave D.moment D.left_since D.faults T.meaning A.address (λ fixed p.
+            form_told T.forms fixed p (form.AskAt commit query.now)) self.now self.now out.old.items
+            out.new.items result }
+    {
+        if !has_commit(&self.core, commit) {
+            return replied(put_unknown_commit(out, commit));
+        }
+        let query = T::query(query)?;
+        let Some(query) = query else {
+            return replied(put_no_sequences(out));
+        };
+        let answer = self.core.ask_at(commit, &query)?;
+        replied(put_answer(out, &<T as Forms>::answer(answer)))
+    }
+
+    // A branch is placed at the commit of a number.
+    fn fork_at(&mut self, out: &mut Vec<u8>, new: &Name, commit: u32) -> Result<(), TellRefused>
+        requires { self.old.core.failed ≡ false }
+        ensures { Does D.may_leave D.moment D.left_since D.faults T.meaning A.address (λ fixed p.
+            form_told T.forms fixed p (form.ForkAt new.now commit)) self.old self.new out.old.items
+            out.new.items result }
+    {
+        reads_what_stands::<T>();
+        let _ = self.core.moves();
+        if !has_commit(&self.core, commit) {
+            return replied(put_unknown_commit(out, commit));
+        }
+        let answer = self.core.place(*new, commit);
+        let _ = self.core.moves();
+        put_placed::<T>(out, new, answer)
     }
 
     // A session lands an operation on the branch that it sees.
@@ -435,6 +501,19 @@ impl<T: Forms, D: Disk + Drop, A: Address> Engine<T, D, A> {
         }
     }
 
+    // Does what a line says that says something, and writes its reply at the end.
+    fn do_line(&mut self, out: &mut Vec<u8>, line: Line) -> Result<(), TellRefused>
+        requires { self.old.core.failed ≡ false }
+        ensures { Does D.may_leave D.moment D.left_since D.faults T.meaning A.address (λ fixed p.
+            form_told T.forms fixed p line) self.old self.new out.old.items out.new.items result }
+    {
+        match line {
+            Line::Step(step) => self.step(out, step),
+            Line::AskAt { commit, query } => self.ask_at(out, commit, &query),
+            Line::ForkAt { new, commit } => self.fork_at(out, &new, commit),
+        }
+    }
+
     /// Does what a line says, and writes its reply at the end of `out`. At every moment a crash leaves what reads as
     /// the history before the line, or as the one after it. After `Memory` the history is one of the two, each
     /// session sees what it saw, and a first part of the reply was written. `DiskFault` comes only in a line that
@@ -447,7 +526,7 @@ impl<T: Forms, D: Disk + Drop, A: Address> Engine<T, D, A> {
     {
         let refusal = match read_line(self.alloc, line) {
             Ok(None) => return Ok(()),
-            Ok(Some(step)) => return self.step(out, step),
+            Ok(Some(line)) => return self.do_line(out, line),
             Err(refusal) => refusal,
         };
         if let LineRefused::Memory = refusal {

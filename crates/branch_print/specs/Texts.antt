@@ -164,3 +164,7 @@ unseen_text session = codes "error unseen " ++ session
 -- a step on sequences, in a store that has none
 abbrev pub no_sequences_text : List ℕ
 no_sequences_text = codes "error no sequences"
+
+-- a line about a commit of a number that the store has not
+abbrev pub unknown_commit_text : ℕ → List ℕ
+unknown_commit_text number = codes "error unknown #" ++ decimal number

@@ -4,7 +4,7 @@ ghost use Rattle.std.specs.Prelude.{◌≡◌, ◌++◌, [], OnOk, OnErr};
 ghost use Rattle.hex.specs.Hex.{encode_lower};
 ghost use Rattle.mrdt_model.specs.Spelled.{AppendsPart};
 ghost use Rattle.branch_history.specs.Steps.{UnknownBranch, Dropped, KeepsMain, Stale, NameTaken, Exhausted, FullCommits, FullBranches, FullMoves, ValueTooLarge, Collision};
-ghost use Rattle.branch_print.specs.Texts.{refusal_text, line_refusal_text, unseen_text, no_sequences_text, line_end};
+ghost use Rattle.branch_print.specs.Texts.{refusal_text, line_refusal_text, unseen_text, no_sequences_text, unknown_commit_text, line_end};
 
 use crate::pieces::{put_count, put_pieces, put_text};
 use branch_names::Name;
@@ -63,6 +63,16 @@ pub fn put_unknown(out: &mut Vec<u8>, name: &Name) -> Result<(), Memory>
         (refusal_text [] (UnknownBranch name.now) ++ line_end)) }
 {
     put_pieces(out, &[b"error unknown ", name.as_bytes(), b"\n"])
+}
+
+/// The store has no commit of this number: `error unknown #9`.
+pub fn put_unknown_commit(out: &mut Vec<u8>, number: u32) -> Result<(), Memory>
+    ensures ok { OnOk result (out.new.items
+        ≡ out.old.items ++ (unknown_commit_text number ++ line_end)) }
+    ensures err { OnErr result
+        (AppendsPart out.old.items out.new.items (unknown_commit_text number ++ line_end)) }
+{
+    put_count(out, b"error unknown #", u64::from(number))
 }
 
 /// The branch of this number was dropped: `error dropped 1`.

@@ -1,9 +1,10 @@
 // The forms of a line.
-ghost use Rattle.std.specs.Prelude.{◌≡◌, ◌≤◌, map, length, Ok, IfOk, IfErr};
-ghost use Rattle.branch_script.specs.Script.{two_words, three_words, four_words, do_at_key, ask_at_key, do_with_word, ask_with_word, do_with_number, five_words, six_words, seven_words, other_words, is_join, join_words, words_step, step_of, IsRefusedAs, IsLineRefusedAs};
+ghost use Rattle.std.specs.Prelude.{◌≡◌, ◌≤◌, [], ◌∷◌, ◌&&◌, bytes_eq, map, length, Ok, IfOk, IfErr};
+ghost use Rattle.branch_script.specs.Script.{two_words, three_words, do_at_key, do_with_word, do_with_number, do_words, named_words, query_of, ask_words, is_join, join_words, words_step, is_marked, commit_of, numbered, ask_at_words, is_fork_at, fork_at_words, a_step, words_line, line_of, IsRefusedAs, IsLineRefusedAs};
 
 use crate::branches::Branches;
-use crate::step::{LineRefused, Step};
+use crate::numbers::place;
+use crate::step::{Line, LineRefused, Step};
 use crate::tables::{
     kind_named, operation_at_key, operation_with_number, operation_with_word, query_at_key,
     query_with_word,
@@ -11,7 +12,7 @@ use crate::tables::{
 use crate::words::{plain, silent, words};
 use branch_doc::{Kind, PlainQuery};
 use branch_names::Name;
-use mrdt_model::Bytes;
+use mrdt_model::{Bytes, Memory};
 use std::alloc::Global;
 
 // `drop SESSION`.
@@ -47,22 +48,6 @@ fn three_words(verb: &[u8], first: &[u8], second: &[u8]) -> Result<Step, LineRef
     }
 }
 
-// `ask BRANCH KIND keys`.
-fn four_words(verb: &[u8], branch: &[u8], kind: &[u8], query: &[u8]) -> Result<Step, LineRefused>
-    ensures { result ≡ four_words verb.now branch.now kind.now query.now }
-{
-    if verb != b"ask".as_slice() || query != b"keys".as_slice() {
-        return Err(LineRefused::Syntax);
-    }
-    let Some(kind) = kind_named(kind) else {
-        return Err(LineRefused::Syntax);
-    };
-    Ok(Step::Ask {
-        branch: Name::read(branch)?,
-        query: PlainQuery::Keys(kind),
-    })
-}
-
 // `do SESSION KIND KEY OPERATION`.
 fn do_at_key(
     alloc: Global,
@@ -80,25 +65,6 @@ fn do_at_key(
     };
     let session = Name::read(session)?;
     Ok(Step::Do { session, op })
-}
-
-// `ask BRANCH KIND KEY QUERY`.
-fn ask_at_key(
-    alloc: Global,
-    branch: &[u8],
-    kind: Kind,
-    key: &[u8],
-    query: &[u8],
-) -> Result<Step, LineRefused>
-    ensures ok { IfOk result (λ step. ask_at_key branch.now kind key.now query.now ≡ Ok step) }
-    ensures err { IfErr result (IsRefusedAs (ask_at_key branch.now kind key.now query.now)) }
-{
-    let key = Bytes::from_slice(alloc, key)?;
-    let Some(query) = query_at_key(kind, query, key) else {
-        return Err(LineRefused::Syntax);
-    };
-    let branch = Name::read(branch)?;
-    Ok(Step::Ask { branch, query })
 }
 
 // `do SESSION KIND KEY OPERATION WORD`. A bad name is refused before a bad number.
@@ -149,113 +115,109 @@ fn do_with_number(
     Ok(Step::Do { session, op: op? })
 }
 
-// `ask BRANCH KIND KEY QUERY WORD`.
+// `do SESSION`, and an operation.
+fn do_words(alloc: Global, session: &[u8], words: &[&[u8]]) -> Result<Step, LineRefused>
+    ensures ok { IfOk result (λ step. do_words session.now (map (λ word. word.now) words.now)
+        ≡ Ok step) }
+    ensures err { IfErr result
+        (IsRefusedAs (do_words session.now (map (λ word. word.now) words.now))) }
+{
+    match words {
+        [kind, key, operation] => match kind_named(kind) {
+            Some(kind) => do_at_key(alloc, session, kind, key, operation),
+            None => Err(LineRefused::Syntax),
+        },
+        [kind, key, operation, word] => match kind_named(kind) {
+            Some(kind) => do_with_word(alloc, session, kind, key, operation, word),
+            None => Err(LineRefused::Syntax),
+        },
+        [kind, key, operation, number, word] => match kind_named(kind) {
+            Some(kind) => do_with_number(alloc, session, kind, key, operation, number, word),
+            None => Err(LineRefused::Syntax),
+        },
+        _ => Err(LineRefused::Syntax),
+    }
+}
+
+// A verb with one name or two.
+fn named_words(verb: &[u8], name: &[u8], words: &[&[u8]]) -> Result<Step, LineRefused>
+    ensures { result ≡ named_words verb.now name.now (map (λ word. word.now) words.now) }
+{
+    match words {
+        [] => two_words(verb, name),
+        [other] => three_words(verb, name, other),
+        _ => Err(LineRefused::Syntax),
+    }
+}
+
+// All keys of a kind.
+fn ask_keys(kind: &[u8], query: &[u8]) -> Option<PlainQuery>
+    ensures { result ≡ query_of (kind.now ∷ query.now ∷ []) }
+{
+    if query != b"keys".as_slice() {
+        return None;
+    }
+    Some(PlainQuery::Keys(kind_named(kind)?))
+}
+
+// A query at a key that takes no word.
+fn ask_at_key(
+    alloc: Global,
+    kind: &[u8],
+    key: &[u8],
+    query: &[u8],
+) -> Result<Option<PlainQuery>, Memory>
+    ensures { IfOk result (λ said. said ≡ query_of (kind.now ∷ key.now ∷ query.now ∷ [])) }
+{
+    let Some(kind) = kind_named(kind) else {
+        return Ok(None);
+    };
+    Ok(query_at_key(kind, query, Bytes::from_slice(alloc, key)?))
+}
+
+// A query at a key that takes a word.
 fn ask_with_word(
     alloc: Global,
-    branch: &[u8],
-    kind: Kind,
+    kind: &[u8],
     key: &[u8],
     query: &[u8],
     word: &[u8],
-) -> Result<Step, LineRefused>
-    ensures ok { IfOk result (λ step. ask_with_word branch.now kind key.now query.now word.now
-        ≡ Ok step) }
-    ensures err { IfErr result
-        (IsRefusedAs (ask_with_word branch.now kind key.now query.now word.now)) }
+) -> Result<Option<PlainQuery>, Memory>
+    ensures { IfOk result (λ said. said
+        ≡ query_of (kind.now ∷ key.now ∷ query.now ∷ word.now ∷ [])) }
 {
+    let Some(kind) = kind_named(kind) else {
+        return Ok(None);
+    };
     let key = Bytes::from_slice(alloc, key)?;
     let word = Bytes::from_slice(alloc, word)?;
-    let Some(query) = query_with_word(kind, query, key, word) else {
+    Ok(query_with_word(kind, query, key, word))
+}
+
+// The query that words say.
+fn query_of(alloc: Global, words: &[&[u8]]) -> Result<Option<PlainQuery>, Memory>
+    ensures { IfOk result (λ said. said ≡ query_of (map (λ word. word.now) words.now)) }
+{
+    match words {
+        [kind, query] => Ok(ask_keys(kind, query)),
+        [kind, key, query] => ask_at_key(alloc, kind, key, query),
+        [kind, key, query, word] => ask_with_word(alloc, kind, key, query, word),
+        _ => Ok(None),
+    }
+}
+
+// `ask BRANCH`, and a query.
+fn ask_words(alloc: Global, branch: &[u8], words: &[&[u8]]) -> Result<Step, LineRefused>
+    ensures ok { IfOk result (λ step. ask_words branch.now (map (λ word. word.now) words.now)
+        ≡ Ok step) }
+    ensures err { IfErr result
+        (IsRefusedAs (ask_words branch.now (map (λ word. word.now) words.now))) }
+{
+    let Some(query) = query_of(alloc, words)? else {
         return Err(LineRefused::Syntax);
     };
     let branch = Name::read(branch)?;
     Ok(Step::Ask { branch, query })
-}
-
-// An operation or a query at a key that takes no word.
-fn five_words(
-    alloc: Global,
-    verb: &[u8],
-    name: &[u8],
-    kind: &[u8],
-    key: &[u8],
-    last: &[u8],
-) -> Result<Step, LineRefused>
-    ensures ok { IfOk result (λ step. five_words verb.now name.now kind.now key.now last.now
-        ≡ Ok step) }
-    ensures err { IfErr result
-        (IsRefusedAs (five_words verb.now name.now kind.now key.now last.now)) }
-{
-    match (verb, kind_named(kind)) {
-        (b"do", Some(kind)) => do_at_key(alloc, name, kind, key, last),
-        (b"ask", Some(kind)) => ask_at_key(alloc, name, kind, key, last),
-        _ => Err(LineRefused::Syntax),
-    }
-}
-
-// An operation or a query at a key that takes a word.
-fn six_words(
-    alloc: Global,
-    verb: &[u8],
-    name: &[u8],
-    kind: &[u8],
-    key: &[u8],
-    last: &[u8],
-    word: &[u8],
-) -> Result<Step, LineRefused>
-    ensures ok { IfOk result (λ step. six_words verb.now name.now kind.now key.now last.now word.now
-        ≡ Ok step) }
-    ensures err { IfErr result
-        (IsRefusedAs (six_words verb.now name.now kind.now key.now last.now word.now)) }
-{
-    match (verb, kind_named(kind)) {
-        (b"do", Some(kind)) => do_with_word(alloc, name, kind, key, last, word),
-        (b"ask", Some(kind)) => ask_with_word(alloc, name, kind, key, last, word),
-        _ => Err(LineRefused::Syntax),
-    }
-}
-
-// An operation at a key that takes a number and a word.
-fn seven_words(
-    alloc: Global,
-    verb: &[u8],
-    name: &[u8],
-    kind: &[u8],
-    key: &[u8],
-    last: &[u8],
-    number: &[u8],
-    word: &[u8],
-) -> Result<Step, LineRefused>
-    ensures ok { IfOk result
-        (λ step. seven_words verb.now name.now kind.now key.now last.now number.now word.now
-        ≡ Ok step) }
-    ensures err { IfErr result (IsRefusedAs
-        (seven_words verb.now name.now kind.now key.now last.now number.now word.now)) }
-{
-    match (verb, kind_named(kind)) {
-        (b"do", Some(kind)) => do_with_number(alloc, name, kind, key, last, number, word),
-        _ => Err(LineRefused::Syntax),
-    }
-}
-
-// The step of two to seven words that are no join.
-fn other_words(alloc: Global, words: &[&[u8]]) -> Result<Step, LineRefused>
-    ensures ok { IfOk result (λ step. other_words (map (λ word. word.now) words.now) ≡ Ok step) }
-    ensures err { IfErr result (IsRefusedAs (other_words (map (λ word. word.now) words.now))) }
-{
-    match words {
-        [verb, session] => two_words(verb, session),
-        [verb, first, second] => three_words(verb, first, second),
-        [verb, branch, kind, query] => four_words(verb, branch, kind, query),
-        [verb, name, kind, key, last] => five_words(alloc, verb, name, kind, key, last),
-        [verb, name, kind, key, last, word] => {
-            six_words(alloc, verb, name, kind, key, last, word)
-        }
-        [verb, name, kind, key, last, number, word] => {
-            seven_words(alloc, verb, name, kind, key, last, number, word)
-        }
-        _ => Err(LineRefused::Syntax),
-    }
 }
 
 // Whether the words are a join's: its verb, and two to eight branches.
@@ -285,6 +247,13 @@ fn join_words(alloc: Global, session: &[u8], branches: &[&[u8]]) -> Result<Step,
     })
 }
 
+// Whether a verb is this keyword.
+fn is(keyword: &[u8], verb: &[u8]) -> bool
+    ensures { result ≡ bytes_eq verb.now keyword.now }
+{
+    verb == keyword
+}
+
 // The step of a line's words.
 fn fit_words(alloc: Global, words: &[&[u8]]) -> Result<Step, LineRefused>
     ensures ok { IfOk result (λ step. words_step (map (λ word. word.now) words.now) ≡ Ok step) }
@@ -294,18 +263,111 @@ fn fit_words(alloc: Global, words: &[&[u8]]) -> Result<Step, LineRefused>
         [verb, session, branches @ ..] if is_join(verb, branches) => {
             join_words(alloc, session, branches)
         }
-        [_, _, ..] => other_words(alloc, words),
+        [verb, branch, query @ ..] if is(b"ask", verb) => ask_words(alloc, branch, query),
+        [verb, session, operation @ ..] if is(b"do", verb) => do_words(alloc, session, operation),
+        [verb, name, others @ ..] => named_words(verb, name, others),
         _ => Err(LineRefused::Syntax),
     }
 }
 
-/// The step that a line of a script says; `None` for an empty line and for a comment.
+// Whether a word stands for a commit.
+fn is_marked(word: &[u8]) -> bool
+    ensures { result ≡ is_marked word.now }
+{
+    match word.first() {
+        None => false,
+        Some(byte) => *byte == b'#',
+    }
+}
+
+// The number of the commit that a word says.
+fn commit_of(word: &[u8]) -> Option<u32>
+    ensures { result ≡ commit_of word.now }
+{
+    match word {
+        [b'#', digits @ ..] => place(digits),
+        _ => None,
+    }
+}
+
+// Whether a verb is asked of, or forks from, what stands for a commit.
+fn is_at(keyword: &[u8], verb: &[u8], at: &[u8]) -> bool
+    ensures { result ≡ (bytes_eq verb.now keyword.now && is_marked at.now) }
+{
+    verb == keyword && is_marked(at)
+}
+
+// `ask #NUMBER`, and a query.
+fn ask_at_words(alloc: Global, commit: &[u8], words: &[&[u8]]) -> Result<Line, LineRefused>
+    ensures ok { IfOk result (λ said. ask_at_words commit.now (map (λ word. word.now) words.now)
+        ≡ Ok said) }
+    ensures err { IfErr result
+        (IsRefusedAs (ask_at_words commit.now (map (λ word. word.now) words.now))) }
+{
+    let Some(query) = query_of(alloc, words)? else {
+        return Err(LineRefused::Syntax);
+    };
+    match commit_of(commit) {
+        Some(commit) => Ok(Line::AskAt { commit, query }),
+        None => Err(LineRefused::BadNumber),
+    }
+}
+
+// Whether the words are a fork's from a commit: its verb, and one word that stands for a commit.
+fn is_fork_at(verb: &[u8], words: &[&[u8]]) -> bool
+    ensures { result ≡ is_fork_at verb.now (map (λ word. word.now) words.now) }
+{
+    match words {
+        [at] => is_at(b"fork", verb, at),
+        _ => false,
+    }
+}
+
+// `fork NEW #NUMBER`. A bad name is refused before a bad number.
+fn fork_at_words(new: &[u8], words: &[&[u8]]) -> Result<Line, LineRefused>
+    ensures { result ≡ fork_at_words new.now (map (λ word. word.now) words.now) }
+{
+    let [commit] = words else {
+        return Err(LineRefused::Syntax);
+    };
+    let new = Name::read(new)?;
+    match commit_of(commit) {
+        Some(commit) => Ok(Line::ForkAt { new, commit }),
+        None => Err(LineRefused::BadNumber),
+    }
+}
+
+// The step of words, as a line.
+fn a_step(alloc: Global, words: &[&[u8]]) -> Result<Line, LineRefused>
+    ensures ok { IfOk result (λ said. a_step (words_step (map (λ word. word.now) words.now))
+        ≡ Ok said) }
+    ensures err { IfErr result
+        (IsRefusedAs (a_step (words_step (map (λ word. word.now) words.now)))) }
+{
+    Ok(Line::Step(fit_words(alloc, words)?))
+}
+
+// What a line's words say.
+fn fit_line(alloc: Global, words: &[&[u8]]) -> Result<Line, LineRefused>
+    ensures ok { IfOk result (λ said. words_line (map (λ word. word.now) words.now) ≡ Ok said) }
+    ensures err { IfErr result (IsRefusedAs (words_line (map (λ word. word.now) words.now))) }
+{
+    match words {
+        [verb, at, query @ ..] if is_at(b"ask", verb, at) => ask_at_words(alloc, at, query),
+        [verb, new, at @ ..] if is_fork_at(verb, at) => fork_at_words(new, at),
+        [_, _, ..] => a_step(alloc, words),
+        _ => Err(LineRefused::Syntax),
+    }
+}
+
+/// What a line of a script says; `None` for an empty line and for a comment.
 ///
 /// A line that fits no form is `Syntax`, whatever its words in capitals are; then a bad name is `BadName`, and
-/// then a bad number `BadNumber`.
-#[tactic(auto, unfolding(crate::specs::Script::step_of))]
-pub fn read_line(alloc: Global, line: &[u8]) -> Result<Option<Step>, LineRefused>
-    ensures ok { IfOk result (λ step. step_of line.now ≡ Ok step) }
+/// then a bad number `BadNumber`. A word that begins with `#` and stands where a commit may stand is a number, and
+/// elsewhere it is no name.
+#[tactic(auto, unfolding(crate::specs::Script::line_of))]
+pub fn read_line(alloc: Global, line: &[u8]) -> Result<Option<Line>, LineRefused>
+    ensures ok { IfOk result (λ said. line_of line.now ≡ Ok said) }
     ensures err { IfErr result (IsLineRefusedAs line.now) }
 {
     if silent(line) {
@@ -315,5 +377,5 @@ pub fn read_line(alloc: Global, line: &[u8]) -> Result<Option<Step>, LineRefused
     if !plain(line, &words) {
         return Err(LineRefused::Syntax);
     }
-    Ok(Some(fit_words(alloc, &words)?))
+    Ok(Some(fit_line(alloc, &words)?))
 }

@@ -10,4 +10,4 @@ mod words;
 
 pub use branches::Branches;
 pub use form::read_line;
-pub use step::{LineRefused, Step};
+pub use step::{Line, LineRefused, Step};

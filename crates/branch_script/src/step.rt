@@ -25,7 +25,18 @@ pub enum Step {
     Ask { branch: Name, query: PlainQuery },
 }
 
-/// Why a line of a script is no step.
+/// What a line of a script says: a step, or something about a commit by its number.
+#[derive(Drop)]
+pub enum Line {
+    /// A step.
+    Step(Step),
+    /// A commit is asked.
+    AskAt { commit: u32, query: PlainQuery },
+    /// A new branch is placed at a commit.
+    ForkAt { new: Name, commit: u32 },
+}
+
+/// Why a line of a script says nothing.
 #[derive(Clone, Copy, Debug, PartialEq, Eq, Error)]
 pub enum LineRefused {
     /// The line fits no form.

@@ -9,7 +9,7 @@ ghost use Rattle.branch_wire.specs.Objects.{commit_object};
 ghost use Rattle.branch_wire.specs.StoredObjects.{first_with};
 ghost use Rattle.branch_names.specs.Heads.{branch_named, is_dropped};
 ghost use Rattle.branch_names.specs.declared.branch.Branch.{Branch};
-ghost use Rattle.branch_history.specs.Commits.{graph_of};
+ghost use Rattle.branch_history.specs.Commits.{graph_of, visible};
 ghost use Rattle.branch_history.specs.History.{store_of};
 ghost use Rattle.branch_history.specs.Machine.{turn, answers};
 ghost use Rattle.branch_history.specs.Steps as machine;
@@ -20,7 +20,7 @@ ghost use Rattle.object_store.specs.Commits.{kept_spelling, root_fields, root_pa
 ghost use Rattle.object_store.specs.Images.{AllBegin, AllCome, Grows};
 ghost use Rattle.store_seen.specs.Groups.{grouped_at, IsGrouped, GroupRefusedAs, IsStepOfAll, MergeAllRefusedAs};
 ghost use Rattle.store_seen.specs.Pairs.{IsPaired, PairRefusedAs, paired_at, IsStepOf, MergeRefusedAs};
-ghost use Rattle.store_seen.specs.Turns.{LookRefusedAs};
+ghost use Rattle.store_seen.specs.Turns.{FromOn, LookRefusedAs};
 ghost use Rattle.recorded_history.specs.Items.{lent_item};
 ghost use Rattle.recorded_history.specs.Keeps.{CameBehind, IsBackAt};
 ghost use Rattle.recorded_history.specs.Machine.{addresses_of, commit_of_address, Forks, LandsAs, LandsMore, Steps, IsRecordOf, place_answer, drop_answer, regions};
@@ -175,6 +175,34 @@ impl<T: Mrdt, A: Address> Recorded<T, A> {
             (self.now.written ++ self.now.pending)).branches number }
     {
         self.versions.is_dropped(number)
+    }
+
+    /// The value of a commit, where no move is pending; it is lent. It stands for the events that are visible there, and its
+    /// spelling is theirs.
+    pub fn value_at(&self, commit: u32) -> &T
+        requires settled { self.now.pending ≡ [] }
+        requires there { commit
+            < length (store_of self.now.terms.origin self.now.written).commits }
+        ensures stands { T.meaning.stands result.now
+            (visible (store_of self.now.terms.origin self.now.written).commits commit) }
+        ensures spelling { T.meaning.state_spelling result.now
+            ≡ T.meaning.spelling_of
+            (visible (store_of self.now.terms.origin self.now.written).commits commit) }
+    {
+        self.versions.value_at(commit)
+    }
+
+    /// What a commit answers to a query, now and however the history goes on, where no move is pending.
+    pub fn ask_at(&self, commit: u32, query: &T::Query) -> Result<T::Answer, Memory>
+        requires settled { self.now.pending ≡ [] }
+        requires there { commit
+            < length (store_of self.now.terms.origin self.now.written).commits }
+        ensures { IfOk result (λ answer.
+            FromOn T.meaning self.now.terms self.now.written (λ later.
+            turn T.meaning self.now.terms later (machine.Ask commit query.now)
+            ≡ answers (machine.Answered answer))) }
+    {
+        self.versions.ask_at(commit, query)
     }
 
     /// Looks at the branch with a name. `UnknownBranch` comes exactly where no branch has it, or it was dropped.

@@ -6,6 +6,7 @@ ghost use Rattle.branch_io.specs.Causes.{HasCauseOf, Rose};
 ghost use Rattle.branch_disk.specs.Disk.{Files, LeavesOnly, Tells};
 ghost use Rattle.branch_names.specs.declared.branch.Branch.{Branch};
 ghost use Rattle.branch_names.specs.Heads.{branch_named, is_dropped};
+ghost use Rattle.branch_history.specs.Commits.{visible};
 ghost use Rattle.branch_history.specs.History.{store_of};
 ghost use Rattle.branch_history.specs.Machine.{turn, answers};
 ghost use Rattle.branch_history.specs.Steps as machine;
@@ -19,7 +20,7 @@ ghost use Rattle.recorded_history.specs.Items.{lent_item};
 ghost use Rattle.recorded_history.specs.Machine.{addresses_of, commit_of_address};
 ghost use Rattle.store_seen.specs.Groups.{IsGrouped, GroupRefusedAs, IsStepOfAll, MergeAllRefusedAs};
 ghost use Rattle.store_seen.specs.Pairs.{paired_at, IsPaired, PairRefusedAs};
-ghost use Rattle.store_seen.specs.Turns.{LookRefusedAs};
+ghost use Rattle.store_seen.specs.Turns.{FromOn, LookRefusedAs};
 ghost use Rattle.store_core.specs.Answers.{place_answer, drop_answer, turn_of, Leaves};
 ghost use Rattle.store_core.specs.Bundling.{IsBundleOf};
 ghost use Rattle.store_core.specs.Views.{held};
@@ -39,6 +40,7 @@ use branch_address::Address;
 use branch_bundle::Bundle;
 use branch_disk::{Disk, Part};
 use branch_files::laws::stands_for_what_is_read;
+use branch_history::Move;
 use branch_machine::laws::grows_by_full_moves;
 use branch_names::{Name, Terms};
 use heads_journal::Journal;
@@ -346,6 +348,38 @@ impl<T: Mrdt, D: Disk + Drop, A: Address> Core<T, D, A> {
             number }
     {
         self.recorded.is_dropped(number)
+    }
+
+    /// The moves of the history, in order, which are lent.
+    pub fn history(&self) -> &[Move<T::Op, T::Reply>]
+        ensures { result.now ≡ self.now.history }
+    {
+        self.recorded.history()
+    }
+
+    /// The value of a commit, which is lent. It stands for the events that are visible there, and its spelling is theirs.
+    pub fn value_at(&self, commit: u32) -> &T
+        requires there { commit
+            < length (store_of self.now.terms.origin self.now.history).commits }
+        ensures stands { T.meaning.stands result.now
+            (visible (store_of self.now.terms.origin self.now.history).commits commit) }
+        ensures spelling { T.meaning.state_spelling result.now
+            ≡ T.meaning.spelling_of
+            (visible (store_of self.now.terms.origin self.now.history).commits commit) }
+    {
+        self.recorded.value_at(commit)
+    }
+
+    /// What a commit answers to a query, now and however the history goes on, also where the disk has failed.
+    pub fn ask_at(&self, commit: u32, query: &T::Query) -> Result<T::Answer, Memory>
+        requires there { commit
+            < length (store_of self.now.terms.origin self.now.history).commits }
+        ensures { IfOk result (λ answer.
+            FromOn T.meaning self.now.terms self.now.history (λ later.
+            turn T.meaning self.now.terms later (machine.Ask commit query.now)
+            ≡ answers (machine.Answered answer))) }
+    {
+        self.recorded.ask_at(commit, query)
     }
 
     /// Looks at the branch with a name, also where the disk has failed. `UnknownBranch` comes exactly where no branch

@@ -2,6 +2,7 @@ pub mod Crosses
 pub mod Named
 pub mod Times
 pub mod Looks
+pub mod Visibles
 pub mod Readies
 pub mod Landings
 pub mod Landable

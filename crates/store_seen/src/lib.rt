@@ -11,6 +11,7 @@ pub mod group;
 mod move_list;
 pub mod pair;
 pub mod pairing;
+pub mod past;
 pub mod placing;
 pub mod prepared;
 pub mod receiving;

@@ -81,6 +81,14 @@ impl<T: Mrdt> SharedNodes<T> {
         self.nodes.shared(number)
     }
 
+    // The value of a commit, lent.
+    pub(crate) fn lent(&self, number: u32) -> &T
+        requires { number < length self.now.graph.commits }
+        ensures { slice_get self.now.values number ≡ Some result.now }
+    {
+        self.nodes.value(number)
+    }
+
     // The address of a commit's object.
     pub(crate) fn address(&self, number: u32) -> &[u8; 32]
         requires { number < length self.now.graph.commits }

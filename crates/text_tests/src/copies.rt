@@ -1,10 +1,10 @@
 // Copies of the operations and queries of each kind.
-use branch_script::{Step, read_line};
+use branch_script::{Line, Step, read_line};
 use std::test::Fail;
 
 #[test]
 fn each_kind_is_copied(rt: HostRuntime) -> Result<(), Fail> {
-    let rows: [&[u8]; 25] = [
+    let rows: [&[u8]; 26] = [
         b"do a counter k add 1",
         b"do a counter k reset",
         b"do a flag k enable",
@@ -30,11 +30,13 @@ fn each_kind_is_copied(rt: HostRuntime) -> Result<(), Fail> {
         b"ask main queue k items",
         b"ask main queue k length",
         b"ask main queue keys",
+        b"ask #1 set k contains w",
     ];
     for line in rows.iter() {
         match read_line(rt.alloc(), line)? {
-            Some(Step::Do { op, .. }) => assert!(rt; op.copy().is_ok()),
-            Some(Step::Ask { query, .. }) => assert!(rt; query.copy().is_ok()),
+            Some(Line::Step(Step::Do { op, .. })) => assert!(rt; op.copy().is_ok()),
+            Some(Line::Step(Step::Ask { query, .. })) => assert!(rt; query.copy().is_ok()),
+            Some(Line::AskAt { query, .. }) => assert!(rt; query.copy().is_ok()),
             _ => panic!(rt; "neither an operation nor a query"),
         }
     }

@@ -1,7 +1,5 @@
 // Many clients whose landings go to the disk together.
-use crate::plays::{Documents, play, script};
-use branch_disk::MemoryDisk;
-use branch_names::{Limits, Terms};
+use crate::plays::{play, script};
 use branch_script::Step;
 use mrdt_model::Listing;
 use parallel_clients::{ClientRefusal, OpenGate, Outcome};
@@ -34,17 +32,13 @@ fn moves_of(outcome: &Outcome) -> usize {
 #[test]
 fn two_hundred_callers(rt: HostRuntime) -> Result<(), Fail> {
     let alloc = rt.alloc();
-    let disk = MemoryDisk::new(Vec::new(alloc));
-    let Ok(core) = Documents::init(alloc, disk, Terms::under(Limits::default())) else {
-        return Err(Fail::from("no store"));
-    };
     let scripts = scripts(alloc, CALLERS)?;
-    let (outcomes, core) = play(&rt, alloc, core, &scripts, &OpenGate);
-    assert_eq!(rt; outcomes.as_slice().len(), scripts.len());
-    for outcome in outcomes.as_slice() {
+    let played = play(&rt, alloc, Vec::new(alloc), &scripts, &OpenGate);
+    assert_eq!(rt; played.outcomes.as_slice().len(), scripts.len());
+    for outcome in played.outcomes.as_slice() {
         assert_eq!(rt; moves_of(outcome), 2);
     }
-    assert_eq!(rt; core.moves(), 2 * CALLERS);
+    assert_eq!(rt; played.moves, 2 * CALLERS);
     Ok(())
 }
 
@@ -67,19 +61,15 @@ fn is_done_or_failed(outcome: &Outcome) -> bool {
 fn a_fault_under_many(rt: HostRuntime) -> Result<(), Fail> {
     let alloc = rt.alloc();
     for call in [12, 60, 111, 150] {
-        let disk = MemoryDisk::new(vec![in alloc; call]?);
-        let Ok(core) = Documents::init(alloc, disk, Terms::under(Limits::default())) else {
-            return Err(Fail::from("no store"));
-        };
         let scripts = scripts(alloc, 16)?;
-        let (outcomes, core) = play(&rt, alloc, core, &scripts, &OpenGate);
+        let played = play(&rt, alloc, vec![in alloc; call]?, &scripts, &OpenGate);
         let mut landed: u64 = 0;
-        for outcome in outcomes.as_slice() {
+        for outcome in played.outcomes.as_slice() {
             assert!(rt; is_done_or_failed(outcome));
             landed = landed.saturating_add(moves_of(outcome) as u64);
         }
-        assert!(rt; landed <= core.moves());
-        assert_eq!(rt; core.has_failed(), core.moves() < 32);
+        assert!(rt; landed <= played.moves);
+        assert_eq!(rt; played.has_failed, played.moves < 32);
     }
     Ok(())
 }

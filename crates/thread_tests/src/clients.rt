@@ -1,8 +1,6 @@
 // What clients come to that work beside one another.
 use crate::meeting::Meeting;
-use crate::plays::{Documents, play, script};
-use branch_disk::MemoryDisk;
-use branch_names::{Limits, Terms};
+use crate::plays::{play, script};
 use parallel_clients::Outcome;
 use std::test::Fail;
 
@@ -43,14 +41,10 @@ fn one_is_held_while_another_lands(rt: HostRuntime) -> Result<(), Fail> {
         (10, &TEN, &[11], &[1, 2, 3, 4, 5, 6, 7, 8, 9, 10]),
     ];
     for (landings, lines, held, other) in rows {
-        let disk = MemoryDisk::new(Vec::new(alloc));
-        let Ok(core) = Documents::init(alloc, disk, Terms::under(Limits::default())) else {
-            return Err(Fail::from("no store"));
-        };
         let scripts = [script(alloc, &ONE)?, script(alloc, lines)?];
         let gate = Meeting::new(landings);
-        let (outcomes, _core) = play(&rt, alloc, core, &scripts, &gate);
-        let outcomes = outcomes.as_slice();
+        let played = play(&rt, alloc, Vec::new(alloc), &scripts, &gate);
+        let outcomes = played.outcomes.as_slice();
         assert!(rt; !gate.is_late());
         assert!(rt; outcomes.len() == 2);
         assert!(rt; is_done_at(&outcomes[0], held));

@@ -5,7 +5,8 @@ ghost use Rattle.branch_shared.specs.Names.{IsNamed};
 use branch_address::Sha256Address;
 use branch_disk::MemoryDisk;
 use branch_doc::{DocOp, DocReply};
-use branch_script::{Step, read_line};
+use branch_names::{Limits, Terms};
+use branch_script::{Line, Step, read_line};
 use branch_shared::{Blank, Named, Shared};
 use mrdt_doc::Doc;
 use mrdt_model::Listing;
@@ -18,27 +19,40 @@ use std::test::Fail;
 use std::thread::Threads;
 use store_core::Core;
 
-pub(crate) type Documents = Core<Doc, MemoryDisk, Sha256Address>;
+/// What became of clients over a new store of documents: of each of them, and the store's moves behind them, and whether
+/// its disk has failed.
+#[derive(Drop)]
+pub(crate) struct Played {
+    pub(crate) outcomes: Listing<Outcome>,
+    pub(crate) moves: u64,
+    pub(crate) has_failed: bool,
+}
 
 /// The steps of these lines.
 pub(crate) fn script(alloc: Global, lines: &[&str]) -> Result<Listing<Step>, Fail> {
     let mut steps = Vec::new(alloc);
     for line in lines {
-        if let Some(step) = read_line(alloc, line.as_bytes())? {
+        if let Some(Line::Step(step)) = read_line(alloc, line.as_bytes())? {
             steps.push(step)?;
         }
     }
     Ok(Listing::from_vec(steps))
 }
 
-/// What becomes of a client for each script, and the store after them.
+/// What becomes of a client for each script, over a new store on a disk of which listed calls fail, none of them one that
+/// makes the store.
 pub(crate) fn play<G: Gate, R: Threads + Wait + Abort + Sync>(
     rt: &R,
     alloc: Global,
-    core: Documents,
+    failing: Vec<u64>,
     scripts: &[Listing<Step>],
     gate: &G,
-) -> (Listing<Outcome>, Documents) {
+) -> Played {
+    let terms = Terms::under(Limits::default());
+    let made = Core::<Doc, MemoryDisk, Sha256Address>::init(alloc, MemoryDisk::new(failing), terms);
+    let Ok(core) = made else {
+        panic!(rt; "no store")
+    };
     let parts = 2 * scripts.len() as u64 + 1;
     match Blank::new(alloc, core, parts) {
         Ok(blank) => share::<Brand, G, R>(rt, alloc, blank, scripts, gate),
@@ -53,7 +67,7 @@ fn share<N: Named<DocOp, DocReply> + Drop + Send + Sync, G: Gate, R: Threads + W
     blank: Blank<Doc, MemoryDisk, Sha256Address>,
     scripts: &[Listing<Step>],
     gate: &G,
-) -> (Listing<Outcome>, Documents)
+) -> Played
     requires name { IsNamed blank N.table N.queue N.begun N.terms N.parts N.opened }
     requires drops { N.drops ≡ true }
     requires parts { 2 * length scripts.now < blank.parts }
@@ -64,5 +78,9 @@ fn share<N: Named<DocOp, DocReply> + Drop + Send + Sync, G: Gate, R: Threads + W
     };
     let closed = shared.close_with(pass);
     assert!(rt; closed.landed == closed.receipts);
-    (outcomes, closed.core)
+    Played {
+        outcomes,
+        moves: closed.core.moves(),
+        has_failed: closed.core.has_failed(),
+    }
 }

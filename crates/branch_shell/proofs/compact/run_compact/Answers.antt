@@ -11,6 +11,8 @@ use Rattle.branch_shell.proofs.Once.{answers_map, says_refused, reason_opening, 
 use Rattle.branch_shell.proofs.Works.{never_refused}
 use Rattle.branch_shell.proofs.Compactions.{never_done}
 use Rattle.branch_shell.specs.Values.{value_type}
+use denote.Param.Send.{sendable}
+use Rattle.documents_cross.proofs.Crosses.{Doc1-send, Doc1-sync}
 use Rattle.branch_shell.proofs.compact.run_compact.Goals as goal
 
 pub returns-in-Ok-clause-ran : goal.returns-in-Ok-clause-ran
@@ -78,3 +80,9 @@ returns-in-Err-clause-reason g c n = inl (
 pub returns-in-Err-clause-no_fault : goal.returns-in-Err-clause-no_fault
 returns-in-Err-clause-no_fault g c fault =
     (not_behind (g.D.Disk.faults c.args.held) (g.D.Disk.faults c.in-Err.held) c.in-Err.why c.refuse.result c.in-Err.ensures.cause c.refuse.ensures.fault fault, refl)
+
+pub open_store-requires-send-U : goal.open_store-requires-send-U
+open_store-requires-send-U g c κs within = let d = Doc1-send in search sendable
+
+pub open_store-requires-sync-U : goal.open_store-requires-sync-U
+open_store-requires-sync-U g c κs within = let d = Doc1-sync in search sendable

@@ -18,6 +18,8 @@ use Rattle.branch_shell.specs.Values.{value_type}
 use Rattle.branch_shell.proofs.Runs.{no_usage, once_usage, check_ran, address_ran, send_ran, both_behind}
 use Rattle.branch_shell.proofs.Received.{receive_usage}
 use Rattle.branch_shell.proofs.Outcomes.{never_usage}
+use denote.Param.Send.{sendable}
+use Rattle.documents_cross.proofs.Crosses.{Doc1-send, Doc1-sync}
 use Rattle.branch_shell.proofs.current.run_chosen.Goals as goal
 
 pub returns-in-Script-clause-ran : goal.returns-in-Script-clause-ran
@@ -207,3 +209,27 @@ returns-in-Receive-clause-behind_source g c fault = inl (c.run_receive-status.en
 
 pub returns-in-Receive-clause-behind_disk : goal.returns-in-Receive-clause-behind_disk
 returns-in-Receive-clause-behind_disk g c fault = inl ((c.run_receive-status.ensures.no_fault fault).1, refl)
+
+pub run_check-status-requires-send-U : goal.run_check-status-requires-send-U
+run_check-status-requires-send-U g c κs within = let d = Doc1-send in search sendable
+
+pub run_check-status-requires-sync-U : goal.run_check-status-requires-sync-U
+run_check-status-requires-sync-U g c κs within = let d = Doc1-sync in search sendable
+
+pub run_address-status-requires-send-U : goal.run_address-status-requires-send-U
+run_address-status-requires-send-U g c κs within = let d = Doc1-send in search sendable
+
+pub run_address-status-requires-sync-U : goal.run_address-status-requires-sync-U
+run_address-status-requires-sync-U g c κs within = let d = Doc1-sync in search sendable
+
+pub run_send-status-requires-send-U : goal.run_send-status-requires-send-U
+run_send-status-requires-send-U g c κs within = let d = Doc1-send in search sendable
+
+pub run_send-status-requires-sync-U : goal.run_send-status-requires-sync-U
+run_send-status-requires-sync-U g c κs within = let d = Doc1-sync in search sendable
+
+pub run_receive-status-requires-send-U : goal.run_receive-status-requires-send-U
+run_receive-status-requires-send-U g c κs within = let d = Doc1-send in search sendable
+
+pub run_receive-status-requires-sync-U : goal.run_receive-status-requires-sync-U
+run_receive-status-requires-sync-U g c κs within = let d = Doc1-sync in search sendable

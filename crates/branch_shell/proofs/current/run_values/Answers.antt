@@ -1,4 +1,6 @@
 -- The task over values of either type.
+use denote.Param.Send.{sendable}
+use Rattle.documents_cross.proofs.Crosses.{Doc-send, Doc-sync, Wide-send, Wide-sync}
 use Rattle.branch_shell.proofs.current.run_values.Goals as goal
 
 pub returns-in-Documents-clause-ran : goal.returns-in-Documents-clause-ran
@@ -18,3 +20,15 @@ returns-in-Documents-clause-behind_disk g c fault = rw c.in-Documents.is (c.run_
 
 pub returns-in-WithSequences-clause-behind_disk : goal.returns-in-WithSequences-clause-behind_disk
 returns-in-WithSequences-clause-behind_disk g c fault = rw c.in-WithSequences.is (c.run_chosen-in-WithSequences.ensures.behind_disk fault)
+
+pub run_chosen-requires-send-T : goal.run_chosen-requires-send-T
+run_chosen-requires-send-T g c κs within = let d = Doc-send in search sendable
+
+pub run_chosen-requires-sync-T : goal.run_chosen-requires-sync-T
+run_chosen-requires-sync-T g c κs within = let d = Doc-sync in search sendable
+
+pub run_chosen-requires-in-WithSequences-send-T : goal.run_chosen-requires-in-WithSequences-send-T
+run_chosen-requires-in-WithSequences-send-T g c κs within = let d = Wide-send in search sendable
+
+pub run_chosen-requires-in-WithSequences-sync-T : goal.run_chosen-requires-in-WithSequences-sync-T
+run_chosen-requires-in-WithSequences-sync-T g c κs within = let d = Wide-sync in search sendable

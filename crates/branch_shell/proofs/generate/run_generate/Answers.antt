@@ -10,6 +10,8 @@ use Rattle.branch_shell.specs.Documents.{SaysUnopened}
 use Rattle.branch_shell.proofs.Once.{answers_map, says_refused, not_behind}
 use Rattle.branch_shell.proofs.Works.{work_opened, work_refused}
 use Rattle.branch_shell.specs.Values.{value_type}
+use denote.Param.Send.{sendable}
+use Rattle.documents_cross.proofs.Crosses.{Doc1-send, Doc1-sync}
 use Rattle.branch_shell.proofs.generate.run_generate.Goals as goal
 
 pub returns-in-Ok-clause-ran : goal.returns-in-Ok-clause-ran
@@ -46,3 +48,9 @@ returns-in-Err-clause-ran g c left =
 
 pub returns-in-Err-clause-no_fault : goal.returns-in-Err-clause-no_fault
 returns-in-Err-clause-no_fault g c = not_behind (g.D.Disk.faults c.args.disk) (g.D.Disk.faults c.in-Err.disk) c.in-Err.why c.refuse.result c.in-Err.ensures.cause c.refuse.ensures.fault
+
+pub open_store-requires-send-U : goal.open_store-requires-send-U
+open_store-requires-send-U g c κs within = let d = Doc1-send in search sendable
+
+pub open_store-requires-sync-U : goal.open_store-requires-sync-U
+open_store-requires-sync-U g c κs within = let d = Doc1-sync in search sendable

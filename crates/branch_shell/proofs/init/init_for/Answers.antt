@@ -5,6 +5,8 @@ use Rattle.branch_shell.specs.Stores.{AreThese}
 use Rattle.branch_shell.specs.Values.{documents, documents_with_sequences}
 use Rattle.branch_shell.proofs.Outcomes.{never_usage}
 use Rattle.branch_shell.proofs.Runs.{init_said, init_wide, init_plain}
+use denote.Param.Send.{sendable}
+use Rattle.documents_cross.proofs.Crosses.{Doc-send, Doc-sync, Wide-send, Wide-sync}
 use Rattle.branch_shell.proofs.init.init_for.Goals as goal
 
 pub returns-then-kind-eq1-clause-ran : goal.returns-then-kind-eq1-clause-ran
@@ -42,3 +44,15 @@ returns-else-kind-eq1-clause-usage g c usage =
     let first = g.D.Disk.contents c.args.first in
     let second = g.D.Disk.contents c.args.second in
     never_usage (SaysMade first second) (SaysNotMade first second) run.result.0 (g.K.Sink.given c.args.sink.now) (g.K.Sink.given run.new.sink) run.ensures.wrote usage
+
+pub run_init-requires-send-T : goal.run_init-requires-send-T
+run_init-requires-send-T g c κs within = let d = Wide-send in search sendable
+
+pub run_init-requires-sync-T : goal.run_init-requires-sync-T
+run_init-requires-sync-T g c κs within = let d = Wide-sync in search sendable
+
+pub run_init-requires-else-kind-eq1-send-T : goal.run_init-requires-else-kind-eq1-send-T
+run_init-requires-else-kind-eq1-send-T g c κs within = let d = Doc-send in search sendable
+
+pub run_init-requires-else-kind-eq1-sync-T : goal.run_init-requires-else-kind-eq1-sync-T
+run_init-requires-else-kind-eq1-sync-T g c κs within = let d = Doc-sync in search sendable

@@ -11,6 +11,8 @@ use Rattle.branch_shell.specs.Statuses.{Runs}
 use Rattle.branch_shell.proofs.Once.{answers_map, says_refused, reason_opening, not_behind}
 use Rattle.branch_shell.proofs.Scripts.{script_opened, script_refused, wrote_opened}
 use Rattle.branch_shell.specs.Values.{value_type}
+use denote.Param.Send.{sendable}
+use Rattle.documents_cross.proofs.Crosses.{Doc1-send, Doc1-sync}
 use Rattle.branch_shell.proofs.script.run_script.Goals as goal
 
 pub returns-in-Ok-clause-ran : goal.returns-in-Ok-clause-ran
@@ -75,3 +77,9 @@ returns-in-Err-clause-behind_source g c = λ fault. inl refl
 
 pub returns-in-Err-clause-behind_disk : goal.returns-in-Err-clause-behind_disk
 returns-in-Err-clause-behind_disk g c = λ fault. inl (not_behind (g.D.Disk.faults c.args.disk) (g.D.Disk.faults c.in-Err.disk) c.in-Err.why c.refuse.result c.in-Err.ensures.cause c.refuse.ensures.fault fault)
+
+pub open_store-requires-send-U : goal.open_store-requires-send-U
+open_store-requires-send-U g c κs within = let d = Doc1-send in search sendable
+
+pub open_store-requires-sync-U : goal.open_store-requires-sync-U
+open_store-requires-sync-U g c κs within = let d = Doc1-sync in search sendable

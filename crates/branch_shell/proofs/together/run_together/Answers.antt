@@ -15,6 +15,8 @@ use Rattle.branch_shell.proofs.Opening.{for_its_kind}
 use Rattle.branch_shell.proofs.Scripts.{same_store}
 use Rattle.branch_shell.proofs.Works.{never_refused}
 use Rattle.branch_shell.specs.Values.{value_type}
+use denote.Param.Send.{sendable}
+use Rattle.documents_cross.proofs.Crosses.{Doc1-send, Doc1-sync}
 use Rattle.branch_shell.proofs.together.run_together.Goals as goal
 
 pub returns-in-Ok-clause-wrote : goal.returns-in-Ok-clause-wrote
@@ -98,3 +100,9 @@ returns-in-Err-clause-refused_only g c refused f told =
 
 pub returns-in-Err-clause-no_fault : goal.returns-in-Err-clause-no_fault
 returns-in-Err-clause-no_fault g c = not_behind (g.D.Disk.faults c.args.disk) (g.D.Disk.faults c.in-Err.disk) c.in-Err.why c.refuse.result c.in-Err.ensures.cause c.refuse.ensures.fault
+
+pub open_store-requires-send-U : goal.open_store-requires-send-U
+open_store-requires-send-U g c κs within = let d = Doc1-send in search sendable
+
+pub open_store-requires-sync-U : goal.open_store-requires-sync-U
+open_store-requires-sync-U g c κs within = let d = Doc1-sync in search sendable

@@ -5,6 +5,8 @@ use Rattle.branch_shell.specs.Together.{RanTogether}
 use Rattle.branch_shell.specs.Values.{documents, documents_with_sequences}
 use Rattle.branch_shell.proofs.Outcomes.{never_usage}
 use Rattle.branch_shell.proofs.Runs.{clients_ran}
+use denote.Param.Send.{sendable}
+use Rattle.documents_cross.proofs.Crosses.{Doc-send, Doc-sync, Wide-send, Wide-sync}
 use Rattle.branch_shell.proofs.together.run_values.Goals as goal
 
 pub returns-in-Documents-clause-ran : goal.returns-in-Documents-clause-ran
@@ -38,3 +40,15 @@ returns-in-WithSequences-clause-usage g c usage =
     let clients : Clients = record { count = c.args.work.count; work = record { steps = c.args.work.steps; number = c.args.work.number } } in
     never_usage (RanTogether g.D.Disk.may_leave documents_with_sequences g.A.Address.address told clients run.result.1) (SaysUnopened documents_with_sequences g.A.Address.address told) run.result.0 (g.K.Sink.given c.args.sink.now) (g.K.Sink.given run.new.sink)
     run.ensures.wrote usage
+
+pub run_together-requires-send-T : goal.run_together-requires-send-T
+run_together-requires-send-T g c κs within = let d = Doc-send in search sendable
+
+pub run_together-requires-sync-T : goal.run_together-requires-sync-T
+run_together-requires-sync-T g c κs within = let d = Doc-sync in search sendable
+
+pub run_together-requires-in-WithSequences-send-T : goal.run_together-requires-in-WithSequences-send-T
+run_together-requires-in-WithSequences-send-T g c κs within = let d = Wide-send in search sendable
+
+pub run_together-requires-in-WithSequences-sync-T : goal.run_together-requires-in-WithSequences-sync-T
+run_together-requires-in-WithSequences-sync-T g c κs within = let d = Wide-sync in search sendable

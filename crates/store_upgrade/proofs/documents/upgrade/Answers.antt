@@ -1,6 +1,5 @@
 -- The first disk is read, and its moves, renewed, are made again on the second.
 use Rattle.std.proofs.Common.{◌≡◌, ◌∙◌, List, [], ap, sym, subst, refl, inl}
-use Rattle.std.proofs.Crossing.{crosses}
 use denote.Param.Send.{sendable}
 use Rattle.branch_disk.specs.Disk.{LeavesOnly}
 use Rattle.branch_disk.specs.Moments.{started}
@@ -14,6 +13,7 @@ use Rattle.store_core.specs.Opens.{old_form}
 use Rattle.moves_again.specs.Again.{NoneOrSome, AllMade, MakeRefusedAs}
 use Rattle.store_upgrade.specs.declared.answers.UpgradeRefused.{UpgradeRefused}
 use Rattle.store_upgrade.specs.Upgrades.{today, moves_today, UpgradeRefusedAs, HasCauseOfEither}
+use Rattle.documents_cross.proofs.Crosses.{Doc-send, Doc-sync, Doc1-send, Doc1-sync}
 use Rattle.store_upgrade.proofs.Upgraded.{first-kinds, not-read, begun, not-made, cause-first, cause-neither, cause-second}
 use Rattle.store_upgrade.proofs.documents.upgrade.Goals as goal
 
@@ -83,3 +83,39 @@ returns-in_default-clause-kept g c = λ f told some.
 
 pub returns-in-Err-make_again-clause-kept : goal.returns-in-Err-make_again-clause-kept
 returns-in-Err-make_again-clause-kept g c = c.in-Err-make_again.ensures.kept
+
+pub keeps_turns-requires-send-T : goal.keeps_turns-requires-send-T
+keeps_turns-requires-send-T g c κs = let d = Doc1-send in search sendable
+
+pub keeps_turns-requires-send-U : goal.keeps_turns-requires-send-U
+keeps_turns-requires-send-U g c κs = let d = Doc-send in search sendable
+
+pub keeps_turns-requires-sync-T : goal.keeps_turns-requires-sync-T
+keeps_turns-requires-sync-T g c κs = let d = Doc1-sync in search sendable
+
+pub keeps_turns-requires-sync-U : goal.keeps_turns-requires-sync-U
+keeps_turns-requires-sync-U g c κs = let d = Doc-sync in search sendable
+
+pub keeps_answers-requires-send-T : goal.keeps_answers-requires-send-T
+keeps_answers-requires-send-T g c κs = let d = Doc1-send in search sendable
+
+pub keeps_answers-requires-send-U : goal.keeps_answers-requires-send-U
+keeps_answers-requires-send-U g c κs = let d = Doc-send in search sendable
+
+pub keeps_answers-requires-sync-T : goal.keeps_answers-requires-sync-T
+keeps_answers-requires-sync-T g c κs = let d = Doc1-sync in search sendable
+
+pub keeps_answers-requires-sync-U : goal.keeps_answers-requires-sync-U
+keeps_answers-requires-sync-U g c κs = let d = Doc-sync in search sendable
+
+pub read_old-requires-send-T : goal.read_old-requires-send-T
+read_old-requires-send-T g c κs within = let d = Doc1-send in search sendable
+
+pub read_old-requires-sync-T : goal.read_old-requires-sync-T
+read_old-requires-sync-T g c κs within = let d = Doc1-sync in search sendable
+
+pub make_again-requires-send-T : goal.make_again-requires-send-T
+make_again-requires-send-T g c κs within = let d = Doc-send in search sendable
+
+pub make_again-requires-sync-T : goal.make_again-requires-sync-T
+make_again-requires-sync-T g c κs within = let d = Doc-sync in search sendable

@@ -9,7 +9,8 @@ use Rattle.branch_engine.specs.Engines.{EngineView, RepliesAs, session_named}
 use Rattle.branch_engine.proofs.Played.{branch-stays}
 use Rattle.branch_engine.proofs.Does.{members, stays_so}
 use Rattle.branch_engine.proofs.Replies.{view_of, drop_telling, undropped}
-use Rattle.branch_engine.proofs.Drops.{looks-behind, told-as}
+use Rattle.branch_engine.proofs.Answered.{looks-behind}
+use Rattle.branch_engine.proofs.Drops.{drop_of, told-as}
 use Rattle.branch_engine.proofs.engine.Engine.drop_seen.Goals as goal
 
 -- the session has not looked
@@ -47,7 +48,7 @@ put_drop-requires-clause-worked g c = λ _ _.
 pub invariant_of-self : goal.invariant_of-self
 invariant_of-self g c =
     let laws = g.met.D.Disk in let core = c.self.inside.core in let seen = c.in-Some.seen.now in let made = c.drop_branch-answer in
-    looks-behind g.D.Disk laws.only_now (values_of g.T.Mrdt.meaning g.T.Forms.forms g.A.Address.address) (view_of core c.self.inside.sessions.entries) made.new.self c.args.session.now seen
+    looks-behind g.D.Disk laws.only_now (values_of g.T.Mrdt.meaning g.T.Forms.forms g.A.Address.address) (view_of core c.self.inside.sessions.entries) made.new.self (drop_of seen)
     (drop_answer seen made.result) (record { takes = made.ensures.takes; leaves = made.ensures.leaves }) c.self.invariant
 
 pub returns : goal.returns
