@@ -5,7 +5,7 @@
 
 pub mod clients;
 pub mod laws;
-mod pieces;
+pub mod pieces;
 pub mod refusals;
 pub mod replies;
 pub mod reports;

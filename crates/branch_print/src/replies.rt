@@ -128,8 +128,9 @@ pub fn takes_item(op: &PlainOp) -> bool
     matches!(op, PlainOp::SequenceDelete { .. })
 }
 
-// What a Dequeue took, what was done to a sequence, and nothing for other operations.
-fn put_reply(out: &mut Vec<u8>, takes: bool, reply: &PlainReply) -> Result<(), Memory>
+/// What the reply to an operation adds to its text, by whether that takes an item out of a sequence: of a Dequeue what it took,
+/// of an operation on a sequence what it did, and of all others nothing.
+pub fn put_reply(out: &mut Vec<u8>, takes: bool, reply: &PlainReply) -> Result<(), Memory>
     ensures ok { OnOk result (out.new.items ≡ out.old.items ++ reply_text takes reply.now) }
     ensures err { OnErr result
         (AppendsPart out.old.items out.new.items (reply_text takes reply.now)) }
@@ -268,8 +269,8 @@ fn put_first(out: &mut Vec<u8>, entry: &Option<Kept<Bytes>>) -> Result<(), Memor
     put_entries(out, entry.as_slice())
 }
 
-// The text of an answer without the end of the line.
-fn put_answer_text(out: &mut Vec<u8>, answer: &PlainAnswer) -> Result<(), Memory>
+/// The text of an answer without the end of the line.
+pub fn put_answer_text(out: &mut Vec<u8>, answer: &PlainAnswer) -> Result<(), Memory>
     ensures ok { OnOk result (out.new.items ≡ out.old.items ++ answer_text answer.now) }
     ensures err { OnErr result (AppendsPart out.old.items out.new.items (answer_text answer.now)) }
 {
