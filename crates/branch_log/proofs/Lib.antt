@@ -1,0 +1,4 @@
+pub mod Made
+pub mod Told
+pub mod Below
+pub mod Parts

@@ -1,0 +1,4 @@
+pub mod Acts
+pub mod Docs
+pub mod Wides
+pub mod Laws
