@@ -2,8 +2,9 @@ pub mod Adding
 pub mod Addresses
 pub mod Digits
 pub mod Five
+pub mod Flags
 pub mod Heard
-pub mod Names
+pub mod Looks
 pub mod Spelled
 pub mod Sure
 pub mod Origins

@@ -6,6 +6,7 @@ use Rattle.std.specs.Result.{result_ok}
 use Rattle.hex.specs.Hex.{decode_of}
 use Rattle.branch_names.specs.Names.{is_name}
 use Rattle.clap.specs.Walk.{Row, Text, all_of, first_of}
+use Rattle.branch_command.specs.declared.command.Sending.{Sending}
 
 -- the name that was given, if a word was given that is one
 abbrev pub name_of : Option Text → Option Text
@@ -34,12 +35,7 @@ abbrev pub addresses_of : List Text → Option (List (List ℕ))
 addresses_of [] = Some []
 addresses_of (word ∷ words) = in_front (address_of word) (addresses_of words)
 
--- a branch to be sent, and the addresses of commits that the receiver has
-pub record Sending : Type 0 where
-  pub branch : Text
-  pub here : List (List ℕ)
-
--- both, where both are said
+-- a branch to be sent, and the addresses of commits that the receiver has, where both are said
 abbrev pub sending_with : Option Text → Option (List (List ℕ)) → Option Sending
 sending_with (Some branch) (Some here) = Some (record { branch = branch; here = here })
 sending_with _ _ = None

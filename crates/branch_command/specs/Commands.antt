@@ -10,10 +10,12 @@ use Rattle.clap.specs.declared.error.kind.ErrorKind.{ErrorKind}
 use Rattle.clap.specs.declared.error.kind.ErrorKind.TheVariants.{DisplayHelp, DisplayVersion}
 use Rattle.branch_command.specs.Terms.{TermNumbers, terms_of, AreTerms}
 use Rattle.branch_command.specs.Work.{Work, work_of, Clients as ClientsGiven, clients_of}
-use Rattle.branch_command.specs.Bundles.{Sending, name_of, sending_of}
+use Rattle.branch_command.specs.Bundles.{name_of}
+use Rattle.branch_command.specs.Looks.{look_by}
 use Rattle.branch_command.specs.Program.{program}
 use Rattle.branch_command.specs.declared.command.Command.{Command}
 use Rattle.branch_command.specs.declared.command.Command.TheVariants as read
+use Rattle.branch_command.specs.declared.look.Look.{Look as LookGiven}
 use Rattle.branch_command.specs.declared.command.CommandRefused.{CommandRefused}
 use Rattle.branch_command.specs.declared.command.CommandRefused.TheVariants.{Usage}
 
@@ -21,7 +23,6 @@ pub data Said : Type 0 where
   -- make a store of terms with these numbers
   Init : TermNumbers → Said
   Script : Said
-  Check : Said
   -- run the script that is drawn from a number
   Generate : Work → Said
   -- run so many clients side by side
@@ -30,10 +31,8 @@ pub data Said : Type 0 where
   Upgrade : Said
   -- make the store of the compact history on the other disk, and switch to it
   Compact : Said
-  -- tell the address of the head of the branch of this name
-  Address : Text → Said
-  -- write a bundle of a branch
-  Send : Sending → Said
+  -- read this of the store, and write it
+  Look : LookGiven → Said
   -- receive a bundle as a new branch of this name
   Receive : Text → Said
   -- tell the text of help or of the version
@@ -60,16 +59,13 @@ abbrev pub said_by : Text → List Row → Option Said
 said_by name given =
     if bytes_eq name (codes "init") then option_map Init (terms_of given)
     else if bytes_eq name (codes "script") then Some Script
-    else if bytes_eq name (codes "check") then Some Check
     else if bytes_eq name (codes "generate") then option_map Generate (work_of given)
     else if bytes_eq name (codes "clients") then option_map Clients (clients_of given)
     else if bytes_eq name (codes "upgrade") then Some Upgrade
     else if bytes_eq name (codes "compact") then Some Compact
-    else if bytes_eq name (codes "address") then option_map Address (name_of (first_of (codes "branch") given))
-    else if bytes_eq name (codes "send") then option_map Send (sending_of given)
     else if bytes_eq name (codes "receive") then option_map Receive (name_of (first_of (codes "name") given))
     else if bytes_eq name (codes "help") then asked_by (fault_of program (help_words (first_of (codes "command") given)))
-    else None
+    else option_map Look (look_by name given)
 
 -- what words ask for, by the kinds of error that clap has for them, and by the command that it finds where it has none
 abbrev pub said_of : Kinds → Option (Text × List Row) → Option Said
@@ -95,13 +91,11 @@ init_with options = codes "init" ∷ options_words options
 abbrev pub Means : Said → Command → Type 0
 Means (Init n) (read.Init terms) = AreTerms n terms
 Means Script read.Script = Unit {0}
-Means Check read.Check = Unit {0}
 Means (Generate work) (read.Generate steps number) = work ≡ record { steps = steps; number = number }
 Means (Clients given) (read.Clients count steps number) = given ≡ record { count = count; work = record { steps = steps; number = number } }
 Means Upgrade read.Upgrade = Unit {0}
 Means Compact read.Compact = Unit {0}
-Means (Address branch) (read.Address named) = branch ≡ named.name
-Means (Send given) (read.Send sending) = given ≡ record { branch = sending.branch; here = sending.here }
+Means (Look said) (read.Look look) = said ≡ look
 Means (Receive branch) (read.Receive named) = branch ≡ named.name
 Means Help (read.Tell text) = Unit {0}
 Means said command = ⊥

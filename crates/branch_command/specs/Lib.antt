@@ -3,4 +3,6 @@ pub mod Numbers
 pub mod Work
 pub mod Terms
 pub mod Bundles
+pub mod Looks
+pub mod Flags
 pub mod Program

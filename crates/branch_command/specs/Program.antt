@@ -16,9 +16,13 @@ flag_rule name = record (new_rule name) { long = Some name; action = Some SetTru
 abbrev pub version_rule : Rule
 version_rule = record (new_rule (codes "version")) { long = Some (codes "version"); action = Some Version }
 
+-- a word that a command takes, which may lack
+abbrev pub optional_rule : Text → Rule
+optional_rule name = record (new_rule name) { value_names = 1 }
+
 -- the word behind `help`
 abbrev pub topic_rule : Rule
-topic_rule = record (new_rule (codes "command")) { value_names = 1 }
+topic_rule = optional_rule (codes "command")
 
 -- a word that a command wants
 abbrev pub wanted_rule : Text → Rule
@@ -50,6 +54,14 @@ init_rules = map limit_rule init_names ++ flag_rule (codes "sequences") ∷ flag
 abbrev pub send_rules : List Rule
 send_rules = wanted_rule (codes "branch") ∷ several_rule (codes "address") ∷ []
 
+-- the words of `log`
+abbrev pub log_rules : List Rule
+log_rules = wanted_rule (codes "at") ∷ optional_rule (codes "count") ∷ []
+
+-- the word and the flag of `show`
+abbrev pub show_rules : List Rule
+show_rules = wanted_rule (codes "at") ∷ flag_rule (codes "json") ∷ []
+
 -- the program without its commands, of which one is wanted; no program's name in front
 abbrev pub bare_program : App
 bare_program = record {
@@ -76,9 +88,11 @@ store_program = record {
       ∷ leaf (codes "upgrade") [] ∷ leaf (codes "compact") [] ∷ [];
 }
 
--- and with those on bundles, `address BRANCH`, `send BRANCH [ADDRESS ..]` and `receive NAME`, and `help [COMMAND]`
+-- with those on bundles, `address BRANCH`, `send BRANCH [ADDRESS ..]` and `receive NAME`, with those that print a
+-- history, `log AT [COUNT]`, `show AT [--json]` and `graph`, and with `help [COMMAND]`
 unfoldable pub program : App
 program = record store_program {
   subs = store_program.subs ++ (leaf (codes "address") (wanted_rule (codes "branch") ∷ []) ∷ leaf (codes "send") send_rules
-      ∷ leaf (codes "receive") (wanted_rule (codes "name") ∷ []) ∷ leaf (codes "help") (topic_rule ∷ []) ∷ []);
+      ∷ leaf (codes "receive") (wanted_rule (codes "name") ∷ []) ∷ leaf (codes "log") log_rules ∷ leaf (codes "show") show_rules
+      ∷ leaf (codes "graph") [] ∷ leaf (codes "help") (topic_rule ∷ []) ∷ []);
 }

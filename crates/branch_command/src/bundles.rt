@@ -13,12 +13,19 @@ use hex::FromHex;
 use mrdt_model::Listing;
 use std::alloc::{AllocError, Global};
 
+/// The name that a word says; `None` where it is no name.
+pub(crate) fn name_in(word: &str) -> Option<Name>
+    ensures { result ≡ name_of (Some word.now) }
+{
+    Name::read(word.as_bytes()).ok()
+}
+
 /// The name that was given to a word of a command; `None` where none was given.
 pub(crate) fn read_name(given: &ArgMatches<'_>, word: &str) -> Option<Name>
     ensures { result ≡ name_of (first_of word.now (rows_of (found_of given.now))) }
 {
     match given.get_str(word) {
-        Some(said) => Name::read(said.as_bytes()).ok(),
+        Some(said) => name_in(said),
         None => None,
     }
 }

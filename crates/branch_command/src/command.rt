@@ -10,7 +10,8 @@ ghost use Rattle.branch_command.specs.Commands.{Said, Help, Means, Answers, is_r
 ghost use Rattle.branch_command.specs.declared.command.CommandRefused.TheVariants.{Usage};
 ghost use Rattle.clap.specs.declared.error.kind.ErrorKind.TheVariants.{OutOfMemory};
 
-use crate::bundles::{read_name, read_sending};
+use crate::bundles::read_name;
+use crate::look::{Look, read_look};
 use crate::table::program;
 use crate::terms::read_terms;
 use crate::work::{read_clients, read_work};
@@ -45,8 +46,6 @@ pub enum Command {
     Init(Terms),
     /// Run the lines of standard input.
     Script,
-    /// Open the store and report.
-    Check,
     /// Run the script that is drawn from a number.
     Generate {
         /// How many lines are drawn, at most 1,000,000.
@@ -67,10 +66,8 @@ pub enum Command {
     Upgrade,
     /// Make the store of the compact history on the other disk, and switch to it.
     Compact,
-    /// Tell the address of the head of a branch.
-    Address(Named),
-    /// Write a bundle of a branch.
-    Send(Sending),
+    /// Read this of the store, and write it.
+    Look(Look),
     /// Receive a bundle as a new branch.
     Receive(Named),
     /// Tell this text, of help or of the version.
@@ -149,7 +146,6 @@ fn command_named(
             None => Err(CommandRefused::Usage),
         },
         "script" => Ok(Command::Script),
-        "check" => Ok(Command::Check),
         "generate" => match read_work(given) {
             Some((steps, number)) => Ok(Command::Generate { steps, number }),
             None => Err(CommandRefused::Usage),
@@ -164,20 +160,15 @@ fn command_named(
         },
         "upgrade" => Ok(Command::Upgrade),
         "compact" => Ok(Command::Compact),
-        "address" => match read_name(given, "branch") {
-            Some(name) => Ok(Command::Address(Named { name })),
-            None => Err(CommandRefused::Usage),
-        },
-        "send" => match read_sending(alloc, given) {
-            Ok((branch, here)) => Ok(Command::Send(Sending { branch, here })),
-            Err(refused) => Err(refused),
-        },
         "receive" => match read_name(given, "name") {
             Some(name) => Ok(Command::Receive(Named { name })),
             None => Err(CommandRefused::Usage),
         },
         "help" => tell_help(alloc, given.get_str("command")),
-        _ => Err(CommandRefused::Usage),
+        _ => match read_look(alloc, name, given) {
+            Ok(look) => Ok(Command::Look(look)),
+            Err(refused) => Err(refused),
+        },
     }
 }
 

@@ -2,17 +2,20 @@
 ghost use Rattle.std.specs.Prelude.{◌≡◌, ℕ, true, false, List, Some, None, [], ◌∷◌, ◌++◌, codes, length, option_map, replicate};
 ghost use Rattle.clap.specs.Walk.{Text};
 ghost use Rattle.hex.specs.Hex.{IsBytes, encode_lower};
-ghost use Rattle.branch_command.specs.Commands.{Init, Script, Check, Generate, Clients, Upgrade, Compact, Address, Send, Receive, Help, command_of, init_with, options_words};
+ghost use Rattle.branch_command.specs.Commands.{Init, Script, Generate, Clients, Upgrade, Compact, Look, Receive, Help, command_of, init_with, options_words};
 ghost use Rattle.branch_command.specs.Numbers.{usual, number_of, all_five};
 ghost use Rattle.branch_command.specs.Work.{whole_number_of};
 ghost use Rattle.branch_command.specs.Terms.{terms_with};
 ghost use Rattle.branch_command.specs.Bundles.{name_of, address_of, addresses_of, sending_with};
+ghost use Rattle.branch_command.specs.Looks.{address_with};
+ghost use Rattle.branch_command.specs.declared.look.At.TheVariants.{Branch, Commit};
+ghost use Rattle.branch_command.specs.declared.look.Look.TheVariants.{Report, Address, Bundle, Log, Document, Graph};
 
 /// The commands of some words, and words that say none.
 #[tactic(auto, unfolding(crate::specs::Commands::command_of, crate::specs::Program::program, clap::proofs::OnLiterals::clap_on_literals))]
 pub fn words()
     ensures script { command_of (codes "script" ∷ []) ≡ Some Script }
-    ensures check { command_of (codes "check" ∷ []) ≡ Some Check }
+    ensures check { command_of (codes "check" ∷ []) ≡ Some (Look Report) }
     ensures init { command_of (codes "init" ∷ [])
         ≡ Some (Init (record { limits = usual; origin = 0; sequences = false; changes = false })) }
     ensures help { command_of (codes "help" ∷ []) ≡ Some Help }
@@ -115,15 +118,15 @@ pub fn words()
     ensures changes_no_option { command_of (codes "script" ∷ codes "--changes" ∷ []) ≡ None }
     ensures origin_zeros { command_of (codes "init" ∷ codes "--origin" ∷ codes "00" ∷ []) ≡ None }
     ensures address { command_of (codes "address" ∷ codes "main" ∷ [])
-        ≡ Some (Address (codes "main")) }
+        ≡ Some (Look (Address (record { name = codes "main" }))) }
     ensures address_alone { command_of (codes "address" ∷ []) ≡ None }
     ensures address_name { command_of (codes "address" ∷ codes "Main" ∷ []) ≡ None }
     ensures address_help { command_of (codes "address" ∷ codes "--help" ∷ []) ≡ Some Help }
     ensures send { command_of (codes "send" ∷ codes "main" ∷ [])
-        ≡ Some (Send (record { branch = codes "main"; here = [] })) }
+        ≡ Some (Look (Bundle (record { branch = codes "main"; here = [] }))) }
     ensures send_here { command_of (codes "send" ∷ codes "main"
         ∷ codes "0000000000000000000000000000000000000000000000000000000000000000" ∷ [])
-        ≡ Some (Send (record { branch = codes "main"; here = replicate 32 0 ∷ [] })) }
+        ≡ Some (Look (Bundle (record { branch = codes "main"; here = replicate 32 0 ∷ [] }))) }
     ensures send_short { command_of (codes "send" ∷ codes "main"
         ∷ codes "000000000000000000000000000000000000000000000000000000000000000" ∷ []) ≡ None }
     ensures send_long { command_of (codes "send" ∷ codes "main"
@@ -137,6 +140,16 @@ pub fn words()
     ensures receive_more { command_of (codes "receive" ∷ codes "a" ∷ codes "b" ∷ []) ≡ None }
     ensures receive_alone { command_of (codes "receive" ∷ []) ≡ None }
     ensures receive_help { command_of (codes "receive" ∷ codes "--help" ∷ []) ≡ Some Help }
+    ensures log { command_of (codes "log" ∷ codes "main" ∷ [])
+        ≡ Some (Look (Log (Branch (codes "main")) None)) }
+    ensures log_count { command_of (codes "log" ∷ codes "#3" ∷ codes "2" ∷ [])
+        ≡ Some (Look (Log (Commit 3) (Some 2))) }
+    ensures log_zeros { command_of (codes "log" ∷ codes "#01" ∷ []) ≡ None }
+    ensures log_name { command_of (codes "log" ∷ codes "../x" ∷ []) ≡ None }
+    ensures show { command_of (codes "show" ∷ codes "main" ∷ codes "--json" ∷ [])
+        ≡ Some (Look (Document (Branch (codes "main")) true)) }
+    ensures show_alone { command_of (codes "show" ∷ []) ≡ None }
+    ensures graph { command_of (codes "graph" ∷ []) ≡ Some (Look Graph) }
     ensures nothing { command_of [] ≡ None }
     ensures unknown { command_of (codes "client" ∷ []) ≡ None }
     ensures more { command_of (codes "script" ∷ codes "x" ∷ []) ≡ None }
@@ -201,14 +214,15 @@ pub fn options()
 pub fn bundles()
     ensures address { (branch : Text)
         → command_of (codes "address" ∷ codes "--" ∷ branch ∷ [])
-        ≡ option_map Address (name_of (Some branch)) }
+        ≡ option_map Look (address_with (name_of (Some branch))) }
     ensures receive { (name : Text) → command_of (codes "receive" ∷ codes "--" ∷ name ∷ [])
         ≡ option_map Receive (name_of (Some name)) }
     ensures send { (branch : Text) → command_of (codes "send" ∷ codes "--" ∷ branch ∷ [])
-        ≡ option_map Send (sending_with (name_of (Some branch)) (Some [])) }
+        ≡ option_map Look (option_map Bundle (sending_with (name_of (Some branch)) (Some []))) }
     ensures send_two { (branch a b : Text)
         → command_of (codes "send" ∷ codes "--" ∷ branch ∷ a ∷ b ∷ [])
-        ≡ option_map Send (sending_with (name_of (Some branch)) (addresses_of (a ∷ b ∷ []))) }
+        ≡ option_map Look (option_map Bundle
+        (sending_with (name_of (Some branch)) (addresses_of (a ∷ b ∷ [])))) }
 {}
 
 /// The word of an address is its spelling in 64 lower-case hexadecimal digits, and no other word says it.

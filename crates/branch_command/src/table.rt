@@ -3,7 +3,7 @@ ghost use Rattle.std.specs.Prelude.{◌≡◌, IfOk, false, codes, ◌∷◌, []
 ghost use Rattle.clap.specs.declared.builder.command.Command.TheViews.{out-Command as fields_of};
 ghost use Rattle.clap.specs.Walk.{rule_of};
 ghost use Rattle.clap.specs.Simple.{app_of, shape_of};
-ghost use Rattle.branch_command.specs.Program.{limit_rule, flag_rule, version_rule, topic_rule, wanted_rule, several_rule, leaf, init_rules, work_names, client_names, send_rules, bare_program, store_program, program};
+ghost use Rattle.branch_command.specs.Program.{limit_rule, flag_rule, version_rule, topic_rule, optional_rule, wanted_rule, several_rule, leaf, init_rules, work_names, client_names, send_rules, log_rules, show_rules, bare_program, store_program, program};
 
 use clap::{Arg, ArgAction, Command};
 use std::alloc::{AllocError, Global};
@@ -35,13 +35,11 @@ fn version<'a>(alloc: Global) -> Arg<'a>
         .help("Print version")
 }
 
-// The word behind `help`.
-fn topic<'a>(alloc: Global) -> Arg<'a>
-    ensures { (rule_of result ≡ topic_rule) × (result.global ≡ false) }
+// A word that a command takes, which may lack.
+fn optional<'a>(alloc: Global, name: &'a str, shown: &'a str, help: &'a str) -> Arg<'a>
+    ensures { (rule_of result ≡ optional_rule name.entry.now) × (result.global ≡ false) }
 {
-    Arg::new(alloc, "command")
-        .value_name("COMMAND")
-        .help("The command to tell of")
+    Arg::new(alloc, name).value_name(shown).help(help)
 }
 
 // A word that a command wants.
@@ -77,9 +75,10 @@ fn help<'a>(alloc: Global) -> Result<Command<'a>, AllocError>
     ensures { IfOk result (λ c. (shape_of c ≡ leaf (codes "help") (topic_rule ∷ []))
         × ((fields_of c).has_globals ≡ false)) }
 {
+    let command = optional(alloc, "command", "COMMAND", "The command to tell of");
     Command::new(alloc, "help")
         .about("Print this message or the help of a command")
-        .arg(topic(alloc))?
+        .arg(command)?
         .arg(version(alloc))
 }
 
@@ -245,6 +244,64 @@ fn receive<'a>(alloc: Global) -> Result<Command<'a>, AllocError>
         .arg(version(alloc))
 }
 
+// The word of `log` and of `show` that says a commit.
+fn at<'a>(alloc: Global) -> Arg<'a>
+    ensures { (rule_of result ≡ wanted_rule (codes "at")) × (result.global ≡ false) }
+{
+    wanted(
+        alloc,
+        "at",
+        "AT",
+        "A branch, or # and the number of a commit",
+    )
+}
+
+// `log AT [COUNT]`.
+fn log<'a>(alloc: Global) -> Result<Command<'a>, AllocError>
+    ensures { IfOk result (λ c. (shape_of c ≡ leaf (codes "log") log_rules)
+        × ((fields_of c).has_globals ≡ false)) }
+{
+    let count = optional(
+        alloc,
+        "count",
+        "COUNT",
+        "How many lines are printed at most, 0 to 18446744073709551615 [default: all]",
+    );
+    Command::new(alloc, "log")
+        .about("Print what each commit did that a branch or a commit reaches, the newest first")
+        .arg(at(alloc))?
+        .arg(count)?
+        .arg(version(alloc))
+}
+
+// `show AT [--json]`.
+fn show<'a>(alloc: Global) -> Result<Command<'a>, AllocError>
+    ensures { IfOk result (λ c. (shape_of c ≡ leaf (codes "show") show_rules)
+        × ((fields_of c).has_globals ≡ false)) }
+{
+    let json = flag(alloc, "json", "Print it as one JSON object");
+    Command::new(alloc, "show")
+        .about("Print the document of a branch or of a commit, a line for each key")
+        .arg(at(alloc))?
+        .arg(json)?
+        .arg(version(alloc))
+}
+
+// The statuses that the program ends with, in its help.
+const STATUSES: &str =
+    "Behind any command the word --verbose, or -v, has standard error told why the command was not done.
+
+Statuses:
+  0  done
+  1  the words say no command
+  2  the store, or what was asked, is refused; standard output says why
+  3  the disk failed, or another program holds the store
+  4  standard input failed
+  5  standard output failed
+  6  a line of the script is too long
+  7  the input is too long
+  8  memory is short";
+
 // The program without its commands. Its words have no program's name in front.
 fn bare<'a>(alloc: Global) -> Result<Command<'a>, AllocError>
     ensures { IfOk result (λ c. app_of c ≡ bare_program) }
@@ -252,6 +309,7 @@ fn bare<'a>(alloc: Global) -> Result<Command<'a>, AllocError>
     Command::new(alloc, "bucketplum")
         .bin_name("bucketplum PATH")?
         .about("A branch store of mergeable data types, in the files PATH.objects and PATH.heads")
+        .after_help(STATUSES)
         .version("0.1.0")
         .propagate_version(true)
         .disable_version_flag(true)
@@ -297,10 +355,20 @@ pub(crate) fn program<'a>(alloc: Global) -> Result<Command<'a>, AllocError>
     let address = address(alloc)?;
     let send = send(alloc)?;
     let receive = receive(alloc)?;
+    let log = log(alloc)?;
+    let show = show(alloc)?;
+    let graph = plain(
+        alloc,
+        "graph",
+        "Print the history as a graph in the language DOT",
+    )?;
     let help = help(alloc)?;
     on_store(alloc)?
         .subcommand(address)?
         .subcommand(send)?
         .subcommand(receive)?
+        .subcommand(log)?
+        .subcommand(show)?
+        .subcommand(graph)?
         .subcommand(help)
 }

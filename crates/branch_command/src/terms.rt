@@ -25,8 +25,8 @@ fn read_origin(given: &ArgMatches<'_>) -> Option<u32>
     }
 }
 
-// Whether a flag was given.
-fn is_given(given: &ArgMatches<'_>, flag: &str) -> bool
+/// Whether a flag was given.
+pub(crate) fn is_given(given: &ArgMatches<'_>, flag: &str) -> bool
     ensures { result ≡ is_given (first_of flag.now (rows_of (found_of given.now))) }
 {
     match given.get_str(flag) {

@@ -1,7 +1,10 @@
 //! The program over standard streams: its words, and the run that they say over a disk.
 #![tactic(auto)]
 
+mod told;
+
 use branch_address::{Address, Sha256Address};
+use branch_command::{Flagged, read_flag};
 use branch_disk::Disk;
 use branch_io::{ReadSource, Sink, Source, WriteSink};
 use branch_shell::{Status, read_clients, run_alone, run_clients};
@@ -13,6 +16,7 @@ use std::rt::{Env, Files};
 use std::sync::Wait;
 use std::thread::Threads;
 use std::{env, fs, io};
+use told::tell_why;
 
 /// The words of the command line.
 #[derive(Drop)]
@@ -47,12 +51,25 @@ fn unread(error: &io::Error) -> Status {
     }
 }
 
-/// Reads the words of the command line. `Err` tells how the program ends where there is no path, where a word is not
-/// UTF-8 or where memory is short.
+// Whether the words are one word that asks for the text of help or of the version, which is of no store.
+fn ask_for_text(words: &[String]) -> bool {
+    match words {
+        [word] => matches!(word.as_str(), "help" | "--help" | "-h" | "--version"),
+        _ => false,
+    }
+}
+
+/// Reads the words of the command line. One word alone that asks for the text of help or of the version is the command,
+/// and the path is empty. `Err` tells how the program ends where there is no path, where a word is not UTF-8 or where
+/// memory is short.
 pub fn read_words<R: Env + AllocGlobal>(rt: &R) -> Result<Words, ExitCode> {
     match all_words(rt) {
         Ok(mut words) if !words.is_empty() => {
-            let path = words.remove(0);
+            let path = if ask_for_text(&words) {
+                String::new(rt.alloc())
+            } else {
+                words.remove(0)
+            };
             match second_path(rt, path.as_str()) {
                 Ok(second) => Ok(Words {
                     path,
@@ -67,9 +84,28 @@ pub fn read_words<R: Env + AllocGlobal>(rt: &R) -> Result<Words, ExitCode> {
     }
 }
 
-/// Runs the command that the words say, over a source, a sink and both disks, and hands the disks back. `clients` alone
-/// gets the handle to start threads and to wait with: every other command is run by a call that takes none, and so returns
-/// whatever call fails.
+/// How a run ends.
+#[derive(Clone, Copy, Debug, PartialEq, Eq)]
+pub struct Ended {
+    /// Its status.
+    pub status: Status,
+    /// Whether its words ask to be told more on standard error.
+    pub is_verbose: bool,
+}
+
+impl Ended {
+    // Of words for a copy of which there is no memory.
+    fn without_memory() -> Ended {
+        Ended {
+            status: Status::Memory,
+            is_verbose: false,
+        }
+    }
+}
+
+/// Runs the command that the words say, over a source, a sink and both disks, and hands the disks back. The flag by which
+/// words ask to be told more changes nothing here. `clients` alone gets the handle to start threads and to wait with: every
+/// other command is run by a call that takes none, and so returns whatever call fails.
 pub fn run_words<S, K, D, A, R>(
     rt: &R,
     alloc: Global,
@@ -78,7 +114,7 @@ pub fn run_words<S, K, D, A, R>(
     sink: &mut K,
     disk: D,
     second: D,
-) -> (Status, D, D)
+) -> (Ended, D, D)
 where
     S: Source,
     K: Sink,
@@ -86,11 +122,15 @@ where
     A: Address + Send,
     R: Threads + Wait + Sync,
 {
-    match read_clients(alloc, words) {
+    let Ok(Flagged { words, is_verbose }) = read_flag(alloc, words) else {
+        return (Ended::without_memory(), disk, second);
+    };
+    let (status, disk, second) = match read_clients(alloc, &words) {
         Ok(Some(work)) => run_clients::<K, D, A, R>(rt, alloc, work, sink, disk, second),
-        Ok(None) => run_alone::<S, K, D, A>(alloc, words, source, sink, disk, second),
+        Ok(None) => run_alone::<S, K, D, A>(alloc, &words, source, sink, disk, second),
         Err(Memory) => (Status::Memory, disk, second),
-    }
+    };
+    (Ended { status, is_verbose }, disk, second)
 }
 
 // The null device, opened for reading.
@@ -105,21 +145,21 @@ fn fill_streams<R: Files>(rt: &R) -> io::Result<(R::File, R::File, R::File)> {
     Ok((null_device(rt)?, null_device(rt)?, null_device(rt)?))
 }
 
-/// Runs the command over both disks, of which no file is open yet. It reads standard input, writes to standard output and
-/// nothing else, and tells how the program ends: by the number of its status. Before any file of a store is opened it
-/// makes sure that none can take the place of a standard stream that is closed, and where it cannot, it ends as where the
-/// disk fails.
+/// Runs the command over both disks, of which no file is open yet. It reads standard input, writes to standard output and,
+/// where the words ask to be told more, why it ends as it does to standard error, and nothing else; and tells how the
+/// program ends: by the number of its status. Before any file of a store is opened it makes sure that none can take the
+/// place of a standard stream that is closed, and where it cannot, it ends as where the disk fails.
 pub fn run_command<D, R>(rt: &R, command: &[String], disk: D, second: D) -> ExitCode
 where
     D: Disk + Drop + Send,
-    R: AllocGlobal + Files + Input + Print + Threads + Wait + Sync,
+    R: AllocGlobal + Files + Input + Print + Eprint + Threads + Wait + Sync,
 {
     let Ok(_held) = fill_streams(rt) else {
         return ExitCode::from(Status::DiskFault.number());
     };
     let mut source = ReadSource::new(rt.reader());
     let mut sink = WriteSink::new(io::writer(rt));
-    let (status, _disk, _second) = run_words::<_, _, _, Sha256Address, _>(
+    let (ended, _disk, _second) = run_words::<_, _, _, Sha256Address, _>(
         rt,
         rt.alloc(),
         command,
@@ -128,5 +168,6 @@ where
         disk,
         second,
     );
-    ExitCode::from(status.number())
+    tell_why(rt, ended);
+    ExitCode::from(ended.status.number())
 }

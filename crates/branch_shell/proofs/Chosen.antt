@@ -92,12 +92,10 @@ pub over_both : {D : Type 0} (disk : Ghosts D) (address : List ℕ → List ℕ)
     ⊎ RanOnCurrent disk address (said_of t) old new left status input text
     → RanOverBoth disk address (said_of t) old new left status input text
 over_both disk address task.Script old new left status input text did = did
-over_both disk address task.Check old new left status input text did = did
+over_both disk address (task.Look look) old new left status input text did = did
 over_both disk address (task.Generate steps number) old new left status input text did = did
 over_both disk address task.Upgrade old new left status input text did = did
 over_both disk address task.Compact old new left status input text did = did
-over_both disk address (task.Address branch) old new left status input text did = did
-over_both disk address (task.Send sending) old new left status input text did = did
 over_both disk address (task.Receive name) old new left status input text did = did
 
 -- the counts of two disks, the other way round

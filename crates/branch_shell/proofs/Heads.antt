@@ -1,5 +1,5 @@
 -- The head of the branch of a name, and what is told of it.
-use Rattle.std.proofs.Common.{◌≡◌, ℕ, ◌<◌, zero, suc, List, [], ◌∷◌, map, refl, ap, ap₂, sym, ◌∙◌, subst, Option, Some, None}
+use Rattle.std.proofs.Common.{◌≡◌, ℕ, zero, suc, List, [], ◌∷◌, map, refl, ap, ap₂, sym, ◌∙◌, Option, Some, None}
 use Rattle.std.specs.Prelude.{slice_get, Result, Ok, Err, OnOk}
 use Rattle.mrdt_model.specs.Laws.{Meaning}
 use Rattle.branch_names.specs.declared.layout.Layout.{Layout}
@@ -17,11 +17,6 @@ use Rattle.branch_bundle.specs.declared.bundle.Bundle.{Bundle}
 use Rattle.branch_bundle.specs.Held.{text_of}
 use Rattle.recorded_history.specs.Machine.{addresses_of}
 use Rattle.store_core.specs.Bundling.{IsBundleOf}
-use Rattle.branch_shell.specs.Once.{Answers}
-use Rattle.branch_shell.specs.Stores.{Stored}
-use Rattle.branch_shell.specs.declared.status.Status.{Status}
-use Rattle.branch_shell.specs.Bundling.{branches_of, TellsHead}
-use Rattle.branch_shell.proofs.Once.{answers_map}
 
 module _ {S O R Q A : Type 0} (meaning : Meaning S O R Q A) (terms : Terms) (moves : List (Move O R)) (name : List ℕ) where
   abbrev s : Store O R
@@ -54,14 +49,6 @@ module _ {S O R Q A : Type 0} (meaning : Meaning S O R Q A) (terms : Terms) (mov
       by : (o : Option ℕ) → branch_named s.branches name ≡ o → look_turn {O = O} {R = R} {A = A} s name o ≡ answers (Refused (UnknownBranch name)) → branch_named s.branches name ≡ None
       by None named is = named
       by (Some r) named is = let clash : sees r (head_of s.branches r) ≡ unseen = ap (λ (t : Turn O R A). t.outcome) is in absurd (cc clash)
-
--- what was told of a commit was told of the head of the branch
-pub head_told : {O R : Type 0} (store : Stored O R) (branch : List ℕ) (of : ℕ → List ℕ) (refusal : List ℕ → Type 0) (number head : ℕ) (status : Status) (g0 g1 : Option (List ℕ))
-    → branch_named (branches_of store) branch ≡ Some number → head ≡ head_of (branches_of store) number
-    → Answers (λ whole. whole ≡ of head) (λ whole. ⊥) status g0 g1 → Answers (TellsHead store branch of) refusal status g0 g1
-head_told store branch of refusal number head status g0 g1 named is =
-    answers_map (λ whole. whole ≡ of head) (λ whole. ⊥) (TellsHead store branch of) refusal
-    (λ whole text. record { number = number; named = named; text_is = text ∙ ap of is }) (λ whole no. absurd no) status g0 g1
 
 -- the address of a commit, among those of all
 address-got : (address : List ℕ → List ℕ) (ps : List Pair) (k : ℕ) (a : List ℕ) → Some a ≡ slice_get (map (λ (p : Pair). address p.commit) ps) k → a ≡ address_at address ps k

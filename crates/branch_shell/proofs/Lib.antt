@@ -4,6 +4,7 @@ pub mod Cuts
 pub mod Told
 pub mod FirstEnd
 pub mod Ends
+pub mod Nodes
 pub mod Once
 pub mod Upgraded
 pub mod Inits

@@ -12,21 +12,22 @@ use Rattle.mrdt_model.specs.Laws.{Meaning}
 use Rattle.store_core.specs.Opens.{ReadsAsNone}
 use Rattle.branch_command.specs.Terms.{TermNumbers, AreTerms, kind_number}
 use Rattle.branch_command.specs.Work.{Clients as ClientsGiven}
-use Rattle.branch_command.specs.Commands.{Said, Init, Script, Check, Generate, Clients, Upgrade, Compact, Address, Send, Receive, Help}
+use Rattle.branch_command.specs.Commands.{Said, Init, Script, Look, Generate, Clients, Upgrade, Compact, Receive, Help}
 use Rattle.branch_shell.specs.declared.status.Status.{Status}
 use Rattle.branch_shell.specs.declared.status.Status.TheVariants.{Done, Usage, StoreRefused, DiskFault, Memory}
 use Rattle.branch_shell.specs.Reading.{Exchanges}
 use Rattle.branch_shell.specs.Once.{WroteOnce, Answers, Says}
-use Rattle.branch_shell.specs.Stores.{Stored, SaysReport, ReadsAsNoneOrEmpty}
+use Rattle.branch_shell.specs.Stores.{Stored, ReadsAsNoneOrEmpty}
 use Rattle.branch_shell.specs.Values.{ValueType, documents, documents_with_sequences}
 use Rattle.branch_shell.specs.Documents.{SaysUnopened}
 use Rattle.branch_shell.specs.Together.{RanTogether, SaysTogether, LeftTogether}
-use Rattle.branch_shell.specs.Bundling.{SaysAddress, SaysBundle, SaysNoBranch}
+use Rattle.branch_command.specs.declared.look.Look.{Look as Looked}
+use Rattle.branch_shell.specs.Looks.{SaysLook, SaysNoLook}
 use Rattle.mrdt_old_doc.specs.OldDocument.{old_document}
 use Rattle.branch_shell.specs.Statuses.{Wrote, WroteOf, ScriptWrote, Holds}
 use Rattle.store_compact.specs.declared.answers.Which.{Which}
 use Rattle.branch_shell.specs.Disks.{Disks, LeavesAsBefore, StaysSame, NoneChosen}
-use Rattle.branch_shell.specs.Ran.{LeavesInit, LeavesChecked, SaysMade, SaysNotMade, RanInit, RanInitFor, RanChosen, RanOverBoth}
+use Rattle.branch_shell.specs.Ran.{LeavesInit, LeavesLooked, SaysMade, SaysNotMade, RanInit, RanInitFor, RanChosen, RanOverBoth}
 use Rattle.branch_shell.proofs.Once.{wrote_map}
 use Rattle.branch_shell.proofs.Said.{one_command}
 use Rattle.branch_shell.proofs.Inits.{empty_reads, empty_map, none_or_empty_map}
@@ -126,25 +127,11 @@ module _ (address : List ℕ → List ℕ) {D : Type 0} (disk : Ghosts D) where
 
 module _ {S O R Q A : Type 0} (of : ValueType S O R Q A) (address : List ℕ → List ℕ) {D : Type 0} (disk : Ghosts D) where
   -- a run over the current disk alone, which leaves the other as it was
-  pub check_ran : (which : Which) (old new aside : D) (status : Status) (l g0 g1 : Option (List ℕ))
-      → Answers (SaysReport of.kind of.meaning address (disk.contents old)) (SaysUnopened of address (disk.contents old)) status g0 g1
-      → LeavesChecked disk of address old new status
-      → Exchanges l l g0 g1 (RanChosen disk of address Check which old new aside aside l status)
-  check_ran which old new aside status l g0 g1 w leaves =
-      ([], w.0, Consumes-nil l, w.1, (record { wrote = (refl, w.2); leaves = leaves; refused = λ refused. leaves.any_moment }, refl))
-
-  pub address_ran : (which : Which) (old new aside : D) (status : Status) (l g0 g1 : Option (List ℕ)) (branch : List ℕ)
-      → Answers (SaysAddress of.kind of.meaning address (disk.contents old) branch) (SaysNoBranch of.kind of.meaning old_document address (disk.contents old) branch) status g0 g1
-      → LeavesChecked disk of address old new status
-      → Exchanges l l g0 g1 (RanChosen disk of address (Address branch) which old new aside aside l status)
-  address_ran which old new aside status l g0 g1 branch w leaves =
-      ([], w.0, Consumes-nil l, w.1, (record { wrote = (refl, w.2); leaves = leaves; refused = λ refused. leaves.any_moment }, refl))
-
-  pub send_ran : (which : Which) (old new aside : D) (status : Status) (l g0 g1 : Option (List ℕ)) (branch : List ℕ) (here : List (List ℕ))
-      → Answers (SaysBundle of.kind of.meaning address (disk.contents old) branch here) (SaysNoBranch of.kind of.meaning old_document address (disk.contents old) branch) status g0 g1
-      → LeavesChecked disk of address old new status
-      → Exchanges l l g0 g1 (RanChosen disk of address (Send (record { branch = branch; here = here })) which old new aside aside l status)
-  send_ran which old new aside status l g0 g1 branch here w leaves =
+  pub look_ran : (which : Which) (old new aside : D) (status : Status) (l g0 g1 : Option (List ℕ)) (look : Looked)
+      → Answers (SaysLook of address (disk.contents old) look) (SaysNoLook of old_document address (disk.contents old) look) status g0 g1
+      → LeavesLooked disk of address old new status
+      → Exchanges l l g0 g1 (RanChosen disk of address (Look look) which old new aside aside l status)
+  look_ran which old new aside status l g0 g1 look w leaves =
       ([], w.0, Consumes-nil l, w.1, (record { wrote = (refl, w.2); leaves = leaves; refused = λ refused. leaves.any_moment }, refl))
 
   pub clients_ran : (which : Which) (old new aside : D) (status : Status) (l g0 g1 : Option (List ℕ)) (clients : ClientsGiven)
@@ -211,13 +198,11 @@ module _ (address : List ℕ → List ℕ) {D : Type 0} (disk : Ghosts D)
   idle_over : (old : Disks D) (l : Option (List ℕ)) (command : Said) → RanOverBoth disk address command old old l Memory [] []
   idle_over old l (Init n) = (refl, idle_init_for n n.sequences old)
   idle_over old l Script = inl (idle old Memory (inr refl))
-  idle_over old l Check = inl (idle old Memory (inr refl))
+  idle_over old l (Look look) = inl (idle old Memory (inr refl))
   idle_over old l (Generate work) = inl (idle old Memory (inr refl))
   idle_over old l (Clients clients) = inl (idle old Memory (inr refl))
   idle_over old l Upgrade = inl (idle old Memory (inr refl))
   idle_over old l Compact = inl (idle old Memory (inr refl))
-  idle_over old l (Address branch) = inl (idle old Memory (inr refl))
-  idle_over old l (Send sending) = inl (idle old Memory (inr refl))
   idle_over old l (Receive name) = inl (idle old Memory (inr refl))
   idle_over old l Help = (refl, refl)
 

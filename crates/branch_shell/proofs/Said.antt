@@ -6,153 +6,109 @@ use Rattle.branch_names.specs.declared.terms.Terms.{Terms}
 use Rattle.branch_command.specs.declared.command.Command.{Command}
 use Rattle.branch_command.specs.declared.command.Command.TheVariants as read
 use Rattle.branch_command.specs.declared.command.Named.{Named}
-use Rattle.branch_command.specs.declared.command.Sending.{Sending}
+use Rattle.branch_command.specs.declared.look.Look.{Look as Looked}
 use Rattle.branch_command.specs.Terms.{TermNumbers, AreTerms}
 use Rattle.branch_command.specs.Work.{Work, Clients as ClientsGiven}
-use Rattle.branch_command.specs.Commands.{Said, Init, Script, Check, Generate, Clients, Upgrade, Compact, Address, Send, Receive, Help, Means}
+use Rattle.branch_command.specs.Commands.{Said, Init, Script, Look, Generate, Clients, Upgrade, Compact, Receive, Help, Means}
 use Rattle.branch_shell.specs.Alone.{alone}
 use Rattle.branch_shell.specs.Stores.{AreThese}
 
 is_init : (said : Said) (terms : Terms) → Means said (read.Init terms) → (n : TermNumbers) × (said ≡ Init n) × AreTerms n terms
 is_init (Init n) terms means = (n, refl, means)
 is_init Script terms means = absurd means
-is_init Check terms means = absurd means
+is_init (Look look) terms means = absurd means
 is_init (Generate work) terms means = absurd means
 is_init (Clients given) terms means = absurd means
 is_init Upgrade terms means = absurd means
 is_init Compact terms means = absurd means
-is_init (Address branch) terms means = absurd means
-is_init (Send given) terms means = absurd means
 is_init (Receive name) terms means = absurd means
 is_init Help terms means = absurd means
 
 is_script : (said : Said) → Means said read.Script → said ≡ Script
 is_script (Init n) means = absurd means
 is_script Script means = refl
-is_script Check means = absurd means
+is_script (Look look) means = absurd means
 is_script (Generate work) means = absurd means
 is_script (Clients given) means = absurd means
 is_script Upgrade means = absurd means
 is_script Compact means = absurd means
-is_script (Address branch) means = absurd means
-is_script (Send given) means = absurd means
 is_script (Receive name) means = absurd means
 is_script Help means = absurd means
 
-is_check : (said : Said) → Means said read.Check → said ≡ Check
-is_check (Init n) means = absurd means
-is_check Script means = absurd means
-is_check Check means = refl
-is_check (Generate work) means = absurd means
-is_check (Clients given) means = absurd means
-is_check Upgrade means = absurd means
-is_check Compact means = absurd means
-is_check (Address branch) means = absurd means
-is_check (Send given) means = absurd means
-is_check (Receive name) means = absurd means
-is_check Help means = absurd means
+is_look : (said : Said) (look : Looked) → Means said (read.Look look) → said ≡ Look look
+is_look (Init n) look means = absurd means
+is_look Script look means = absurd means
+is_look (Look this) look means = ap Look means
+is_look (Generate work) look means = absurd means
+is_look (Clients given) look means = absurd means
+is_look Upgrade look means = absurd means
+is_look Compact look means = absurd means
+is_look (Receive name) look means = absurd means
+is_look Help look means = absurd means
 
 is_generate : (said : Said) (steps number : ℕ) → Means said (read.Generate steps number) → said ≡ Generate (record { steps = steps; number = number })
 is_generate (Init n) steps number means = absurd means
 is_generate Script steps number means = absurd means
-is_generate Check steps number means = absurd means
+is_generate (Look look) steps number means = absurd means
 is_generate (Generate work) steps number means = ap Generate means
 is_generate (Clients given) steps number means = absurd means
 is_generate Upgrade steps number means = absurd means
 is_generate Compact steps number means = absurd means
-is_generate (Address branch) steps number means = absurd means
-is_generate (Send given) steps number means = absurd means
 is_generate (Receive name) steps number means = absurd means
 is_generate Help steps number means = absurd means
 
 is_clients : (said : Said) (count steps number : ℕ) → Means said (read.Clients count steps number) → said ≡ Clients (record { count = count; work = record { steps = steps; number = number } })
 is_clients (Init n) count steps number means = absurd means
 is_clients Script count steps number means = absurd means
-is_clients Check count steps number means = absurd means
+is_clients (Look look) count steps number means = absurd means
 is_clients (Generate work) count steps number means = absurd means
 is_clients (Clients given) count steps number means = ap Clients means
 is_clients Upgrade count steps number means = absurd means
 is_clients Compact count steps number means = absurd means
-is_clients (Address branch) count steps number means = absurd means
-is_clients (Send given) count steps number means = absurd means
 is_clients (Receive name) count steps number means = absurd means
 is_clients Help count steps number means = absurd means
 
 is_help : (said : Said) (text : String Global) → Means said (read.Tell text) → said ≡ Help
 is_help (Init n) text means = absurd means
 is_help Script text means = absurd means
-is_help Check text means = absurd means
+is_help (Look look) text means = absurd means
 is_help (Generate work) text means = absurd means
 is_help (Clients given) text means = absurd means
 is_help Upgrade text means = absurd means
 is_help Compact text means = absurd means
-is_help (Address branch) text means = absurd means
-is_help (Send given) text means = absurd means
 is_help (Receive name) text means = absurd means
 is_help Help text means = refl
 
 is_upgrade : (said : Said) → Means said read.Upgrade → said ≡ Upgrade
 is_upgrade (Init n) means = absurd means
 is_upgrade Script means = absurd means
-is_upgrade Check means = absurd means
+is_upgrade (Look look) means = absurd means
 is_upgrade (Generate work) means = absurd means
 is_upgrade (Clients given) means = absurd means
 is_upgrade Upgrade means = refl
 is_upgrade Compact means = absurd means
-is_upgrade (Address branch) means = absurd means
-is_upgrade (Send given) means = absurd means
 is_upgrade (Receive name) means = absurd means
 is_upgrade Help means = absurd means
 
 is_compact : (said : Said) → Means said read.Compact → said ≡ Compact
 is_compact (Init n) means = absurd means
 is_compact Script means = absurd means
-is_compact Check means = absurd means
+is_compact (Look look) means = absurd means
 is_compact (Generate work) means = absurd means
 is_compact (Clients given) means = absurd means
 is_compact Upgrade means = absurd means
 is_compact Compact means = refl
-is_compact (Address branch) means = absurd means
-is_compact (Send given) means = absurd means
 is_compact (Receive name) means = absurd means
 is_compact Help means = absurd means
-
-is_address : (said : Said) (named : Named) → Means said (read.Address named) → said ≡ Address named.name
-is_address (Init n) named means = absurd means
-is_address Script named means = absurd means
-is_address Check named means = absurd means
-is_address (Generate work) named means = absurd means
-is_address (Clients given) named means = absurd means
-is_address Upgrade named means = absurd means
-is_address Compact named means = absurd means
-is_address (Address word) named means = ap Address means
-is_address (Send sending) named means = absurd means
-is_address (Receive word) named means = absurd means
-is_address Help named means = absurd means
-
-is_send : (said : Said) (sending : Sending) → Means said (read.Send sending) → said ≡ Send (record { branch = sending.branch; here = sending.here })
-is_send (Init n) sending means = absurd means
-is_send Script sending means = absurd means
-is_send Check sending means = absurd means
-is_send (Generate work) sending means = absurd means
-is_send (Clients given) sending means = absurd means
-is_send Upgrade sending means = absurd means
-is_send Compact sending means = absurd means
-is_send (Address word) sending means = absurd means
-is_send (Send given) sending means = ap Send means
-is_send (Receive word) sending means = absurd means
-is_send Help sending means = absurd means
 
 is_receive : (said : Said) (named : Named) → Means said (read.Receive named) → said ≡ Receive named.name
 is_receive (Init n) named means = absurd means
 is_receive Script named means = absurd means
-is_receive Check named means = absurd means
+is_receive (Look look) named means = absurd means
 is_receive (Generate work) named means = absurd means
 is_receive (Clients given) named means = absurd means
 is_receive Upgrade named means = absurd means
 is_receive Compact named means = absurd means
-is_receive (Address word) named means = absurd means
-is_receive (Send sending) named means = absurd means
 is_receive (Receive word) named means = ap Receive means
 is_receive Help named means = absurd means
 
@@ -167,8 +123,8 @@ module _ (words : Option Said) where
   pub said_script : (command : Command) → command ≡ read.Script → Reads words command → words ≡ Some Script
   said_script command is r = r.1 ∙ ap Some (is_script r.0 (subst (Means r.0) is r.2))
 
-  pub said_check : (command : Command) → command ≡ read.Check → Reads words command → words ≡ Some Check
-  said_check command is r = r.1 ∙ ap Some (is_check r.0 (subst (Means r.0) is r.2))
+  pub said_look : (command : Command) (look : Looked) → command ≡ read.Look look → Reads words command → words ≡ Some (Look look)
+  said_look command look is r = r.1 ∙ ap Some (is_look r.0 look (subst (Means r.0) is r.2))
 
   pub said_upgrade : (command : Command) → command ≡ read.Upgrade → Reads words command → words ≡ Some Upgrade
   said_upgrade command is r = r.1 ∙ ap Some (is_upgrade r.0 (subst (Means r.0) is r.2))
@@ -196,13 +152,6 @@ module _ (words : Option Said) where
   pub one_command : (a b : Said) → words ≡ Some a → words ≡ Some b → a ≡ b
   one_command a b x y = cc (x, y)
 
-  pub said_address : (command : Command) (named : Named) → command ≡ read.Address named → Reads words command → words ≡ Some (Address named.name)
-  said_address command named is r = r.1 ∙ ap Some (is_address r.0 named (subst (Means r.0) is r.2))
-
-  pub said_send : (command : Command) (sending : Sending) → command ≡ read.Send sending → Reads words command
-      → words ≡ Some (Send (record { branch = sending.branch; here = sending.here }))
-  said_send command sending is r = r.1 ∙ ap Some (is_send r.0 sending (subst (Means r.0) is r.2))
-
   pub said_receive : (command : Command) (named : Named) → command ≡ read.Receive named → Reads words command → words ≡ Some (Receive named.name)
   said_receive command named is r = r.1 ∙ ap Some (is_receive r.0 named (subst (Means r.0) is r.2))
 
@@ -219,13 +168,11 @@ pub never_alone : (words : Option Said) (clients : ClientsGiven) → alone words
 never_alone None clients is = cc is
 never_alone (Some (Init n)) clients is = cc is
 never_alone (Some Script) clients is = cc is
-never_alone (Some Check) clients is = cc is
+never_alone (Some (Look look)) clients is = cc is
 never_alone (Some (Generate work)) clients is = cc is
 never_alone (Some (Clients given)) clients is = cc is
 never_alone (Some Upgrade) clients is = cc is
 never_alone (Some Compact) clients is = cc is
-never_alone (Some (Address branch)) clients is = cc is
-never_alone (Some (Send given)) clients is = cc is
 never_alone (Some (Receive name)) clients is = cc is
 never_alone (Some Help) clients is = cc is
 
@@ -237,23 +184,19 @@ NeedsNone command = Unit {0}
 same_said : (said : Said) (command : Command) → NeedsNone command → Means said command → alone (Some said) ≡ Some said
 same_said (Init n) command none means = refl
 same_said Script command none means = refl
-same_said Check command none means = refl
+same_said (Look look) command none means = refl
 same_said (Generate work) command none means = refl
 same_said (Clients given) (read.Init terms) none means = absurd means
 same_said (Clients given) read.Script none means = absurd means
-same_said (Clients given) read.Check none means = absurd means
+same_said (Clients given) (read.Look look) none means = absurd means
 same_said (Clients given) (read.Generate steps number) none means = absurd means
 same_said (Clients given) (read.Clients count steps number) none means = absurd none
 same_said (Clients given) read.Upgrade none means = absurd means
 same_said (Clients given) read.Compact none means = absurd means
-same_said (Clients given) (read.Address named) none means = absurd means
-same_said (Clients given) (read.Send sending) none means = absurd means
 same_said (Clients given) (read.Receive named) none means = absurd means
 same_said (Clients given) (read.Tell text) none means = absurd means
 same_said Upgrade command none means = refl
 same_said Compact command none means = refl
-same_said (Address branch) command none means = refl
-same_said (Send given) command none means = refl
 same_said (Receive name) command none means = refl
 same_said Help command none means = refl
 

@@ -8,10 +8,10 @@ use Rattle.mrdt_model.specs.Laws.{Meaning}
 use Rattle.branch_disk.specs.declared.disk.Disk.{Ghosts}
 use Rattle.branch_disk.specs.Disk.{Files, LeavesOnly}
 use Rattle.branch_names.specs.declared.branch.Branch.{Branch}
-use Rattle.branch_names.specs.Heads.{branch_named, head_of}
+use Rattle.branch_names.specs.Heads.{branch_named}
 use Rattle.branch_history.specs.declared.moves.Move.{Move}
 use Rattle.branch_history.specs.History.{store_of}
-use Rattle.branch_history.specs.Steps.{UnknownBranch, NameTaken, BadBundle, OwnOrigin, TimeClash, Exhausted, ValueTooLarge, FullCommits, FullBranches, FullMoves, Collision}
+use Rattle.branch_history.specs.Steps.{NameTaken, BadBundle, OwnOrigin, TimeClash, Exhausted, ValueTooLarge, FullCommits, FullBranches, FullMoves, Collision}
 use Rattle.branch_machine.specs.Fixed.{Fixed, fix}
 use Rattle.branch_machine.specs.Objects.{address_at, pairs_of}
 use Rattle.branch_bundle_laws.specs.Bundles.{Bundle, bundle_of}
@@ -53,18 +53,6 @@ bundle_said meaning address here store commit =
     bundle_text store.terms.layout
     (bundle_of (fixed_for meaning address store) store.history commit here)
 
--- the branch of this name has a head, of which the text is told
-pub record TellsHead {O R : Type 0} (store : Stored O R) (branch : List ℕ) (of : ℕ → List ℕ)
-    (text : List ℕ) : Type 0 where
-  pub number : ℕ
-  pub named : branch_named (branches_of store) branch ≡ Some number
-  pub text_is : text ≡ of (head_of (branches_of store) number)
-
--- no branch has the name, and the text says so
-abbrev pub TellsUnknown : {O R : Type 0} → Stored O R → List ℕ → List ℕ → Type 0
-TellsUnknown store branch text = (branch_named (branches_of store) branch ≡ None)
-    × (text ≡ stop_text 0 (UnknownBranch branch))
-
 -- the branch of this number has the name, and the text says so
 abbrev pub TellsTaken : {O R : Type 0} → Stored O R → List ℕ → List ℕ → Type 0
 TellsTaken store name text = (number : ℕ) × (branch_named (branches_of store) name ≡ Some number)
@@ -75,25 +63,6 @@ abbrev pub SaysOf : {S O R Q A : Type 0} → ℕ → Meaning S O R Q A → (List
     → Option Files → (Stored O R → List ℕ → Type 0) → List ℕ → Type 0
 SaysOf {S} {O} {R} kind meaning address told P text = (store : Stored O R)
     × IsOpenedAs kind meaning address told store × P store text
-
--- the address of the head of a branch, in the store that opening found
-abbrev pub SaysAddress : {S O R Q A : Type 0} → ℕ → Meaning S O R Q A → (List ℕ → List ℕ)
-    → Option Files → List ℕ → List ℕ → Type 0
-SaysAddress kind meaning address told branch text = SaysOf kind meaning address told
-    (λ store. TellsHead store branch (address_said meaning address store)) text
-
--- the bundle of the head of a branch, for one that has the commits here with these addresses
-abbrev pub SaysBundle : {S O R Q A : Type 0} → ℕ → Meaning S O R Q A → (List ℕ → List ℕ)
-    → Option Files → List ℕ → List (List ℕ) → List ℕ → Type 0
-SaysBundle kind meaning address told branch here text = SaysOf kind meaning address told
-    (λ store. TellsHead store branch (bundle_said meaning address here store)) text
-
--- why nothing is told of a branch: no store was opened, or no branch there has the name
-abbrev pub SaysNoBranch : {S O R Q A T P X B C : Type 0} → ℕ → Meaning S O R Q A
-    → Meaning T P X B C → (List ℕ → List ℕ) → Option Files → List ℕ → List ℕ → Type 0
-SaysNoBranch kind meaning old address told branch text =
-    SaysRefused kind meaning old address told text
-    ⊎ SaysOf kind meaning address told (λ store. TellsUnknown store branch) text
 
 -- why nothing is received: no store was opened, or a branch there has the name
 abbrev pub SaysTaken : {S O R Q A T P X B C : Type 0} → ℕ → Meaning S O R Q A → Meaning T P X B C

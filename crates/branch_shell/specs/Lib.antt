@@ -10,6 +10,7 @@ pub mod Together
 pub mod Upgrading
 pub mod Disks
 pub mod Bundling
+pub mod Looks
 pub mod Compacting
 pub mod Tasks
 pub mod Statuses

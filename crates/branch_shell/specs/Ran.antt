@@ -10,7 +10,7 @@ use Rattle.branch_names.specs.declared.terms.Terms.{Terms}
 use Rattle.branch_script.specs.Lines.{lines_of}
 use Rattle.store_core.specs.Inits.{IsEmpty}
 use Rattle.store_core.specs.Opens.{ReadsAsNone}
-use Rattle.branch_command.specs.Commands.{Said, Init, Script, Check, Generate, Clients, Upgrade, Compact, Address, Send, Receive, Help}
+use Rattle.branch_command.specs.Commands.{Said, Init, Script, Look, Generate, Clients, Upgrade, Compact, Receive, Help}
 use Rattle.branch_command.specs.Terms.{AreTerms}
 use Rattle.branch_command.specs.Work.{Clients as ClientsGiven}
 use Rattle.branch_shell.specs.declared.choose.Values.{Values}
@@ -99,9 +99,9 @@ pub record LeavesInit {S O R Q A D : Type 0} (disk : Ghosts D) (meaning : Meanin
   pub kept : (files : Files) → disk.contents old ≡ Some files → ¬ IsEmpty files
       → LeavesAsBefore disk old new
 
--- What `check`, `address` and `send` leave: only what a crash might have left before; and after `Done` the store,
+-- What a look leaves: only what a crash might have left before; and after `Done` the store,
 -- whatever might have been left of it.
-pub record LeavesChecked {S O R Q A D : Type 0} (disk : Ghosts D) (of : ValueType S O R Q A)
+pub record LeavesLooked {S O R Q A D : Type 0} (disk : Ghosts D) (of : ValueType S O R Q A)
     (address : List ℕ → List ℕ) (old new : D) (status : Status) : Type 0 where
   pub any_moment : LeavesAsBefore disk old new
   pub keeps : status ≡ Done → (store : Stored O R) → HoldsStore disk of address old store
@@ -127,8 +127,8 @@ abbrev pub Leaves : {S O R Q A D : Type 0} → Ghosts D → ValueType S O R Q A 
 Leaves disk of address Script old new left status input text =
     LeavesStore disk of address old new
     (λ store. LeavesScript disk of address store old new left status input text)
-Leaves disk of address Check old new left status input text =
-    LeavesChecked disk of address old new status
+Leaves disk of address (Look look) old new left status input text =
+    LeavesLooked disk of address old new status
 Leaves disk of address (Generate work) old new left status input text =
     LeavesStore disk of address old new
     (λ store. LeavesWork disk of address store (drawn_lines work) old new status input text)
@@ -137,10 +137,6 @@ Leaves disk of address (Clients clients) old new left status input text =
 Leaves disk of address (Init numbers) old new left status input text = ⊥
 Leaves disk of address Upgrade old new left status input text = ⊥
 Leaves disk of address Compact old new left status input text = ⊥
-Leaves disk of address (Address branch) old new left status input text =
-    LeavesChecked disk of address old new status
-Leaves disk of address (Send sending) old new left status input text =
-    LeavesChecked disk of address old new status
 Leaves disk of address (Receive name) old new left status input text = ⊥
 Leaves disk of address Help old new left status input text = ⊥
 

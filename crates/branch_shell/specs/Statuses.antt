@@ -7,18 +7,18 @@ use Rattle.mrdt_model.specs.Laws.{Meaning}
 use Rattle.branch_disk.specs.Disk.{Files, LeavesOnly}
 use Rattle.branch_script.specs.Lines.{lines_of}
 use Rattle.branch_engine.specs.Play.{begins}
-use Rattle.branch_command.specs.Commands.{Said, Init, Script, Check, Generate, Clients, Upgrade, Compact, Address, Send, Receive, Help}
+use Rattle.branch_command.specs.Commands.{Said, Init, Script, Look, Generate, Clients, Upgrade, Compact, Receive, Help}
 use Rattle.branch_shell.specs.declared.status.Status.{Status}
 use Rattle.branch_shell.specs.declared.status.Status.TheVariants.{Done, Usage, StoreRefused, DiskFault, ReadFault, WriteFault, LineTooLong, InputTooLong, Memory}
 use Rattle.branch_shell.specs.Reading.{IsCut, AreShort, WereRead, IsFirstPart}
-use Rattle.branch_shell.specs.Stores.{Stored, ReadsAsStore, IsOpenedAs, SaysReport}
+use Rattle.branch_shell.specs.Stores.{Stored, ReadsAsStore, IsOpenedAs}
 use Rattle.branch_shell.specs.Values.{ValueType, HaveValues, documents, documents_with_sequences}
 use Rattle.branch_shell.specs.Once.{WroteOnce}
 use Rattle.branch_shell.specs.Telling.{ReadsAfterSome}
 use Rattle.branch_shell.specs.Documents.{fixed_of, script_text, store_after, SaysUnopened}
 use Rattle.branch_shell.specs.Generated.{SaysWork}
 use Rattle.branch_shell.specs.Together.{SaysTogether}
-use Rattle.branch_shell.specs.Bundling.{SaysAddress, SaysBundle, SaysNoBranch}
+use Rattle.branch_shell.specs.Looks.{SaysLook, SaysNoLook}
 use Rattle.mrdt_old_doc.specs.OldDocument.{old_document}
 use Rattle.branch_shell.specs.declared.choose.Values.{Values}
 use Rattle.branch_shell.specs.declared.choose.Values.TheVariants.{Documents, WithSequences}
@@ -78,8 +78,8 @@ abbrev pub WroteOf : {S O R Q A : Type 0} → ValueType S O R Q A → (List ℕ 
     → Option Files → Option (List ℕ) → Status → List ℕ → List ℕ → Type 0
 WroteOf of address Script told left status input text =
     ScriptWrote of address told left status input text
-WroteOf of address Check told left status input text = (input ≡ [])
-    × WroteOnce (SaysReport of.kind of.meaning address told) (SaysUnopened of address told) status
+WroteOf of address (Look look) told left status input text = (input ≡ [])
+    × WroteOnce (SaysLook of address told look) (SaysNoLook of old_document address told look) status
     text
 WroteOf of address (Generate work) told left status input text = (input ≡ [])
     × WroteOnce (SaysWork of address told work) (SaysUnopened of address told) status text
@@ -88,12 +88,6 @@ WroteOf of address (Clients clients) told left status input text = (input ≡ []
 WroteOf of address (Init numbers) told left status input text = ⊥
 WroteOf of address Upgrade told left status input text = ⊥
 WroteOf of address Compact told left status input text = ⊥
-WroteOf of address (Address branch) told left status input text = (input ≡ [])
-    × WroteOnce (SaysAddress of.kind of.meaning address told branch)
-    (SaysNoBranch of.kind of.meaning old_document address told branch) status text
-WroteOf of address (Send sending) told left status input text = (input ≡ [])
-    × WroteOnce (SaysBundle of.kind of.meaning address told sending.branch sending.here)
-    (SaysNoBranch of.kind of.meaning old_document address told sending.branch) status text
 WroteOf of address (Receive name) told left status input text = ⊥
 WroteOf of address Help told left status input text = ⊥
 

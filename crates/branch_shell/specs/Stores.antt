@@ -9,7 +9,7 @@ use Rattle.branch_history.specs.declared.moves.Move.{Move}
 use Rattle.branch_machine.specs.Fixed.{fix}
 use Rattle.branch_machine.specs.Validity.{IsFullyValid}
 use Rattle.branch_files.specs.Reading.{Answer, Opens, NotAStore, BadRecord, BadObject, BadCommit, Truncated, ReadsAs, ReadsAsOf, ReadsIn}
-use Rattle.branch_print.specs.Reports.{report_text, ready_text, not_empty_text, no_store_text, old_version_text, bad_record_text, bad_object_text, bad_commit_text, truncated_text}
+use Rattle.branch_print.specs.Reports.{ready_text, not_empty_text, no_store_text, old_version_text, bad_record_text, bad_object_text, bad_commit_text, truncated_text}
 use Rattle.store_core.specs.Inits.{IsEmpty}
 use Rattle.store_core.specs.Opens.{old_form, ReadsOnlyAs, ReadsAsNone}
 
@@ -64,13 +64,6 @@ abbrev pub SaysRefused : {S O R Q A T P X B C : Type 0} → ℕ → Meaning S O 
     → (List ℕ → List ℕ) → Option Files → List ℕ → Type 0
 SaysRefused {S} {O} {R} kind meaning old address told text = (answer : Answer O R)
     × IsRefusedAs kind meaning address told answer × IsRefusalText old address told answer text
-
--- the report of the store that opening found
-abbrev pub SaysReport : {S O R Q A : Type 0} → ℕ → Meaning S O R Q A → (List ℕ → List ℕ)
-    → Option Files → List ℕ → Type 0
-SaysReport {S} {O} {R} kind meaning address told text = (store : Stored O R)
-    × IsOpenedAs kind meaning address told store
-    × (text ≡ report_text store.terms.origin store.history)
 
 abbrev pub SaysReady : Option Files → List ℕ → Type 0
 SaysReady told text = ForSome told IsEmpty × (text ≡ ready_text)

@@ -86,16 +86,16 @@ fn read_alone(alloc: Global, words: &[String]) -> Result<Command, CommandRefused
 /// layout: one of the other is refused as no bundle.
 ///
 /// `init` makes a store of the first disk, where neither holds a byte, and writes nothing to the second; `script` opens
-/// the store and runs the lines of the source as steps; `check` opens the store and reports; `generate` opens the store,
-/// runs the script that is drawn from a number and writes what came of it and the report; `upgrade` reads a store of the
-/// old version, and makes one with the same moves of the other disk, which holds no bytes; `compact` opens the store,
-/// makes the one of its compact history of the other disk, over what that holds, and makes that the current one by one
-/// byte of the first; `address` and `send` open the store and write the address of a branch's head, or its bundle;
-/// `receive` opens the store, reads the source to its end, takes the commits of the bundle that it holds and makes a
-/// branch at its tip. A store of the old version is refused by all of them but `upgrade` and `init`. `Usage` comes only
-/// where the words say no such command, and then nothing was touched. What was written is, by the status, the text that
-/// is defined for the command, or a first part of it. A fault comes only where the count of faults of that object rose,
-/// and no other count rises, but where the sink cannot finish behind a fault; `DiskFault` is one of either disk.
+/// the store and runs the lines of the source as steps; `generate` opens the store, runs the script that is drawn from a
+/// number and writes what came of it and the report; `upgrade` reads a store of the old version, and makes one with the
+/// same moves of the other disk, which holds no bytes; `compact` opens the store, makes the one of its compact history of
+/// the other disk, over what that holds, and makes that the current one by one byte of the first; `check`, `address`,
+/// `send`, `log`, `show` and `graph` open the store and tell what is looked at; `receive` opens the store, reads the
+/// source to its end, takes the commits of the bundle that it holds and makes a branch at its tip. A store of the old
+/// version is refused by all of them but `upgrade` and `init`. `Usage` comes only where the words say no such command, and
+/// then nothing was touched. What was written is, by the status, the text that is defined for the command, or a first part
+/// of it. A fault comes only where the count of faults of that object rose, and no other count rises, but where the sink
+/// cannot finish behind a fault; `DiskFault` is one of either disk.
 ///
 /// Until a script's store is opened a crash leaves only what one might have left before; from then on, at any moment,
 /// files that read as the store after some of the lines that were read; at the end after those that were answered, or one
@@ -158,8 +158,8 @@ pub fn run_alone<S: Source, K: Sink, D: Disk + Drop, A: Address>(
         Ok(Command::Script) => {
             run_task::<S, K, D, A>(alloc, Task::Script, source, sink, disk, second)
         }
-        Ok(Command::Check) => {
-            run_task::<S, K, D, A>(alloc, Task::Check, source, sink, disk, second)
+        Ok(Command::Look(look)) => {
+            run_task::<S, K, D, A>(alloc, Task::Look(look), source, sink, disk, second)
         }
         Ok(Command::Generate { steps, number }) => {
             let task = Task::Generate { steps, number };
@@ -171,14 +171,6 @@ pub fn run_alone<S: Source, K: Sink, D: Disk + Drop, A: Address>(
         }
         Ok(Command::Compact) => {
             run_task::<S, K, D, A>(alloc, Task::Compact, source, sink, disk, second)
-        }
-        Ok(Command::Address(named)) => {
-            let task = Task::Address { branch: named.name };
-            run_task::<S, K, D, A>(alloc, task, source, sink, disk, second)
-        }
-        Ok(Command::Send(sending)) => {
-            let task = Task::Send(sending);
-            run_task::<S, K, D, A>(alloc, task, source, sink, disk, second)
         }
         Ok(Command::Receive(named)) => {
             let task = Task::Receive { name: named.name };

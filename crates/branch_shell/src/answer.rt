@@ -7,18 +7,16 @@ ghost use Rattle.branch_disk.specs.Disk.{Files, LeavesOnly};
 ghost use Rattle.branch_history.specs.History.{store_of};
 ghost use Rattle.branch_print.specs.Reports.{branch_line, report_text};
 ghost use Rattle.store_core.specs.Inits.{IsEmpty};
-ghost use Rattle.store_core.specs.Opens.{ReadsAsNone};
 ghost use Rattle.branch_shell.specs.Counts.{HasReason, HaveReason, SaysReason};
 ghost use Rattle.branch_shell.specs.Disks.{StaysSame};
 ghost use Rattle.branch_shell.specs.Ran.{SaysMade, SaysNotMade};
 ghost use Rattle.branch_shell.specs.Refusals.{open_refusal_text, unopened_text};
-ghost use Rattle.branch_shell.specs.Stores.{Stored, AreThese, ReadsAsStore, SaysRefused, SaysReport, SaysReady, SaysNotEmpty, ReadsAsEmpty, ReadsAsNoneOrEmpty};
+ghost use Rattle.branch_shell.specs.Stores.{AreThese, SaysReady, SaysNotEmpty, ReadsAsEmpty, ReadsAsNoneOrEmpty};
 ghost use Rattle.branch_shell.specs.Once.{Answers, Says};
 
-use crate::kinded::Kinded;
 use crate::script::give_all;
 use crate::status::Status;
-use crate::unopened::{Unopened, open_store};
+use crate::unopened::Unopened;
 use branch_address::Address;
 use branch_disk::{Disk, DiskFailed, Part};
 use branch_files::forms::reads_as_today;
@@ -137,53 +135,6 @@ pub(crate) fn put_report<T: Mrdt, D: Disk + Drop, A: Address>(
         put_branch_line(out, core, number)?;
     }
     put_totals(out, core.moves(), core.commits(), core.branches())
-}
-
-// Says the report of a store.
-fn report<T: Mrdt, K: Sink, D: Disk + Drop, A: Address>(
-    alloc: Global,
-    sink: &mut K,
-    core: &Core<T, D, A>,
-) -> Status
-    ensures wrote { Answers (λ whole. whole ≡ report_text core.now.terms.origin core.now.history)
-        (λ whole. ⊥) result (K.given sink.old) (K.given sink.new) }
-    ensures other { result ≡ Status.DiskFault → ⊥ }
-    ensures reason { SaysReason (K.faults sink.old) (K.faults sink.new) result }
-{
-    let mut text = Vec::new(alloc);
-    match put_report(&mut text, core) {
-        Ok(()) => say(sink, &text, Status::Done),
-        Err(_) => Status::Memory,
-    }
-}
-
-/// Opens the store that the disk holds and reports what it holds. It writes nothing to the disk.
-pub(crate) fn run_check<T: Kinded, U: Mrdt, K: Sink, D: Disk + Drop, A: Address>(
-    alloc: Global,
-    sink: &mut K,
-    disk: D,
-) -> (Status, D)
-    ensures wrote { Answers (SaysReport T.KIND T.meaning A.address (D.contents disk))
-        (SaysRefused T.KIND T.meaning U.meaning A.address (D.contents disk)) result.0
-        (K.given sink.old) (K.given sink.new) }
-    // A crash leaves only what it might have left at the start.
-    ensures any_moment { LeavesOnly D.moment D.left_since disk result.1 (D.may_leave disk) }
-    ensures keeps { result.0 ≡ Status.Done → (f : Files) (store : Stored T.Op T.Reply)
-        → D.contents disk ≡ Some f → ReadsAsStore T.meaning A.address store f → (c : Files)
-        → D.may_leave result.1 c → ReadsAsStore T.meaning A.address store c }
-    ensures refused_only { result.0 ≡ Status.StoreRefused → (f : Files) → D.contents disk ≡ Some f
-        → ReadsAsNone T.KIND T.meaning A.address f }
-    ensures reason { (n : ℕ) → HasReason
-        (record { source = n; sink = K.faults sink.old; disk = D.faults disk })
-        (record { source = n; sink = K.faults sink.new; disk = D.faults result.1 }) result.0 }
-    // Where the sink failed, the disk did not.
-    ensures no_fault { result.0 ≡ Status.WriteFault → D.faults result.1 ≡ D.faults disk }
-{
-    reads_what_stands::<T>();
-    match open_store::<T, U, D, A>(alloc, disk) {
-        Ok(core) => (report(alloc, sink, &core), core.close()),
-        Err((why, disk)) => (refuse(alloc, sink, why), disk),
-    }
 }
 
 // Makes a store of a disk that holds no bytes, of these terms.

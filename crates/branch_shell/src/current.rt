@@ -9,15 +9,13 @@ ghost use Rattle.branch_shell.specs.Ran.{RanBy, RanChosen, RanOverBoth};
 ghost use Rattle.branch_shell.specs.Tasks.{said_of};
 ghost use Rattle.branch_shell.specs.Values.{value_type};
 
-use crate::address::run_address;
-use crate::answer::run_check;
 use crate::choose::{Values, choose};
 use crate::compact::run_compact;
 use crate::generate::run_generate;
 use crate::kinded::Kinded;
+use crate::look::run_look;
 use crate::receive::run_receive;
 use crate::script::run_script;
-use crate::send::run_send;
 use crate::status::Status;
 use crate::task::Task;
 use crate::upgrade::run_upgrade;
@@ -76,8 +74,8 @@ fn run_chosen<T: Kinded, S: Source, K: Sink, D: Disk + Drop, A: Address>(
             let (status, held) = run_script::<T, S, K, D, A>(alloc, source, sink, held);
             (status, held, other)
         }
-        Task::Check => {
-            let (status, held) = run_check::<T, Doc1, K, D, A>(alloc, sink, held);
+        Task::Look(look) => {
+            let (status, held) = run_look::<T, Doc1, K, D, A>(alloc, &look, sink, held);
             (status, held, other)
         }
         Task::Generate { steps, number } => {
@@ -86,20 +84,6 @@ fn run_chosen<T: Kinded, S: Source, K: Sink, D: Disk + Drop, A: Address>(
         }
         Task::Upgrade => run_upgrade::<K, D, A>(alloc, sink, held, other),
         Task::Compact => run_compact::<T, K, D, A>(alloc, which, sink, held, other),
-        Task::Address { branch } => {
-            let (status, held) = run_address::<T, Doc1, K, D, A>(alloc, &branch, sink, held);
-            (status, held, other)
-        }
-        Task::Send(sending) => {
-            let (status, held) = run_send::<T, Doc1, K, D, A>(
-                alloc,
-                &sending.branch,
-                sending.here.as_slice(),
-                sink,
-                held,
-            );
-            (status, held, other)
-        }
         Task::Receive { name } => {
             let (status, held) = run_receive::<T, Doc1, S, K, D, A>(
                 alloc, name, source, sink, held,

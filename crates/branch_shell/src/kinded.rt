@@ -1,10 +1,10 @@
 // The types of values that stores have.
-use branch_doc::Forms;
+use branch_tells::Tells;
 use mrdt_doc::Doc;
 use mrdt_wide::Wide;
 
 /// A type with plain forms of which there are stores, by the byte in their heads that tells the kind of their values.
-pub(crate) trait Kinded: Forms {
+pub(crate) trait Kinded: Tells {
     ghost use Rattle.std.specs.Prelude.{ℕ};
 
     ghost KIND: { ℕ };

@@ -3,7 +3,6 @@
 //! other commands.
 #![tactic(auto)]
 
-mod address;
 pub mod alone;
 mod answer;
 mod choose;
@@ -13,9 +12,9 @@ mod generate;
 mod head;
 mod init;
 mod kinded;
+mod look;
 mod receive;
 mod script;
-mod send;
 pub mod status;
 mod task;
 pub mod together;

@@ -1,5 +1,5 @@
 // What is done on the current one of two disks.
-use branch_command::Sending;
+use branch_command::Look;
 use branch_names::Name;
 
 /// What is done on the current one of two disks, and needs no threads.
@@ -7,8 +7,8 @@ use branch_names::Name;
 pub(crate) enum Task {
     /// Run the lines of the source.
     Script,
-    /// Open the store and report.
-    Check,
+    /// Open the store and tell what is looked at.
+    Look(Look),
     /// Run the script that is drawn from a number.
     Generate {
         /// How many lines are drawn.
@@ -20,13 +20,6 @@ pub(crate) enum Task {
     Upgrade,
     /// Make the store of the compact history on the other disk, and switch to it.
     Compact,
-    /// Tell the address of a branch's head.
-    Address {
-        /// The branch.
-        branch: Name,
-    },
-    /// Write the bundle of a branch.
-    Send(Sending),
     /// Receive the bundle of the source as a new branch.
     Receive {
         /// The name of the new branch.

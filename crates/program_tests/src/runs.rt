@@ -57,7 +57,7 @@ pub fn ran<A: Address + Send, D: Disk + Drop + Send, R: Threads + Wait + Sync>(
     let words = words_of(alloc, command)?;
     let mut source = MemorySource::new(Vec::new(alloc), 16, Vec::new(alloc));
     let mut sink = MemorySink::new(Vec::new(alloc));
-    let (status, disk, _) = run_words::<_, _, _, A, R>(
+    let (ended, disk, _) = run_words::<_, _, _, A, R>(
         rt,
         alloc,
         &words,
@@ -67,5 +67,5 @@ pub fn ran<A: Address + Send, D: Disk + Drop + Send, R: Threads + Wait + Sync>(
         second,
     );
     let text = sink.bytes().to_vec(alloc)?;
-    Ok((status, text, disk))
+    Ok((ended.status, text, disk))
 }

@@ -49,7 +49,7 @@ pub(crate) fn run_over<R: Threads + Wait + Sync>(
     let failing = of.failing.source.as_slice().to_vec(alloc)?;
     let mut source = MemorySource::new(input, PIECE, failing);
     let mut sink = MemorySink::new(of.failing.sink.as_slice().to_vec(alloc)?);
-    let (status, disk, second) = run_words::<_, _, _, Sha256Address, R>(
+    let (ended, disk, second) = run_words::<_, _, _, Sha256Address, R>(
         rt,
         alloc,
         &of.words,
@@ -59,7 +59,7 @@ pub(crate) fn run_over<R: Threads + Wait + Sync>(
         second,
     );
     Ok(Ended {
-        status: status.number(),
+        status: ended.status.number(),
         text: sink.bytes().to_vec(alloc)?,
         first: Used::of(disk),
         second: Used::of(second),

@@ -24,6 +24,10 @@ fn help_tells_of_each_command(rt: HostRuntime) -> Result<(), AllocError> {
         ("--help", "address "),
         ("--help", "send "),
         ("--help", "receive "),
+        ("--help", "log "),
+        ("--help", "show "),
+        ("--help", "graph "),
+        ("--help", "Statuses:\n  0  done\n"),
         ("--help", "in the files PATH.objects and PATH.heads"),
         ("help init", "Usage: bucketplum PATH init [OPTIONS]\n"),
         (

@@ -5,11 +5,11 @@ use Rattle.clap.specs.Walk.{Text, rows_of}
 use Rattle.clap.specs.Faults.{fault_of}
 use Rattle.clap.proofs.WalkLemmas.{first_value-rows}
 use Rattle.branch_command.specs.Work.{Work, Clients as ClientsGiven}
-use Rattle.branch_command.specs.Commands.{Init, Script, Check, Generate, Clients, Upgrade, Compact, Address, Send, Receive, asked_by, help_words, said_by}
+use Rattle.branch_command.specs.Commands.{Init, Script, Generate, Clients, Upgrade, Compact, Look, Receive, asked_by, help_words, said_by}
 use Rattle.branch_command.specs.Program.{program}
 use Rattle.branch_command.specs.declared.command.CommandRefused.TheVariants.{Usage}
 use Rattle.branch_command.proofs.Heard.{as_said}
-use Rattle.branch_command.proofs.Sendings.{sends}
+use Rattle.branch_command.proofs.Looks.{else_read}
 use Rattle.branch_command.proofs.command.command_named.Goals as goal
 
 pub returns-in-Some : goal.returns-in-Some
@@ -23,11 +23,6 @@ pub returns-in-script : goal.returns-in-script
 returns-in-script c =
     let rows = rows_of (found_of c.args.given.now) in
     ((Script, ap (λ (n : Text). said_by n rows) c.in-script.is, tt), λ u. cc)
-
-pub returns-in-check : goal.returns-in-check
-returns-in-check c =
-    let rows = rows_of (found_of c.args.given.now) in
-    ((Check, ap (λ (n : Text). said_by n rows) c.in-check.is, tt), λ u. cc)
 
 pub returns-in-upgrade : goal.returns-in-upgrade
 returns-in-upgrade c =
@@ -57,30 +52,29 @@ returns-in-Some-read_clients c =
 pub returns-in-Some-read_name : goal.returns-in-Some-read_name
 returns-in-Some-read_name c =
     let rows = rows_of (found_of c.args.given.now) in
-    let branch : Text = c.in-Some-read_name.name in
-    let is : said_by c.args.name.now rows ≡ Some (Address branch) = ap (λ (n : Text). said_by n rows) c.in-address.is ∙ ap (option_map Address) (sym c.in-Some-read_name.ensures) in
-    ((Address branch, is, refl), λ u. cc)
+    let name : Text = c.in-Some-read_name.name in
+    let is : said_by c.args.name.now rows ≡ Some (Receive name) = ap (λ (n : Text). said_by n rows) c.in-receive.is ∙ ap (option_map Receive) (sym c.in-Some-read_name.ensures) in
+    ((Receive name, is, refl), λ u. cc)
 
 pub returns-in-Ok : goal.returns-in-Ok
 returns-in-Ok c =
     let rows = rows_of (found_of c.args.given.now) in
-    ((Send _, ap (λ (n : Text). said_by n rows) c.in-send.is ∙ sends rows _ c.in-Ok.ensures.read, refl), λ u. cc)
+    let other = c.in_default in
+    let is : said_by c.args.name.now rows ≡ Some (Look c.in-Ok.look) =
+    else_read c.args.name.now rows other.not-init other.not-script other.not-generate other.not-clients other.not-upgrade other.not-compact
+    other.not-receive other.not-help ∙ ap (option_map Look) c.in-Ok.ensures.read in
+    ((Look c.in-Ok.look, is, refl), λ u. cc)
 
 pub returns-in-Err : goal.returns-in-Err
 returns-in-Err c =
-    let rows = rows_of (found_of c.args.given.now) in (
+    let rows = rows_of (found_of c.args.given.now) in
+    let other = c.in_default in (
       tt,
       λ u.
           let same : c.in-Err.refused ≡ Usage = cc u in
-          ap (λ (n : Text). said_by n rows) c.in-send.is ∙ ap (option_map Send) (c.in-Err.ensures.usage (ap Err same)),
+          else_read c.args.name.now rows other.not-init other.not-script other.not-generate other.not-clients other.not-upgrade other.not-compact
+          other.not-receive other.not-help ∙ ap (option_map Look) (c.in-Err.ensures.usage (ap Err same)),
     )
-
-pub returns-in-Some-read_name-2 : goal.returns-in-Some-read_name-2
-returns-in-Some-read_name-2 c =
-    let rows = rows_of (found_of c.args.given.now) in
-    let name : Text = c.in-Some-read_name-2.name in
-    let is : said_by c.args.name.now rows ≡ Some (Receive name) = ap (λ (n : Text). said_by n rows) c.in-receive.is ∙ ap (option_map Receive) (sym c.in-Some-read_name-2.ensures) in
-    ((Receive name, is, refl), λ u. cc)
 
 pub returns-in-help : goal.returns-in-help
 returns-in-help c =

@@ -8,7 +8,8 @@ pub returns : goal.returns
 returns c =
     let named = with_setting (λ s. s) _ _ _ _ c.new.ensures.app c.in_ok-bin_name.ensures.0 refl in
     let told = with_setting (λ s. s) _ _ _ _ named c.about.ensures refl in
-    let dated = with_setting (λ s. record s { has_version = true }) _ _ _ _ told c.version.ensures refl in
+    let numbered = with_setting (λ s. s) _ _ _ _ told c.after_help.ensures refl in
+    let dated = with_setting (λ s. record s { has_version = true }) _ _ _ _ numbered c.version.ensures refl in
     let shared = with_setting (λ s. record s { propagate_version = true }) _ _ _ _ dated c.propagate_version.ensures refl in
     let own_version = with_setting (λ s. record s { disable_version_flag = true }) _ _ _ _ shared c.disable_version_flag.ensures refl in
     let own_help = with_setting (λ s. record s { disable_help_subcommand = true }) _ _ _ _ own_version c.disable_help_subcommand.ensures refl in

@@ -10,7 +10,7 @@ use Rattle.branch_shell.specs.Stores.{AreThese}
 use Rattle.branch_shell.specs.Alone.{command_alone}
 use Rattle.branch_shell.specs.Disks.{Disks, current_told}
 use Rattle.branch_shell.specs.Tasks.{said_of}
-use Rattle.branch_shell.proofs.Said.{said_init, said_script, said_check, said_generate, said_upgrade, said_compact, said_address, said_send, said_receive, said_help, terms_said}
+use Rattle.branch_shell.proofs.Said.{said_init, said_script, said_generate, said_upgrade, said_compact, said_look, said_receive, said_help, terms_said}
 use Rattle.branch_shell.proofs.Runs.{said_behind, said_ran, init_ran, help_ran, both_memory}
 use Rattle.branch_shell.proofs.alone.run_alone.Goals as goal
 
@@ -66,37 +66,6 @@ returns-in-Ok-Script-clause-behind_disk g c command is fault =
     said_behind g.A.Address.address (current_told (g.D.Disk.contents c.args.disk) (g.D.Disk.contents c.args.second)) words (said_of t) command said is DiskFault
     (g.S.Source.left c.args.source.now) (g.S.Source.left c.run_task.new.source) (g.K.Sink.given c.args.sink.now) (g.K.Sink.given c.run_task.new.sink)
     ((g.D.Disk.faults c.run_task.result.1 ≡ g.D.Disk.faults c.args.disk) × (g.D.Disk.faults c.run_task.result.2 ≡ g.D.Disk.faults c.args.second)) (c.run_task.ensures.behind_disk fault)
-
-pub returns-in-Ok-Check-clause-usage : goal.returns-in-Ok-Check-clause-usage
-returns-in-Ok-Check-clause-usage g c usage = absurd (c.run_task-in-Ok-Check.ensures.usage usage)
-
-pub returns-in-Ok-Check-clause-ran : goal.returns-in-Ok-Check-clause-ran
-returns-in-Ok-Check-clause-ran g c command is =
-    let words = command_alone (map string_bytes c.args.words.now) in
-    let said = said_check words c.in-Ok-Check.field-0 c.in-Ok-Check.field-0-is c.in-Ok-Check.ensures.read in
-    let t : Task = task.Check in
-    said_ran g.A.Address.address g.D.Disk words (said_of t) command said is
-    (record { first = c.args.disk; second = c.args.second }) (record { first = c.run_task-in-Ok-Check.result.1; second = c.run_task-in-Ok-Check.result.2 })
-    (g.S.Source.left c.args.source.now) (g.S.Source.left c.run_task-in-Ok-Check.new.source) (g.K.Sink.given c.args.sink.now) (g.K.Sink.given c.run_task-in-Ok-Check.new.sink)
-    c.run_task-in-Ok-Check.result.0 c.run_task-in-Ok-Check.ensures.ran
-
-pub returns-in-Ok-Check-clause-behind_source : goal.returns-in-Ok-Check-clause-behind_source
-returns-in-Ok-Check-clause-behind_source g c command is fault =
-    let words = command_alone (map string_bytes c.args.words.now) in
-    let said = said_check words c.in-Ok-Check.field-0 c.in-Ok-Check.field-0-is c.in-Ok-Check.ensures.read in
-    let t : Task = task.Check in
-    said_behind g.A.Address.address (current_told (g.D.Disk.contents c.args.disk) (g.D.Disk.contents c.args.second)) words (said_of t) command said is ReadFault
-    (g.S.Source.left c.args.source.now) (g.S.Source.left c.run_task-in-Ok-Check.new.source) (g.K.Sink.given c.args.sink.now) (g.K.Sink.given c.run_task-in-Ok-Check.new.sink)
-    (g.S.Source.faults c.run_task-in-Ok-Check.new.source ≡ g.S.Source.faults c.args.source.now) (c.run_task-in-Ok-Check.ensures.behind_source fault)
-
-pub returns-in-Ok-Check-clause-behind_disk : goal.returns-in-Ok-Check-clause-behind_disk
-returns-in-Ok-Check-clause-behind_disk g c command is fault =
-    let words = command_alone (map string_bytes c.args.words.now) in
-    let said = said_check words c.in-Ok-Check.field-0 c.in-Ok-Check.field-0-is c.in-Ok-Check.ensures.read in
-    let t : Task = task.Check in
-    said_behind g.A.Address.address (current_told (g.D.Disk.contents c.args.disk) (g.D.Disk.contents c.args.second)) words (said_of t) command said is DiskFault
-    (g.S.Source.left c.args.source.now) (g.S.Source.left c.run_task-in-Ok-Check.new.source) (g.K.Sink.given c.args.sink.now) (g.K.Sink.given c.run_task-in-Ok-Check.new.sink)
-    ((g.D.Disk.faults c.run_task-in-Ok-Check.result.1 ≡ g.D.Disk.faults c.args.disk) × (g.D.Disk.faults c.run_task-in-Ok-Check.result.2 ≡ g.D.Disk.faults c.args.second)) (c.run_task-in-Ok-Check.ensures.behind_disk fault)
 
 pub returns-in-Ok-Generate-clause-usage : goal.returns-in-Ok-Generate-clause-usage
 returns-in-Ok-Generate-clause-usage g c usage = absurd (c.run_task-in-Ok-Generate.ensures.usage usage)
@@ -217,67 +186,36 @@ returns-in-Err-Memory-clause-ran g c command is =
     both_memory g.A.Address.address g.D.Disk g.met.D.Disk.only_now (record { first = c.args.disk; second = c.args.second })
     (g.S.Source.left c.args.source.now) (g.K.Sink.given c.args.sink.now) command
 
-pub returns-in-Ok-Address-clause-usage : goal.returns-in-Ok-Address-clause-usage
-returns-in-Ok-Address-clause-usage g c usage = absurd (c.run_task-in-Ok-Address.ensures.usage usage)
+pub returns-in-Ok-Look-clause-usage : goal.returns-in-Ok-Look-clause-usage
+returns-in-Ok-Look-clause-usage g c usage = absurd (c.run_task-in-Ok-Look.ensures.usage usage)
 
-pub returns-in-Ok-Address-clause-ran : goal.returns-in-Ok-Address-clause-ran
-returns-in-Ok-Address-clause-ran g c command is =
+pub returns-in-Ok-Look-clause-ran : goal.returns-in-Ok-Look-clause-ran
+returns-in-Ok-Look-clause-ran g c command is =
     let words = command_alone (map string_bytes c.args.words.now) in
-    let said = said_address words c.in-Ok-Address.field-0 c.in-Ok-Address.named c.in-Ok-Address.field-0-is c.in-Ok-Address.ensures.read in
-    let t : Task = task.Address c.in-Ok-Address.named.name in
+    let said = said_look words c.in-Ok-Look.field-0 c.in-Ok-Look.look c.in-Ok-Look.field-0-is c.in-Ok-Look.ensures.read in
+    let t : Task = task.Look c.in-Ok-Look.look in
     said_ran g.A.Address.address g.D.Disk words (said_of t) command said is
-    (record { first = c.args.disk; second = c.args.second }) (record { first = c.run_task-in-Ok-Address.result.1; second = c.run_task-in-Ok-Address.result.2 })
-    (g.S.Source.left c.args.source.now) (g.S.Source.left c.run_task-in-Ok-Address.new.source) (g.K.Sink.given c.args.sink.now) (g.K.Sink.given c.run_task-in-Ok-Address.new.sink)
-    c.run_task-in-Ok-Address.result.0 c.run_task-in-Ok-Address.ensures.ran
+    (record { first = c.args.disk; second = c.args.second }) (record { first = c.run_task-in-Ok-Look.result.1; second = c.run_task-in-Ok-Look.result.2 })
+    (g.S.Source.left c.args.source.now) (g.S.Source.left c.run_task-in-Ok-Look.new.source) (g.K.Sink.given c.args.sink.now) (g.K.Sink.given c.run_task-in-Ok-Look.new.sink)
+    c.run_task-in-Ok-Look.result.0 c.run_task-in-Ok-Look.ensures.ran
 
-pub returns-in-Ok-Address-clause-behind_source : goal.returns-in-Ok-Address-clause-behind_source
-returns-in-Ok-Address-clause-behind_source g c command is fault =
+pub returns-in-Ok-Look-clause-behind_source : goal.returns-in-Ok-Look-clause-behind_source
+returns-in-Ok-Look-clause-behind_source g c command is fault =
     let words = command_alone (map string_bytes c.args.words.now) in
-    let said = said_address words c.in-Ok-Address.field-0 c.in-Ok-Address.named c.in-Ok-Address.field-0-is c.in-Ok-Address.ensures.read in
-    let t : Task = task.Address c.in-Ok-Address.named.name in
+    let said = said_look words c.in-Ok-Look.field-0 c.in-Ok-Look.look c.in-Ok-Look.field-0-is c.in-Ok-Look.ensures.read in
+    let t : Task = task.Look c.in-Ok-Look.look in
     said_behind g.A.Address.address (current_told (g.D.Disk.contents c.args.disk) (g.D.Disk.contents c.args.second)) words (said_of t) command said is ReadFault
-    (g.S.Source.left c.args.source.now) (g.S.Source.left c.run_task-in-Ok-Address.new.source) (g.K.Sink.given c.args.sink.now) (g.K.Sink.given c.run_task-in-Ok-Address.new.sink)
-    (g.S.Source.faults c.run_task-in-Ok-Address.new.source ≡ g.S.Source.faults c.args.source.now) (c.run_task-in-Ok-Address.ensures.behind_source fault)
+    (g.S.Source.left c.args.source.now) (g.S.Source.left c.run_task-in-Ok-Look.new.source) (g.K.Sink.given c.args.sink.now) (g.K.Sink.given c.run_task-in-Ok-Look.new.sink)
+    (g.S.Source.faults c.run_task-in-Ok-Look.new.source ≡ g.S.Source.faults c.args.source.now) (c.run_task-in-Ok-Look.ensures.behind_source fault)
 
-pub returns-in-Ok-Address-clause-behind_disk : goal.returns-in-Ok-Address-clause-behind_disk
-returns-in-Ok-Address-clause-behind_disk g c command is fault =
+pub returns-in-Ok-Look-clause-behind_disk : goal.returns-in-Ok-Look-clause-behind_disk
+returns-in-Ok-Look-clause-behind_disk g c command is fault =
     let words = command_alone (map string_bytes c.args.words.now) in
-    let said = said_address words c.in-Ok-Address.field-0 c.in-Ok-Address.named c.in-Ok-Address.field-0-is c.in-Ok-Address.ensures.read in
-    let t : Task = task.Address c.in-Ok-Address.named.name in
+    let said = said_look words c.in-Ok-Look.field-0 c.in-Ok-Look.look c.in-Ok-Look.field-0-is c.in-Ok-Look.ensures.read in
+    let t : Task = task.Look c.in-Ok-Look.look in
     said_behind g.A.Address.address (current_told (g.D.Disk.contents c.args.disk) (g.D.Disk.contents c.args.second)) words (said_of t) command said is DiskFault
-    (g.S.Source.left c.args.source.now) (g.S.Source.left c.run_task-in-Ok-Address.new.source) (g.K.Sink.given c.args.sink.now) (g.K.Sink.given c.run_task-in-Ok-Address.new.sink)
-    ((g.D.Disk.faults c.run_task-in-Ok-Address.result.1 ≡ g.D.Disk.faults c.args.disk) × (g.D.Disk.faults c.run_task-in-Ok-Address.result.2 ≡ g.D.Disk.faults c.args.second)) (c.run_task-in-Ok-Address.ensures.behind_disk fault)
-
-pub returns-in-Ok-Send-clause-usage : goal.returns-in-Ok-Send-clause-usage
-returns-in-Ok-Send-clause-usage g c usage = absurd (c.run_task-in-Ok-Send.ensures.usage usage)
-
-pub returns-in-Ok-Send-clause-ran : goal.returns-in-Ok-Send-clause-ran
-returns-in-Ok-Send-clause-ran g c command is =
-    let words = command_alone (map string_bytes c.args.words.now) in
-    let said = said_send words c.in-Ok-Send.field-0 c.in-Ok-Send.sending c.in-Ok-Send.field-0-is c.in-Ok-Send.ensures.read in
-    let t : Task = task.Send c.in-Ok-Send.sending in
-    said_ran g.A.Address.address g.D.Disk words (said_of t) command said is
-    (record { first = c.args.disk; second = c.args.second }) (record { first = c.run_task-in-Ok-Send.result.1; second = c.run_task-in-Ok-Send.result.2 })
-    (g.S.Source.left c.args.source.now) (g.S.Source.left c.run_task-in-Ok-Send.new.source) (g.K.Sink.given c.args.sink.now) (g.K.Sink.given c.run_task-in-Ok-Send.new.sink)
-    c.run_task-in-Ok-Send.result.0 c.run_task-in-Ok-Send.ensures.ran
-
-pub returns-in-Ok-Send-clause-behind_source : goal.returns-in-Ok-Send-clause-behind_source
-returns-in-Ok-Send-clause-behind_source g c command is fault =
-    let words = command_alone (map string_bytes c.args.words.now) in
-    let said = said_send words c.in-Ok-Send.field-0 c.in-Ok-Send.sending c.in-Ok-Send.field-0-is c.in-Ok-Send.ensures.read in
-    let t : Task = task.Send c.in-Ok-Send.sending in
-    said_behind g.A.Address.address (current_told (g.D.Disk.contents c.args.disk) (g.D.Disk.contents c.args.second)) words (said_of t) command said is ReadFault
-    (g.S.Source.left c.args.source.now) (g.S.Source.left c.run_task-in-Ok-Send.new.source) (g.K.Sink.given c.args.sink.now) (g.K.Sink.given c.run_task-in-Ok-Send.new.sink)
-    (g.S.Source.faults c.run_task-in-Ok-Send.new.source ≡ g.S.Source.faults c.args.source.now) (c.run_task-in-Ok-Send.ensures.behind_source fault)
-
-pub returns-in-Ok-Send-clause-behind_disk : goal.returns-in-Ok-Send-clause-behind_disk
-returns-in-Ok-Send-clause-behind_disk g c command is fault =
-    let words = command_alone (map string_bytes c.args.words.now) in
-    let said = said_send words c.in-Ok-Send.field-0 c.in-Ok-Send.sending c.in-Ok-Send.field-0-is c.in-Ok-Send.ensures.read in
-    let t : Task = task.Send c.in-Ok-Send.sending in
-    said_behind g.A.Address.address (current_told (g.D.Disk.contents c.args.disk) (g.D.Disk.contents c.args.second)) words (said_of t) command said is DiskFault
-    (g.S.Source.left c.args.source.now) (g.S.Source.left c.run_task-in-Ok-Send.new.source) (g.K.Sink.given c.args.sink.now) (g.K.Sink.given c.run_task-in-Ok-Send.new.sink)
-    ((g.D.Disk.faults c.run_task-in-Ok-Send.result.1 ≡ g.D.Disk.faults c.args.disk) × (g.D.Disk.faults c.run_task-in-Ok-Send.result.2 ≡ g.D.Disk.faults c.args.second)) (c.run_task-in-Ok-Send.ensures.behind_disk fault)
+    (g.S.Source.left c.args.source.now) (g.S.Source.left c.run_task-in-Ok-Look.new.source) (g.K.Sink.given c.args.sink.now) (g.K.Sink.given c.run_task-in-Ok-Look.new.sink)
+    ((g.D.Disk.faults c.run_task-in-Ok-Look.result.1 ≡ g.D.Disk.faults c.args.disk) × (g.D.Disk.faults c.run_task-in-Ok-Look.result.2 ≡ g.D.Disk.faults c.args.second)) (c.run_task-in-Ok-Look.ensures.behind_disk fault)
 
 pub returns-in-Ok-Receive-clause-usage : goal.returns-in-Ok-Receive-clause-usage
 returns-in-Ok-Receive-clause-usage g c usage = absurd (c.run_task-in-Ok-Receive.ensures.usage usage)

@@ -1,21 +1,19 @@
 -- Each task on the disk that was chosen.
-use Rattle.std.proofs.Common.{◌≡◌, ℕ, List, [], refl, inl, subst}
+use Rattle.std.proofs.Common.{◌≡◌, [], refl, inl}
 use Rattle.std.proofs.KnownBytes.{Consumes-nil}
 use Rattle.branch_command.specs.Work.{Work}
 use Rattle.branch_command.specs.Commands.{Script}
 use Rattle.branch_shell.specs.declared.status.Status.TheVariants.{DiskFault}
 use Rattle.branch_shell.specs.Generated.{SaysWork}
-use Rattle.branch_shell.specs.Stores.{SaysReport}
 use Rattle.branch_shell.specs.Reading.{Exchanges}
 use Rattle.branch_shell.specs.Statuses.{WroteOf}
 use Rattle.branch_shell.specs.Documents.{SaysUnopened}
 use Rattle.branch_shell.specs.Upgrading.{SaysUpgraded, SaysNotUpgraded}
 use Rattle.branch_shell.specs.Compacting.{SaysCompacted}
 use Rattle.mrdt_old_doc.specs.OldDocument.{old_document}
-use Rattle.branch_shell.specs.Once.{Answers}
-use Rattle.branch_shell.specs.Bundling.{SaysAddress, SaysBundle, SaysNoBranch}
+use Rattle.branch_shell.specs.Looks.{SaysLook, SaysNoLook}
 use Rattle.branch_shell.specs.Values.{value_type}
-use Rattle.branch_shell.proofs.Runs.{no_usage, once_usage, check_ran, address_ran, send_ran, both_behind}
+use Rattle.branch_shell.proofs.Runs.{no_usage, once_usage, look_ran, both_behind}
 use Rattle.branch_shell.proofs.Received.{receive_usage}
 use Rattle.branch_shell.proofs.Outcomes.{never_usage}
 use denote.Param.Send.{sendable}
@@ -48,29 +46,29 @@ returns-in-Script-clause-behind_disk g c fault =
     (Exchanges (g.S.Source.left c.args.source.now) (g.S.Source.left run.new.source) (g.K.Sink.given c.args.sink.now) (g.K.Sink.given run.new.sink)
     (WroteOf of g.A.Address.address Script (g.D.Disk.contents c.args.held) (g.S.Source.left run.new.source) DiskFault)) refl (run.ensures.behind_disk fault))
 
-pub returns-in-Check-clause-ran : goal.returns-in-Check-clause-ran
-returns-in-Check-clause-ran g c =
+pub returns-in-Look-clause-ran : goal.returns-in-Look-clause-ran
+returns-in-Look-clause-ran g c =
     let of = value_type g.T.Mrdt.meaning g.T.Forms.forms g.T.Kinded.KIND in
-    let run = c.run_check-status in
-    rw c.in-Check.is
-    (check_ran of g.A.Address.address g.D.Disk c.args.which c.args.held run.result.1 c.args.other run.result.0 (g.S.Source.left c.args.source.now) (g.K.Sink.given c.args.sink.now) (g.K.Sink.given run.new.sink) run.ensures.wrote
+    let run = c.run_look-status in
+    rw c.in-Look.is
+    (look_ran of g.A.Address.address g.D.Disk c.args.which c.args.held run.result.1 c.args.other run.result.0 (g.S.Source.left c.args.source.now) (g.K.Sink.given c.args.sink.now) (g.K.Sink.given run.new.sink) c.in-Look.look run.ensures.wrote
     (record { any_moment = run.ensures.any_moment; keeps = λ done store holds. run.ensures.keeps done holds.files store holds.told holds.reads }))
 
-pub returns-in-Check-clause-usage : goal.returns-in-Check-clause-usage
-returns-in-Check-clause-usage g c usage =
+pub returns-in-Look-clause-usage : goal.returns-in-Look-clause-usage
+returns-in-Look-clause-usage g c usage =
     let of = value_type g.T.Mrdt.meaning g.T.Forms.forms g.T.Kinded.KIND in
     let told = g.D.Disk.contents c.args.held in
-    let run = c.run_check-status in
-    never_usage (SaysReport of.kind of.meaning g.A.Address.address told) (SaysUnopened of g.A.Address.address told) run.result.0 (g.K.Sink.given c.args.sink.now) (g.K.Sink.given run.new.sink) run.ensures.wrote usage
+    let run = c.run_look-status in
+    never_usage (SaysLook of g.A.Address.address told c.in-Look.look) (SaysNoLook of old_document g.A.Address.address told c.in-Look.look) run.result.0 (g.K.Sink.given c.args.sink.now) (g.K.Sink.given run.new.sink) run.ensures.wrote usage
 
-pub returns-in-Check-clause-reason : goal.returns-in-Check-clause-reason
-returns-in-Check-clause-reason g c = inl (c.run_check-status.ensures.reason (g.S.Source.faults c.args.source.now), refl)
+pub returns-in-Look-clause-reason : goal.returns-in-Look-clause-reason
+returns-in-Look-clause-reason g c = inl (c.run_look-status.ensures.reason (g.S.Source.faults c.args.source.now), refl)
 
-pub returns-in-Check-clause-behind_source : goal.returns-in-Check-clause-behind_source
-returns-in-Check-clause-behind_source g c fault = inl refl
+pub returns-in-Look-clause-behind_source : goal.returns-in-Look-clause-behind_source
+returns-in-Look-clause-behind_source g c fault = inl refl
 
-pub returns-in-Check-clause-behind_disk : goal.returns-in-Check-clause-behind_disk
-returns-in-Check-clause-behind_disk g c fault = inl (c.run_check-status.ensures.no_fault fault, refl)
+pub returns-in-Look-clause-behind_disk : goal.returns-in-Look-clause-behind_disk
+returns-in-Look-clause-behind_disk g c fault = inl (c.run_look-status.ensures.no_fault fault, refl)
 
 pub returns-in-Generate-clause-ran : goal.returns-in-Generate-clause-ran
 returns-in-Generate-clause-ran g c =
@@ -135,60 +133,6 @@ returns-in-Compact-clause-behind_source g c fault = inl refl
 pub returns-in-Compact-clause-behind_disk : goal.returns-in-Compact-clause-behind_disk
 returns-in-Compact-clause-behind_disk g c fault = inl (c.run_compact.ensures.no_fault fault)
 
-pub returns-in-Address-clause-ran : goal.returns-in-Address-clause-ran
-returns-in-Address-clause-ran g c =
-    let of = value_type g.T.Mrdt.meaning g.T.Forms.forms g.T.Kinded.KIND in
-    let run = c.run_address-status in
-    rw c.in-Address.is
-    (address_ran of g.A.Address.address g.D.Disk c.args.which c.args.held run.result.1 c.args.other run.result.0 (g.S.Source.left c.args.source.now) (g.K.Sink.given c.args.sink.now) (g.K.Sink.given run.new.sink) c.in-Address.branch run.ensures.wrote
-    (record { any_moment = run.ensures.any_moment; keeps = λ done store holds. run.ensures.keeps done holds.files store holds.told holds.reads }))
-
-pub returns-in-Address-clause-usage : goal.returns-in-Address-clause-usage
-returns-in-Address-clause-usage g c usage =
-    let of = value_type g.T.Mrdt.meaning g.T.Forms.forms g.T.Kinded.KIND in
-    let told = g.D.Disk.contents c.args.held in
-    let run = c.run_address-status in
-    never_usage (SaysAddress of.kind of.meaning g.A.Address.address told c.in-Address.branch) (SaysNoBranch of.kind of.meaning old_document g.A.Address.address told c.in-Address.branch) run.result.0 (g.K.Sink.given c.args.sink.now) (g.K.Sink.given run.new.sink) run.ensures.wrote usage
-
-pub returns-in-Address-clause-reason : goal.returns-in-Address-clause-reason
-returns-in-Address-clause-reason g c = inl (c.run_address-status.ensures.reason (g.S.Source.faults c.args.source.now), refl)
-
-pub returns-in-Address-clause-behind_source : goal.returns-in-Address-clause-behind_source
-returns-in-Address-clause-behind_source g c fault = inl refl
-
-pub returns-in-Address-clause-behind_disk : goal.returns-in-Address-clause-behind_disk
-returns-in-Address-clause-behind_disk g c fault = inl (c.run_address-status.ensures.no_fault fault, refl)
-
-pub returns-in-Send-clause-ran : goal.returns-in-Send-clause-ran
-returns-in-Send-clause-ran g c =
-    let of = value_type g.T.Mrdt.meaning g.T.Forms.forms g.T.Kinded.KIND in
-    let run = c.run_send-status in
-    let told = g.D.Disk.contents c.args.held in
-    let g0 = g.K.Sink.given c.args.sink.now in
-    let g1 = g.K.Sink.given run.new.sink in
-    let wrote =
-    subst (λ (l : List (List ℕ)). Answers (SaysBundle of.kind of.meaning g.A.Address.address told c.in-Send.sending.branch l) (SaysNoBranch of.kind of.meaning old_document g.A.Address.address told c.in-Send.sending.branch) run.result.0 g0 g1)
-    c.as_slice.ensures run.ensures.wrote in
-    rw c.in-Send.is
-    (send_ran of g.A.Address.address g.D.Disk c.args.which c.args.held run.result.1 c.args.other run.result.0 (g.S.Source.left c.args.source.now) g0 g1 c.in-Send.sending.branch c.in-Send.sending.here wrote
-    (record { any_moment = run.ensures.any_moment; keeps = λ done store holds. run.ensures.keeps done holds.files store holds.told holds.reads }))
-
-pub returns-in-Send-clause-usage : goal.returns-in-Send-clause-usage
-returns-in-Send-clause-usage g c usage =
-    let of = value_type g.T.Mrdt.meaning g.T.Forms.forms g.T.Kinded.KIND in
-    let told = g.D.Disk.contents c.args.held in
-    let run = c.run_send-status in
-    never_usage (SaysBundle of.kind of.meaning g.A.Address.address told c.in-Send.sending.branch c.as_slice.result.now) (SaysNoBranch of.kind of.meaning old_document g.A.Address.address told c.in-Send.sending.branch) run.result.0 (g.K.Sink.given c.args.sink.now) (g.K.Sink.given run.new.sink) run.ensures.wrote usage
-
-pub returns-in-Send-clause-reason : goal.returns-in-Send-clause-reason
-returns-in-Send-clause-reason g c = inl (c.run_send-status.ensures.reason (g.S.Source.faults c.args.source.now), refl)
-
-pub returns-in-Send-clause-behind_source : goal.returns-in-Send-clause-behind_source
-returns-in-Send-clause-behind_source g c fault = inl refl
-
-pub returns-in-Send-clause-behind_disk : goal.returns-in-Send-clause-behind_disk
-returns-in-Send-clause-behind_disk g c fault = inl (c.run_send-status.ensures.no_fault fault, refl)
-
 pub returns-in-Receive-clause-ran : goal.returns-in-Receive-clause-ran
 returns-in-Receive-clause-ran g c =
     let e = c.run_receive-status.ensures.ran in
@@ -210,23 +154,11 @@ returns-in-Receive-clause-behind_source g c fault = inl (c.run_receive-status.en
 pub returns-in-Receive-clause-behind_disk : goal.returns-in-Receive-clause-behind_disk
 returns-in-Receive-clause-behind_disk g c fault = inl ((c.run_receive-status.ensures.no_fault fault).1, refl)
 
-pub run_check-status-requires-send-U : goal.run_check-status-requires-send-U
-run_check-status-requires-send-U g c κs within = let d = Doc1-send in search sendable
+pub run_look-status-requires-send-U : goal.run_look-status-requires-send-U
+run_look-status-requires-send-U g c κs within = let d = Doc1-send in search sendable
 
-pub run_check-status-requires-sync-U : goal.run_check-status-requires-sync-U
-run_check-status-requires-sync-U g c κs within = let d = Doc1-sync in search sendable
-
-pub run_address-status-requires-send-U : goal.run_address-status-requires-send-U
-run_address-status-requires-send-U g c κs within = let d = Doc1-send in search sendable
-
-pub run_address-status-requires-sync-U : goal.run_address-status-requires-sync-U
-run_address-status-requires-sync-U g c κs within = let d = Doc1-sync in search sendable
-
-pub run_send-status-requires-send-U : goal.run_send-status-requires-send-U
-run_send-status-requires-send-U g c κs within = let d = Doc1-send in search sendable
-
-pub run_send-status-requires-sync-U : goal.run_send-status-requires-sync-U
-run_send-status-requires-sync-U g c κs within = let d = Doc1-sync in search sendable
+pub run_look-status-requires-sync-U : goal.run_look-status-requires-sync-U
+run_look-status-requires-sync-U g c κs within = let d = Doc1-sync in search sendable
 
 pub run_receive-status-requires-send-U : goal.run_receive-status-requires-send-U
 run_receive-status-requires-send-U g c κs within = let d = Doc1-send in search sendable
