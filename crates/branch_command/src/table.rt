@@ -289,7 +289,8 @@ fn show<'a>(alloc: Global) -> Result<Command<'a>, AllocError>
 
 // The statuses that the program ends with, in its help.
 const STATUSES: &str =
-    "Behind any command the word --verbose, or -v, has standard error told why the command was not done.
+    "Behind any command the word --verbose, or -v, has standard error told how far the command has come, and why it was
+not done.
 
 Statuses:
   0  done

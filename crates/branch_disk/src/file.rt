@@ -183,7 +183,9 @@ impl<R: Files + Drop> FileDisk<R>
 where
     R::File: LockFile,
 {
-    /// The disk over the files with this path and the endings `.objects` and `.heads`. No fault is counted yet.
+    /// The disk over the files with this path and the endings `.objects` and `.heads`: `FileDisk::new(rt,
+    /// String::from("notes"))` is that over `notes.objects` and `notes.heads`. No file is opened or made before the disk's
+    /// first call, and no fault is counted yet.
     pub fn new(rt: R, path: String) -> FileDisk<R>
         ensures { ⟦<FileDisk<R> as Disk>⟧.faults result ≡ 0 }
     {

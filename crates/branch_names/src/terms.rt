@@ -13,7 +13,8 @@ pub struct Terms {
     pub limits: Limits,
     /// The origin of branch 0.
     pub origin: u32,
-    /// The kind of the values: 0 for documents, 1 for documents with sequences.
+    /// The kind of the values, the byte of the heads that says of which type they are: 0 for documents, 1 for documents
+    /// with sequences. Types of one's own take numbers from 100 on. A store is opened only as one of its kind.
     pub kind: u8,
     /// The layout of the objects.
     pub layout: Layout,

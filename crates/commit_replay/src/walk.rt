@@ -20,6 +20,7 @@ use crate::rules::may_come;
 use branch_address::Address;
 use branch_disk::Part;
 use branch_names::{Name, Terms};
+use branch_progress::{Listener, Progress};
 use heads_journal::Record;
 use mrdt_model::{Memory, Mrdt};
 use recorded_history::Recorded;
@@ -37,13 +38,15 @@ const FOLDS: u32 = 4096;
 ///
 /// The records must be such as files of the version have, as those that `heads_journal::read_all` has read are.
 ///
-/// The bytes of the objects are given up, and go from memory as their moves are made.
-pub fn replay<T: Mrdt, A: Address>(
+/// The bytes of the objects are given up, and go from memory as their moves are made. The listener hears of each record
+/// whose move was made.
+pub fn replay<T: Mrdt, A: Address, L: Listener>(
     alloc: Global,
     version: u32,
     terms: Terms,
     records: &[Record],
     objects: Vec<u8>,
+    listener: &mut L,
 ) -> Result<Recorded<T, A>, ReplayRefused>
     requires { All (IsRecord version) records.now }
     ensures settled { IfOk result (λ recorded.
@@ -75,9 +78,22 @@ pub fn replay<T: Mrdt, A: Address>(
         if let Err(refused) = replay_record(alloc, version, &mut recorded, next, &mut ahead) {
             return Err(refused);
         }
+        tell_opened(listener, &recorded, records);
     }
     recorded.drop_folds();
     Ok(recorded)
+}
+
+// Tells how many of the records were read back.
+fn tell_opened<T: Mrdt, A: Address, L: Listener>(
+    listener: &mut L,
+    recorded: &Recorded<T, A>,
+    records: &[Record],
+) {
+    listener.hear(Progress::Opened {
+        records: recorded.moves(),
+        of: records.len() as u64,
+    });
 }
 
 // Goes on by the move of one record of a version, and takes the bytes of its objects off those ahead.

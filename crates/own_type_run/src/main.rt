@@ -8,6 +8,7 @@ mod steps;
 use branch_address::Sha256Address;
 use branch_disk::{Disk, FileDisk};
 use branch_names::{Layout, Limits, Name, Terms};
+use branch_progress::NoListener;
 use failure::Failure;
 use mrdt_model::Memory;
 use own_type::{Board, BoardQuery, Raise};
@@ -33,7 +34,7 @@ fn make<D: Disk + Drop>(alloc: Global, disk: D) -> Result<Store<D>, Failure> {
 
 // The store that a disk holds.
 fn open<D: Disk + Drop>(alloc: Global, disk: D) -> Result<Store<D>, Failure> {
-    match Core::open(alloc, disk, KIND) {
+    match Core::open(alloc, disk, KIND, &mut NoListener) {
         Ok(core) => Ok(core),
         Err((refused, _disk)) => Err(Failure::Open(refused)),
     }

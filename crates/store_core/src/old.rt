@@ -21,6 +21,7 @@ use branch_disk::{Disk, Part};
 use branch_files::forms::reads_old_as_first_kind;
 use branch_history::Move;
 use branch_names::{Layout, Terms};
+use branch_progress::Listener;
 use commit_replay::first_text;
 use commit_replay::laws::{reads_as_none_of_kind, reads_as_store};
 use heads_journal::{ReadAllRefused, read_all};
@@ -32,10 +33,11 @@ const OLD: u32 = 1;
 
 /// The limits with the first origin, and the moves, of the store of version 1 that a disk holds, which a crash may have
 /// left. It syncs both parts and reads, and writes nothing. `Ok` and each refusal but `DiskFault` and `Memory` come
-/// exactly where the files read so in version 1.
-pub fn read_old<T: Mrdt, D: Disk, A: Address>(
+/// exactly where the files read so in version 1. The listener hears of each record that was read back.
+pub fn read_old<T: Mrdt, D: Disk, A: Address, L: Listener>(
     alloc: Global,
     disk: &mut D,
+    listener: &mut L,
 ) -> Result<(Terms, Listing<Move<T::Op, T::Reply>>), OpenRefused>
     ensures reads { let reads = ReadsIn old_form T.meaning A.address in
         IfOk result (λ r. ForSome (D.contents disk.old) (λ f. reads f (Opens r.0 r.1))) }
@@ -60,7 +62,7 @@ pub fn read_old<T: Mrdt, D: Disk, A: Address>(
         HasCauseOf OpenRefused.DiskFault before (D.faults disk.new) result }
 {
     reads_old_as_first_kind::<T>();
-    match read_in::<T, D, A>(alloc, disk, OLD, 0) {
+    match read_in::<T, D, A, L>(alloc, disk, OLD, 0, listener) {
         Ok((_journal, recorded)) => {
             let terms = recorded.terms();
             Ok((terms, recorded.into_moves()))

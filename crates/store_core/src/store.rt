@@ -43,6 +43,7 @@ use branch_files::laws::stands_for_what_is_read;
 use branch_history::Move;
 use branch_machine::laws::grows_by_full_moves;
 use branch_names::{Name, Terms};
+use branch_progress::Listener;
 use heads_journal::Journal;
 use mrdt_model::{Memory, Mrdt};
 use recorded_history::{Addressed, Recorded};
@@ -179,10 +180,16 @@ impl<T: Mrdt, D: Disk + Drop, A: Address> Core<T, D, A> {
     }
 
     /// Opens the store of a kind of values that a disk holds, in the layout that its header tells, which a crash may have
-    /// left. It syncs both parts and reads, and writes nothing. `Ok` and each refusal but `DiskFault` and `Memory` come exactly where the files read so for one
-    /// that asks for this kind: what it opens is the one answer of the files, and so is why it refuses them. The store of
-    /// another kind is `NotAStore`. An `Err` hands the disk back.
-    pub fn open(alloc: Global, disk: D, kind: u8) -> Result<Core<T, D, A>, (OpenRefused, D)>
+    /// left. It syncs both parts and reads, and writes nothing. `Ok` and each refusal but `DiskFault` and `Memory` come
+    /// exactly where the files read so for one that asks for this kind: what it opens is the one answer of the files, and so is why it refuses them. The store of
+    /// another kind is `NotAStore`. An `Err` hands the disk back. The listener hears of each record that was read back, and
+    /// changes nothing; `NoListener` is one for those who want none.
+    pub fn open<L: Listener>(
+        alloc: Global,
+        disk: D,
+        kind: u8,
+        listener: &mut L,
+    ) -> Result<Core<T, D, A>, (OpenRefused, D)>
         ensures opened { IfOk result (λ core. core ≡ record {
           history = core.history;
           terms = core.terms;
@@ -221,7 +228,7 @@ impl<T: Mrdt, D: Disk + Drop, A: Address> Core<T, D, A> {
     {
         stands_for_what_is_read::<T>();
         let mut disk = disk;
-        match read_back::<T, D, A>(alloc, &mut disk, kind) {
+        match read_back::<T, D, A, L>(alloc, &mut disk, kind, listener) {
             Ok((journal, recorded)) => {
                 let opened = Snapshot::of(&disk);
                 Ok(Core {
@@ -341,7 +348,7 @@ impl<T: Mrdt, D: Disk + Drop, A: Address> Core<T, D, A> {
         self.recorded.branch(number)
     }
 
-    /// Whether a branch was dropped.
+    /// Whether the branch of a number was dropped. The branch has to be there: a number below `branches()`.
     pub fn is_dropped(&self, number: u32) -> bool
         requires { number < length (store_of self.now.terms.origin self.now.history).branches }
         ensures { result ≡ is_dropped (store_of self.now.terms.origin self.now.history).branches
@@ -358,6 +365,7 @@ impl<T: Mrdt, D: Disk + Drop, A: Address> Core<T, D, A> {
     }
 
     /// The value of a commit, which is lent. It stands for the events that are visible there, and its spelling is theirs.
+    /// The commit has to be there: a number below `commits()`.
     pub fn value_at(&self, commit: u32) -> &T
         requires there { commit
             < length (store_of self.now.terms.origin self.now.history).commits }
@@ -370,7 +378,8 @@ impl<T: Mrdt, D: Disk + Drop, A: Address> Core<T, D, A> {
         self.recorded.value_at(commit)
     }
 
-    /// What a commit answers to a query, now and however the history goes on, also where the disk has failed.
+    /// What a commit answers to a query, now and however the history goes on, also where the disk has failed. The commit
+    /// has to be there, and want of memory is the only error.
     pub fn ask_at(&self, commit: u32, query: &T::Query) -> Result<T::Answer, Memory>
         requires there { commit
             < length (store_of self.now.terms.origin self.now.history).commits }
@@ -409,7 +418,8 @@ impl<T: Mrdt, D: Disk + Drop, A: Address> Core<T, D, A> {
         self.recorded.pair(seen, from)
     }
 
-    /// Pairs a look at this core, taken now or earlier, with a commit, also where the disk has failed.
+    /// Pairs a look at this core, taken now or earlier, with a commit, also where the disk has failed. The commit has to
+    /// be there, and want of memory is the only error.
     pub fn pair_at(&self, seen: &Seen<T>, commit: u32) -> Result<Pair<T>, Memory>
         requires history { IsPrefix seen.now.history self.now.history }
         requires terms { seen.now.terms ≡ self.now.terms }
@@ -604,7 +614,8 @@ impl<T: Mrdt, D: Disk + Drop, A: Address> Core<T, D, A> {
         Ok(made.forked)
     }
 
-    /// Places a new branch at a commit. It is refused exactly as the machine refuses it, and then nothing has changed:
+    /// Places a new branch at a commit, which has to be there. It is refused exactly as the machine refuses it, and
+    /// then nothing has changed:
     /// `Failed` before `NameTaken` before `FullBranches` before `FullMoves`. At every moment a crash leaves the history
     /// before, or that with the branch; after `Ok`, the latter. Both are valid. What a disk tells is then as after
     /// `land`.

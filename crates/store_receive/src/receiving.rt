@@ -14,6 +14,7 @@ use branch_address::Address;
 use branch_bundle::{Bundle, BundleRefused, Item, read_bundle};
 use branch_disk::Disk;
 use branch_names::Name;
+use branch_progress::{Listener, Progress};
 use mrdt_model::Mrdt;
 use std::alloc::Global;
 use store_core::{Core, GotAll};
@@ -53,11 +54,20 @@ fn receive_batch<T: Mrdt, D: Disk + Drop, A: Address>(
     }
 }
 
+// Tells how many of the items were taken, where these are left.
+fn tell_received<L: Listener>(listener: &mut L, of: usize, left: &Left) {
+    listener.hear(Progress::Received {
+        items: of.saturating_sub(left.len()) as u64,
+        of: of as u64,
+    });
+}
+
 // Takes items, some together and then the next ones, and says how many of their commits are new. They go from memory as
-// they are taken.
-fn receive_items<T: Mrdt, D: Disk + Drop, A: Address>(
+// they are taken. The listener hears of each that were taken together.
+fn receive_items<T: Mrdt, D: Disk + Drop, A: Address, L: Listener>(
     core: &mut Core<T, D, A>,
     items: Vec<Item>,
+    listener: &mut L,
 ) -> Result<u64, NotReceived>
     requires working { core.old.failed ≡ false }
     requires numbers { items.items ≡ numbered 1 (map pair_of items.items) }
@@ -75,6 +85,7 @@ fn receive_items<T: Mrdt, D: Disk + Drop, A: Address>(
 {
     let _moves = core.moves();
     let mut count: u64 = 0;
+    let of = items.len();
     let mut left = Left::new(items);
     while left.len() > 0 {
         let size = left.len().min(TOGETHER);
@@ -86,6 +97,7 @@ fn receive_items<T: Mrdt, D: Disk + Drop, A: Address>(
             Err(refused) => return Err(refused),
         }
         let _moves = core.moves();
+        tell_received(listener, of, &left);
     }
     Ok(count)
 }
@@ -149,10 +161,11 @@ fn place_at_tip<T: Mrdt, D: Disk + Drop, A: Address>(
 }
 
 // Takes the items of a bundle one after the other, and places a branch of a name at its tip.
-fn receive_bundle<T: Mrdt, D: Disk + Drop, A: Address>(
+fn receive_bundle<T: Mrdt, D: Disk + Drop, A: Address, L: Listener>(
     core: &mut Core<T, D, A>,
     bundle: Bundle,
     name: Name,
+    listener: &mut L,
 ) -> Result<Placed, NotReceived>
     requires working { core.old.failed ≡ false }
     requires numbers { bundle.items ≡ numbered 1 (plain bundle).items }
@@ -170,7 +183,7 @@ fn receive_bundle<T: Mrdt, D: Disk + Drop, A: Address>(
     // It is a valid history: its count tells the proof so.
     let _moves = core.moves();
     let Bundle { tip, items } = bundle;
-    match receive_items(core, items.into_vec()) {
+    match receive_items(core, items.into_vec(), listener) {
         Ok(count) => place_at_tip(core, &tip, name, count),
         Err(refused) => Err(refused),
     }
@@ -185,12 +198,14 @@ fn receive_bundle<T: Mrdt, D: Disk + Drop, A: Address>(
 /// At every moment a crash leaves the history with the moves of a first part of the items, or of all and of the branch;
 /// all of them are valid.
 ///
-/// The bytes go from memory once they are read, and the items as they are received.
-pub fn receive_bytes<T: Mrdt, D: Disk + Drop, A: Address>(
+/// The bytes go from memory once they are read, and the items as they are received. The listener hears how many were
+/// received, behind each 64 of them and behind the last, and changes nothing.
+pub fn receive_bytes<T: Mrdt, D: Disk + Drop, A: Address, L: Listener>(
     alloc: Global,
     core: &mut Core<T, D, A>,
     bytes: Vec<u8>,
     name: Name,
+    listener: &mut L,
 ) -> Result<Placed, NotReceived>
     requires working { core.old.failed ≡ false }
     ensures received { IfOk result (λ placed. AreReceived (fix T.meaning core.old.terms A.address)
@@ -208,7 +223,7 @@ pub fn receive_bytes<T: Mrdt, D: Disk + Drop, A: Address>(
     let read = read_bundle(alloc, layout, &bytes);
     drop(bytes);
     match read {
-        Ok(bundle) => receive_bundle(core, bundle, name),
+        Ok(bundle) => receive_bundle(core, bundle, name, listener),
         Err(BundleRefused::BadBundle { .. }) => Err(NotReceived::NoBundle),
         Err(BundleRefused::Memory) => Err(NotReceived::Memory),
     }

@@ -186,6 +186,7 @@ pub enum Kind<R> {
 pub struct Landed<R> {
     /// The length of the history after the move.
     pub moves: u64,
+    /// What it was: an operation with its reply, a merge, a join, or a move up to a commit that stood before.
     pub kind: Kind<R>,
 }
 

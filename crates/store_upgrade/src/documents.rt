@@ -12,6 +12,7 @@ use branch_address::Address;
 use branch_disk::Disk;
 use branch_doc::{DocOp, DocReply};
 use branch_history::Move;
+use branch_progress::Listener;
 use branch_renewal::laws::{keeps_answers, keeps_turns};
 use moves_again::make_again;
 use mrdt_doc::Doc;
@@ -90,10 +91,13 @@ fn renew_all(
 /// where the second has a byte; then `Upgrade`, exactly where the machine refuses the move of that commit for what
 /// its new value or a new object is, and the second disk then has the moves before it. At each moment each image of
 /// the second, where it was empty in each, is no store or has some first ones of the moves.
-pub fn upgrade<D: Disk + Drop, A: Address>(
+///
+/// The listener hears of each record of the first disk that was read back, and changes nothing.
+pub fn upgrade<D: Disk + Drop, A: Address, L: Listener>(
     alloc: Global,
     first: &mut D,
     second: D,
+    listener: &mut L,
 ) -> Result<(u64, D), (UpgradeRefused, D)>
     ensures upgraded { IfOk result (λ r. Upgraded D.Disk A.address first.old second r.0 r.1) }
     ensures refused { IfErr result (λ e.
@@ -114,7 +118,7 @@ pub fn upgrade<D: Disk + Drop, A: Address>(
     renews_documents();
     keeps_turns::<Doc1, Doc>();
     keeps_answers::<Doc1, Doc>();
-    let (terms, moves) = match read_old::<Doc1, D, A>(alloc, first) {
+    let (terms, moves) = match read_old::<Doc1, D, A, L>(alloc, first, listener) {
         Ok(read) => read,
         Err(refused) => return Err((UpgradeRefused::from(refused), second)),
     };
