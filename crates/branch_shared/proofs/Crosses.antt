@@ -6,7 +6,6 @@ use Rattle.std.specs.contracts.sync.Mutex as Mutex
 use Rattle.mrdt_model.specs.declared.mrdt.Mrdt as mrdt
 use Rattle.branch_address.specs.declared.address.Address as address
 use Rattle.branch_disk.specs.declared.disk.Disk as disk
-use Rattle.branch_history.specs.contracts.moves.Move as Move
 use Rattle.branch_batch.proofs.Crosses.{Queue-sync}
 use Rattle.branch_front.proofs.Crosses as front
 use Rattle.store_seen.specs.contracts.answers.Kind as Kind
@@ -16,6 +15,7 @@ use Rattle.recorded_history.specs.contracts.addressed.Addressed as Addressed
 use Rattle.store_core.proofs.Crosses.{Core-send}
 use Rattle.store_core.specs.contracts.answers.LandRefused as LandRefused
 use Rattle.branch_shared.specs.declared.name.Named as name
+use Rattle.branch_shared.specs.contracts.name.Entry as Entry
 use Rattle.branch_shared.specs.contracts.job.Job as Job
 use Rattle.branch_shared.specs.contracts.job.Given as Given
 use Rattle.branch_shared.specs.contracts.job.Landing as Landing
@@ -39,11 +39,11 @@ module _ (T A O Q W R : RattleType) (m : mrdt.Ghosts T.Denot O.Denot Q.Denot W.D
   job_send s sa so sr =
       let p = prepared_send s so sr in
       let d : IsSend (Addressed.the_row T A O Q W R m a) = search (sendable, crosses) depth 20 in
-      let f = front.Pass-send (Move.the_row O R) in search sendable depth 20
+      let f = front.Pass-send (Entry.the_row O R) in search sendable depth 20
 
 module _ (T N O Q W R : RattleType) (m : mrdt.Ghosts T.Denot O.Denot Q.Denot W.Denot R.Denot) (n : name.Ghosts N.Denot O.Denot R.Denot) where
   pub Pass-send : IsSend N → IsSend (Pass.the_row T N O Q W R m n)
-  Pass-send sn = let p = front.Pass-send (Move.the_row O R) in search sendable depth 20
+  Pass-send sn = let p = front.Pass-send (Entry.the_row O R) in search sendable depth 20
 
   given_send : IsSend N → IsSend R → IsSend (Given.the_row T N O Q W R m n)
   given_send sn sr =
@@ -61,11 +61,11 @@ module _ (T D A N O Q W R : RattleType) (m : mrdt.Ghosts T.Denot O.Denot Q.Denot
   pub Kept-send : IsSend T → IsSync T → IsSend D → IsSend A → IsSend N → IsSend O → IsSend R → IsSend (Kept.the_row T D A N O Q W R m d a n)
   Kept-send s y sd sa sn so sr =
       let c = Core-send T D A O Q W R m d a s y sd sa so sr in
-      let w = front.Writer-send (Move.the_row O R) in search sendable depth 20
+      let w = front.Writer-send (Entry.the_row O R) in search sendable depth 20
 
   pub Shared-sync : IsSend T → IsSync T → IsSend D → IsSend A → IsSend N → IsSend O → IsSend R → IsSync (Shared.the_row T D A N O Q W R m d a n)
   Shared-sync s y sd sa sn so sr =
-      let f = front.Front-sync (Move.the_row O R) in
+      let f = front.Front-sync (Entry.the_row O R) in
       let k = Kept-send s y sd sa sn so sr in
       let lock : IsSync (Mutex.the_row (Kept.the_row T D A N O Q W R m d a n)) = search (sendable, crosses) depth 20 in
       let j = job_send T A O Q W R m a s sa so sr in

@@ -1,12 +1,15 @@
 -- Callers who see or are told one behind another.
-use Rattle.std.proofs.Common.{◌≡◌, ℕ, zero, suc, ◌+◌, ◌<◌, ◌≤◌, List, [], ◌∷◌, ◌++◌, length, take, drop, set, get_or, refl, ap, sym, ◌∙◌, subst, arith, add-one, append_assoc, length-append, Result, Ok, Err}
+use Rattle.std.proofs.Common.{◌≡◌, ℕ, zero, suc, ◌+◌, ◌<◌, ◌≤◌, List, [], ◌∷◌, ◌++◌, length, take, drop, replicate, set, get_or, refl, ap, sym, ◌∙◌, subst, arith, add-one, append_assoc, length-append, Result, Ok, Err}
 use Rattle.std.specs.List.{AllByRecursion}
 use Rattle.std.proofs.lemmas.List.{drop_more, take_more_set, drop-set-lt, append-nil}
 use mathlib.Core.List.{IsPrefix}
 use Rattle.branch_history.specs.declared.moves.Move.{Move}
 use Rattle.store_seen.specs.declared.answers.Landed.{Landed}
 use Rattle.store_core.specs.declared.answers.LandRefused.{LandRefused}
-use Rattle.branch_shared.specs.Batches.{TakenView, answered, answered_all, brings, brought}
+use Rattle.branch_shared.specs.declared.name.Entry.{Entry}
+use Rattle.branch_shared.specs.Batches.{TakenView, answered, answered_all, brings, brought, sure_after}
+use Rattle.branch_shared.specs.Entries.{moves_of, moments_of, entries_at, AreNoted}
+use Rattle.branch_shared.proofs.Entries.{moments-append, moments-at, noted-moves}
 
 module _ {X : Type 0} where
   all-suc : (P : X → Type 0) (xs : List X) (i : ℕ) (x : X) → i < length xs → AllByRecursion P (take i xs) → x ≡ get_or xs i x → P x → AllByRecursion P (take (suc i) xs)
@@ -67,14 +70,36 @@ next-brought {M} begun known history (Err refused) p le =
     let none : length (begun ++ known) + 0 ≡ length (begun ++ known) = omega arith in
     ap (λ (l : List M). begun ++ l) (append-nil known) ∙ (sym (prefix-take (begun ++ known) history p) ∙ ap (λ (n : ℕ). take n history) (sym none))
 
-module _ {O R : Type 0} (faults : ℕ) (history : List (Move O R)) where
+-- as many moves are brought as the answer says
+pub brought-long : {M L E : Type 0} (begun known history : List M) (answer : Result L E) → IsPrefix (begun ++ known) history → length (begun ++ known) + brings answer ≤ length history
+    → length (brought (take 1 (drop (length (begun ++ known)) history)) answer) ≡ brings answer
+brought-long begun known history (Ok landed) p le = (next-take (begun ++ known) history p le).1
+brought-long begun known history (Err refused) p le = refl
+
+-- what the writer adds at an answer is noted at that moment
+pub brought-noted : {O R L E : Type 0} (since : ℕ) (known : List (Entry O R)) (moves : List (Move O R)) (answer : Result L E) → AreNoted since known (known ++ brought (entries_at since moves) answer)
+brought-noted since known moves (Ok landed) = (moves, refl)
+brought-noted since known moves (Err refused) = ([], refl)
+
+-- and it is these moves
+pub brought-moves : {O R L E : Type 0} (since : ℕ) (known : List (Entry O R)) (moves : List (Move O R)) (answer : Result L E) → moves_of (known ++ brought (entries_at since moves) answer) ≡ moves_of known ++ brought moves answer
+brought-moves since known moves (Ok landed) = noted-moves since known (known ++ entries_at since moves) (moves, refl)
+brought-moves since known moves (Err refused) = noted-moves since known (known ++ []) ([], refl)
+
+pub brought-moments : {O R L E : Type 0} (since : ℕ) (known : List (Entry O R)) (moves : List (Move O R)) (answer : Result L E) → length (brought moves answer) ≡ brings answer
+    → moments_of (known ++ brought (entries_at since moves) answer) ≡ sure_after since (moments_of known) answer
+brought-moments since known moves (Ok landed) long =
+    moments-append known (entries_at since moves) ∙ (ap (λ (l : List ℕ). moments_of known ++ l) (moments-at since moves) ∙ ap (λ (n : ℕ). moments_of known ++ replicate n since) long)
+brought-moments since known moves (Err refused) long = moments-append known []
+
+module _ {O R : Type 0} (faults since : ℕ) (history : List (Move O R)) where
   -- one caller more is told
-  pub told-next : (all : List (TakenView O R)) (i count : ℕ) (taken new : TakenView O R) (answer : Result (Landed R) LandRefused) (answers : List (Result (Landed R) LandRefused)) → i < length all → taken ≡ get_or all i taken
-      → new ≡ answered faults (take (count + brings answer) history) answer taken
-      → take (i + 1) (set all i new) ++ answered_all faults history (count + brings answer) answers (drop (i + 1) (set all i new)) ≡ take i all ++ answered_all faults history count (answer ∷ answers) (drop i all)
-  told-next all i count taken new answer answers lt at is =
+  pub told-next : (all : List (TakenView O R)) (i count : ℕ) (sure : List ℕ) (taken new : TakenView O R) (answer : Result (Landed R) LandRefused) (answers : List (Result (Landed R) LandRefused)) → i < length all → taken ≡ get_or all i taken
+      → new ≡ answered faults (take (count + brings answer) history) (sure_after since sure answer) answer taken
+      → take (i + 1) (set all i new) ++ answered_all faults history since (sure_after since sure answer) (count + brings answer) answers (drop (i + 1) (set all i new)) ≡ take i all ++ answered_all faults history since sure count (answer ∷ answers) (drop i all)
+  told-next all i count sure taken new answer answers lt at is =
       let rest = drop (i + 1) all in
-      let later = answered_all faults history (count + brings answer) answers in
+      let later = answered_all faults history since (sure_after since sure answer) (count + brings answer) answers in
       let here : drop i all ≡ taken ∷ rest = drop_more all i taken lt ∙ ap (λ (t : TakenView O R). t ∷ rest) (sym at) in
       let front : take (i + 1) (set all i new) ≡ take i all ++ new ∷ [] = take_more_set all i new lt in
       let back : drop (i + 1) (set all i new) ≡ rest = drop-set-lt (i + 1) all i new (omega arith) in
@@ -82,4 +107,4 @@ module _ {O R : Type 0} (faults : ℕ) (history : List (Move O R)) where
       ∙ (ap (λ (l : List (TakenView O R)). (take i all ++ new ∷ []) ++ later l) back
       ∙ (append_assoc (take i all) (new ∷ []) (later rest)
       ∙ (ap (λ (t : TakenView O R). take i all ++ t ∷ later rest) is
-      ∙ ap (λ (l : List (TakenView O R)). take i all ++ answered_all faults history count (answer ∷ answers) l) (sym here))))
+      ∙ ap (λ (l : List (TakenView O R)). take i all ++ answered_all faults history since sure count (answer ∷ answers) l) (sym here))))

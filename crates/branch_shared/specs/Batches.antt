@@ -1,5 +1,5 @@
 -- Landings of several callers together: what is handed over, what comes back, and what is told on the way.
-use Rattle.std.specs.Prelude.{◌≡◌, ◌≢◌, ℕ, ◌+◌, ◌<◌, ◌≤◌, cond, List, [], ◌∷◌, ◌++◌, length, take, Result, Ok, Err, IfOk, IfErr, OnErr}
+use Rattle.std.specs.Prelude.{◌≡◌, ◌≢◌, ℕ, ◌+◌, ◌<◌, ◌≤◌, cond, List, [], ◌∷◌, ◌++◌, length, take, replicate, Result, Ok, Err, IfOk, IfErr, OnErr}
 use mathlib.Core.List.{IsPrefix}
 use Rattle.atomic_table.specs.Seated.{TableId}
 use Rattle.branch_front.specs.Views.{View}
@@ -12,16 +12,18 @@ use Rattle.store_seen.specs.Views.{PreparedView}
 use Rattle.store_core.specs.declared.answers.LandRefused.{LandRefused}
 use Rattle.store_core.specs.declared.answers.LandRefused.TheVariants as refusal
 use Rattle.store_core.specs.Views.{StoreView}
-use Rattle.branch_shared.specs.Passes.{PassView, IsSeenOn, LandedAt, BatchRefusedAt}
+use Rattle.branch_shared.specs.declared.name.Entry.{Entry}
+use Rattle.branch_shared.specs.Entries.{moves_of, moments_of}
+use Rattle.branch_shared.specs.Passes.{PassView, IsSeenOn, KnowsMoments, LandedAt, BatchRefusedAt}
 
 -- the pass of a store that began with this history
-abbrev pub pass_of : {M : Type 0} → List M → View M → PassView M
-pass_of begun v = record { moves = begun ++ v.moves; mine = v.mine; others = v.others; faults = v.faults; parts = v.parts; receipts = v.receipts }
+abbrev pub pass_of : {O R : Type 0} → List (Move O R) → View (Entry O R) → PassView (Move O R)
+pass_of begun v = record { moves = begun ++ moves_of v.moves; sure = moments_of v.moves; mine = v.mine; others = v.others; faults = v.faults; parts = v.parts; receipts = v.receipts }
 
 -- what a caller hands over to be landed: what it prepared, and a pass for it
 pub record JobView (O R : Type 0) : Type 0 where
   pub prepared : PreparedView O R
-  pub pass : View (Move O R)
+  pub pass : View (Entry O R)
 
 -- what a caller gets back
 pub record GivenView (O R : Type 0) : Type 0 where
@@ -37,12 +39,13 @@ pub record TakenView (O R : Type 0) : Type 0 where
 pub record MayLand {O R : Type 0} (table : TableId) (begun : List (Move O R)) (terms : Terms) (job : JobView O R) : Type 0 where
   pub table_is : job.pass.table ≡ table
   pub part : 0 < job.pass.parts
-  pub begins : IsPrefix job.prepared.seen.history (begun ++ job.pass.moves)
+  pub begins : IsPrefix job.prepared.seen.history (begun ++ moves_of job.pass.moves)
   pub terms_are : job.prepared.seen.terms ≡ terms
 
 -- What landing together with others makes of a pass, and how it is answered: as a landing alone is, at a beginning of the one history, but that a disk that fails does so for all.
 pub record LandsTogether {S O R Q A : Type 0} (fixed : Fixed S O R Q A) (opened : ℕ) (begun : List (Move O R)) (made : PreparedView O R) (old : PassView (Move O R)) (given : GivenView O R) : Type 0 where
   pub prefix : IsPrefix old.moves given.pass.moves
+  pub sure : KnowsMoments begun old given.pass
   pub begins : IsPrefix begun given.pass.moves
   pub valid : IsFullyValid fixed given.pass.moves
   pub faults : old.faults ≤ given.pass.faults
@@ -71,29 +74,35 @@ abbrev pub brought : {M L E : Type 0} → List M → Result L E → List M
 brought entry (Ok landed) = entry
 brought entry (Err refused) = []
 
--- a pass that has seen a beginning of this history, and no more faults
-abbrev pub IsBehind : {M : Type 0} → ℕ → List M → PassView M → Type 0
-IsBehind faults history pass = IsPrefix pass.moves history × (pass.faults ≤ faults)
+-- a pass that has seen a beginning of this history and its moments, and no more faults
+abbrev pub IsBehind : {M : Type 0} → ℕ → List M → List ℕ → PassView M → Type 0
+IsBehind faults history sure pass = IsPrefix pass.moves history × IsPrefix pass.sure sure × (pass.faults ≤ faults)
 
--- a job whose pass has seen this history, and so many faults
-abbrev pub seen_to : {O R : Type 0} → ℕ → List (Move O R) → TakenView O R → TakenView O R
-seen_to faults history taken = record taken { given = record (taken.given) { pass = record (taken.given.pass) { moves = history; faults = faults } } }
+-- a job whose pass has seen this history and these moments, and so many faults
+abbrev pub seen_to : {O R : Type 0} → ℕ → List (Move O R) → List ℕ → TakenView O R → TakenView O R
+seen_to faults history sure taken = record taken { given = record (taken.given) { pass = record (taken.given.pass) { moves = history; sure = sure; faults = faults } } }
 
 -- a pass that is told an answer: where that is a landing, the last move of this history is its own
-abbrev pub told : {M L E : Type 0} → ℕ → List M → Result L E → PassView M → PassView M
-told faults history (Ok landed) pass = record pass { moves = history; mine = pass.mine ++ length history ∷ []; faults = faults; receipts = pass.receipts + 1 }
-told faults history (Err refused) pass = record pass { moves = history; faults = faults }
+abbrev pub told : {M L E : Type 0} → ℕ → List M → List ℕ → Result L E → PassView M → PassView M
+told faults history sure (Ok landed) pass = record pass { moves = history; sure = sure; mine = pass.mine ++ length history ∷ []; faults = faults; receipts = pass.receipts + 1 }
+told faults history sure (Err refused) pass = record pass { moves = history; sure = sure; faults = faults }
 
--- a job that is answered so, where its pass then has seen this history
-abbrev pub answered : {O R : Type 0} → ℕ → List (Move O R) → Result (Landed R) LandRefused → TakenView O R → TakenView O R
-answered faults history answer taken = record taken { given = record { pass = told faults history answer taken.given.pass; answer = answer } }
+-- a job that is answered so, where its pass then has seen this history and these moments
+abbrev pub answered : {O R : Type 0} → ℕ → List (Move O R) → List ℕ → Result (Landed R) LandRefused → TakenView O R → TakenView O R
+answered faults history sure answer taken = record taken { given = record { pass = told faults history sure answer taken.given.pass; answer = answer } }
 
--- jobs that are answered, each at its place in the history, of which so many moves came before the first answer
-abbrev pub answered_all : {O R : Type 0} → ℕ → List (Move O R) → ℕ → List (Result (Landed R) LandRefused) → List (TakenView O R) → List (TakenView O R)
-answered_all faults history count [] all = all
-answered_all faults history count (answer ∷ answers) [] = []
-answered_all faults history count (answer ∷ answers) (taken ∷ all) =
-    answered faults (take (count + brings answer) history) answer taken ∷ answered_all faults history (count + brings answer) answers all
+-- the moments behind an answer, where what it brings is acknowledged at this one
+abbrev pub sure_after : {L E : Type 0} → ℕ → List ℕ → Result L E → List ℕ
+sure_after since sure answer = sure ++ replicate (brings answer) since
+
+-- jobs that are answered, all at one moment and each at its place in the history, of which so many moves and these moments
+-- came before the first answer
+abbrev pub answered_all : {O R : Type 0} → ℕ → List (Move O R) → ℕ → List ℕ → ℕ → List (Result (Landed R) LandRefused) → List (TakenView O R) → List (TakenView O R)
+answered_all faults history since sure count [] all = all
+answered_all faults history since sure count (answer ∷ answers) [] = []
+answered_all faults history since sure count (answer ∷ answers) (taken ∷ all) =
+    answered faults (take (count + brings answer) history) (sure_after since sure answer) answer taken
+    ∷ answered_all faults history since (sure_after since sure answer) (count + brings answer) answers all
 
 -- why no job lands where memory is short: a store that has failed says so
 abbrev pub shortage : {M D : Type 0} → StoreView M D → LandRefused

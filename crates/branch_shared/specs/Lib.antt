@@ -1,4 +1,7 @@
+pub mod Crashes
+pub mod Entries
 pub mod Keeps
 pub mod Names
 pub mod Passes
 pub mod Batches
+pub mod Spelled

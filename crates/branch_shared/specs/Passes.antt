@@ -24,11 +24,13 @@ use Rattle.store_core.specs.declared.answers.ForkRefused.TheVariants as fork_ref
 use Rattle.store_core.specs.Turns.{step_made}
 use Rattle.branch_names.specs.declared.terms.Terms.{Terms}
 
--- the history that its holder has seen; the lengths at which its own moves landed, and those at which the moves of the passes
+-- the history that its holder has seen; the moments of the disk at which the moves behind those that the store began with were
+-- acknowledged, in order; the lengths at which its own moves landed, and those at which the moves of the passes
 -- did that left into it; the disk's faults since the core was opened, as last seen; its share of the parts; and the number of
 -- moves that it and the passes that left into it landed. It claims its own moves and the others
 pub record PassView (M : Type 0) : Type 0 where
   pub moves : List M
+  pub sure : List ℕ
   pub mine : List ℕ
   pub others : List ℕ
   pub faults : ℕ
@@ -41,7 +43,11 @@ seen_by pass terms = record { history = pass.moves; terms = terms }
 
 -- nothing but what the holder knows of the store is new
 abbrev pub IsSeenOn : {M : Type 0} → PassView M → PassView M → Type 0
-IsSeenOn old new = new ≡ record old { moves = new.moves; faults = new.faults }
+IsSeenOn old new = new ≡ record old { moves = new.moves; sure = new.sure; faults = new.faults }
+
+-- a pass of a store that began with a history still knows the moments that it knew, and knows one for each move behind those
+abbrev pub KnowsMoments : {M : Type 0} → List M → PassView M → PassView M → Type 0
+KnowsMoments begun old new = IsPrefix old.sure new.sure × (length begun + length new.sure ≡ length new.moves)
 
 -- the disk, which had had `opened` faults when the core was opened, failed between two passes, or before the second
 abbrev pub HasFailedSince : {M : Type 0} → ℕ → PassView M → PassView M → Type 0
@@ -58,7 +64,7 @@ pub record MovesAt {S O R Q A : Type 0} (fixed : Fixed S O R Q A) (old new : Pas
   pub turn_is : full_turn fixed before step ≡ record { outcome = outcome; made = made ∷ [] }
   pub last : new.moves ≡ before ++ made ∷ []
   pub counted : moves ≡ length new.moves
-  pub rest : new ≡ record old { moves = new.moves; mine = old.mine ++ moves ∷ []; faults = new.faults; receipts = old.receipts + 1 }
+  pub rest : new ≡ record old { moves = new.moves; sure = new.sure; mine = old.mine ++ moves ∷ []; faults = new.faults; receipts = old.receipts + 1 }
 
 -- what was prepared landed as the machine's step does it there
 abbrev pub LandedAt : {S O R Q A : Type 0} → Fixed S O R Q A → PreparedView O R → PassView (Move O R) → PassView (Move O R) → ℕ → Kind R → Type 0
@@ -102,7 +108,7 @@ ForkRefusedAt {S} {O} {R} fixed opened name from old new fork_refusal.Memory = U
 -- of no fault there was none.
 abbrev pub PassesAs : {A R M : Type 0} → Answer A R → ℕ → PassView M → PassView M → Type 0
 PassesAs (Made outcome moves) opened old new =
-    (new ≡ record old { moves = new.moves; mine = old.mine ++ moves ∷ []; faults = new.faults; receipts = old.receipts + 1 }) × (new.faults ≡ 0)
+    (new ≡ record old { moves = new.moves; sure = new.sure; mine = old.mine ++ moves ∷ []; faults = new.faults; receipts = old.receipts + 1 }) × (new.faults ≡ 0)
 PassesAs (Still outcome) opened old new = IsSeenOn old new × (new.faults ≡ 0)
 PassesAs (Refused refusal) opened old new = IsSeenOn old new × (new.faults ≡ 0)
 PassesAs Fault opened old new = IsSeenOn old new × HasFailedSince opened old new

@@ -4,13 +4,14 @@ ghost use Rattle.std.specs.List.{AllByRecursion};
 ghost use mathlib.Core.List.{IsPrefix};
 ghost use Rattle.branch_front.specs.Views.{IsIdle};
 ghost use Rattle.branch_machine.specs.Fixed.{fix};
+ghost use Rattle.branch_shared.specs.Entries.{AreNoted, moments_of, moves_of};
 ghost use Rattle.branch_shared.specs.Keeps.{faults_since, front_of};
-ghost use Rattle.branch_shared.specs.Batches.{IsBehind, MayLand, Serves, answered, answered_all, bring, brings, brought, pass_of, seen_to, shortage, told, with_refusal};
+ghost use Rattle.branch_shared.specs.Batches.{IsBehind, MayLand, Serves, answered, answered_all, bring, brings, brought, pass_of, seen_to, shortage, sure_after, told, with_refusal};
 
 use crate::blank::note_faults;
 use crate::job::{Given, Job, Taken, pass_again};
 use crate::kept::{Kept, see};
-use crate::name::{MoveOf, Named};
+use crate::name::{EntryOf, Named};
 use crate::pass::Pass;
 use branch_address::Address;
 use branch_disk::Disk;
@@ -29,7 +30,7 @@ impl<T: Mrdt, D: Disk + Drop, A: Address, N: Named<T::Op, T::Reply>> Kept<T, D, 
     /// of the history.
     pub(crate) fn land_all(
         &mut self,
-        front: &Front<MoveOf<T>>,
+        front: &Front<EntryOf<T>>,
         all: &mut [Taken<T, A, N>],
         prepared: Vec<Addressed<T, A>>,
     )
@@ -58,7 +59,7 @@ impl<T: Mrdt, D: Disk + Drop, A: Address, N: Named<T::Op, T::Reply>> Kept<T, D, 
     }
 
     /// Lands a job alone.
-    pub(crate) fn land_alone(&mut self, front: &Front<MoveOf<T>>, job: Job<T, A>) -> Given<T, N>
+    pub(crate) fn land_alone(&mut self, front: &Front<EntryOf<T>>, job: Job<T, A>) -> Given<T, N>
         requires front { front.now ≡ front_of N.table N.begun N.parts }
         requires may { MayLand N.table N.begun N.terms job }
         ensures { Serves (fix T.meaning N.terms A.address) N.opened N.begun job result }
@@ -72,42 +73,43 @@ impl<T: Mrdt, D: Disk + Drop, A: Address, N: Named<T::Op, T::Reply>> Kept<T, D, 
 
 // The job's pass sees the core's history.
 fn see_one<T: Mrdt, D: Disk + Drop, A: Address, N: Named<T::Op, T::Reply>>(
-    front: &Front<MoveOf<T>>,
-    writer: &mut Writer<MoveOf<T>>,
+    front: &Front<EntryOf<T>>,
+    writer: &mut Writer<EntryOf<T>>,
     taken: &mut Taken<T, A, N>,
     core: &Core<T, D, A>,
 )
     requires front { front.now ≡ front_of N.table N.begun N.parts }
     requires table { writer.old.table ≡ N.table }
     requires idle { IsIdle writer.old }
-    requires history { core.now.history ≡ N.begun ++ writer.old.moves }
+    requires history { core.now.history ≡ N.begun ++ moves_of writer.old.moves }
     requires known { writer.old.faults ≡ faults_since D.faults core.now }
     ensures writer { writer.new ≡ writer.old }
-    ensures taken { taken.new
-        ≡ seen_to (faults_since D.faults core.now) core.now.history taken.old }
+    ensures taken { taken.new ≡ seen_to (faults_since D.faults core.now) core.now.history
+        (moments_of writer.old.moves) taken.old }
     ensures behind { IsBehind (faults_since D.faults core.now) core.now.history
-        taken.old.given.pass }
+        (moments_of writer.old.moves) taken.old.given.pass }
 {
     see(front, writer, &mut taken.given.pass, core);
 }
 
 // Each job's pass sees the core's history.
 fn see_each<T: Mrdt, D: Disk + Drop, A: Address, N: Named<T::Op, T::Reply>>(
-    front: &Front<MoveOf<T>>,
-    writer: &mut Writer<MoveOf<T>>,
+    front: &Front<EntryOf<T>>,
+    writer: &mut Writer<EntryOf<T>>,
     all: &mut [Taken<T, A, N>],
     core: &Core<T, D, A>,
 )
     requires front { front.now ≡ front_of N.table N.begun N.parts }
     requires table { writer.old.table ≡ N.table }
     requires idle { IsIdle writer.old }
-    requires history { core.now.history ≡ N.begun ++ writer.old.moves }
+    requires history { core.now.history ≡ N.begun ++ moves_of writer.old.moves }
     requires known { writer.old.faults ≡ faults_since D.faults core.now }
     ensures writer { writer.new ≡ writer.old }
-    ensures seen { all.new
-        ≡ map (seen_to (faults_since D.faults core.now) core.now.history) all.old }
+    ensures seen { all.new ≡ map (seen_to (faults_since D.faults core.now) core.now.history
+        (moments_of writer.old.moves)) all.old }
     ensures behind { AllByRecursion (λ taken.
-        IsBehind (faults_since D.faults core.now) core.now.history taken.given.pass) all.old }
+        IsBehind (faults_since D.faults core.now) core.now.history
+        (moments_of writer.old.moves) taken.given.pass) all.old }
 {
     for taken in all.iter_mut() {
         see_one(front, writer, taken, core);
@@ -116,8 +118,8 @@ fn see_each<T: Mrdt, D: Disk + Drop, A: Address, N: Named<T::Op, T::Reply>>(
 
 // The pass is told its answer: where that is a landing, the core's next move is its own.
 fn tell<T: Mrdt, D: Disk + Drop, A: Address, N: Named<T::Op, T::Reply>>(
-    front: &Front<MoveOf<T>>,
-    writer: &mut Writer<MoveOf<T>>,
+    front: &Front<EntryOf<T>>,
+    writer: &mut Writer<EntryOf<T>>,
     pass: &mut Pass<T, N>,
     core: &Core<T, D, A>,
     answer: &Answer<T>,
@@ -125,26 +127,32 @@ fn tell<T: Mrdt, D: Disk + Drop, A: Address, N: Named<T::Op, T::Reply>>(
     requires front { front.now ≡ front_of N.table N.begun N.parts }
     requires table { writer.old.table ≡ N.table }
     requires idle { IsIdle writer.old }
-    requires known { IsPrefix (N.begun ++ writer.old.moves) core.now.history }
-    requires more { length (N.begun ++ writer.old.moves) + brings answer.now
+    requires known { IsPrefix (N.begun ++ moves_of writer.old.moves) core.now.history }
+    requires more { length (N.begun ++ moves_of writer.old.moves) + brings answer.now
         ≤ length core.now.history }
     requires rise { writer.old.faults ≤ faults_since D.faults core.now }
     requires room { length core.now.history < 2 ^ 64 }
     ensures table { writer.new.table ≡ writer.old.table }
     ensures idle { IsIdle writer.new }
     ensures faults { writer.new.faults ≡ faults_since D.faults core.now }
-    ensures history { N.begun ++ writer.new.moves
-        ≡ take (length (N.begun ++ writer.old.moves) + brings answer.now) core.now.history }
+    ensures history { N.begun ++ moves_of writer.new.moves
+        ≡ take (length (N.begun ++ moves_of writer.old.moves) + brings answer.now)
+        core.now.history }
+    ensures noted { AreNoted (D.moment core.now.disk) writer.old.moves writer.new.moves }
+    ensures sure { moments_of writer.new.moves
+        ≡ sure_after (D.moment core.now.disk) (moments_of writer.old.moves) answer.now }
     ensures pass { pass.new ≡ told (faults_since D.faults core.now)
-        (take (length (N.begun ++ writer.old.moves) + brings answer.now) core.now.history)
+        (take (length (N.begun ++ moves_of writer.old.moves) + brings answer.now)
+        core.now.history)
+        (sure_after (D.moment core.now.disk) (moments_of writer.old.moves) answer.now)
         answer.now pass.old }
 {
     tell_as::<T, D, A, N, Brand>(front, writer, pass, core, answer);
 }
 
-fn tell_as<T: Mrdt, D: Disk + Drop, A: Address, N: Named<T::Op, T::Reply>, E: Told<MoveOf<T>>>(
-    front: &Front<MoveOf<T>>,
-    writer: &mut Writer<MoveOf<T>>,
+fn tell_as<T: Mrdt, D: Disk + Drop, A: Address, N: Named<T::Op, T::Reply>, E: Told<EntryOf<T>>>(
+    front: &Front<EntryOf<T>>,
+    writer: &mut Writer<EntryOf<T>>,
     pass: &mut Pass<T, N>,
     core: &Core<T, D, A>,
     answer: &Answer<T>,
@@ -159,7 +167,8 @@ fn tell_as<T: Mrdt, D: Disk + Drop, A: Address, N: Named<T::Op, T::Reply>, E: To
       moves = writer.old.moves ++ brought E.entry answer.now;
       faults = E.faults;
     } }
-    ensures pass { pass.new ≡ told E.faults (N.begun ++ writer.new.moves) answer.now pass.old }
+    ensures pass { pass.new ≡ told E.faults (N.begun ++ moves_of writer.new.moves)
+        (moments_of writer.new.moves) answer.now pass.old }
 {
     let _ = core;
     if answer.is_ok() {
@@ -171,8 +180,8 @@ fn tell_as<T: Mrdt, D: Disk + Drop, A: Address, N: Named<T::Op, T::Reply>, E: To
 
 // The job is answered at its place.
 fn answer_one<T: Mrdt, D: Disk + Drop, A: Address, N: Named<T::Op, T::Reply>>(
-    front: &Front<MoveOf<T>>,
-    writer: &mut Writer<MoveOf<T>>,
+    front: &Front<EntryOf<T>>,
+    writer: &mut Writer<EntryOf<T>>,
     taken: &mut Taken<T, A, N>,
     core: &Core<T, D, A>,
     answer: Answer<T>,
@@ -180,18 +189,23 @@ fn answer_one<T: Mrdt, D: Disk + Drop, A: Address, N: Named<T::Op, T::Reply>>(
     requires front { front.now ≡ front_of N.table N.begun N.parts }
     requires table { writer.old.table ≡ N.table }
     requires idle { IsIdle writer.old }
-    requires known { IsPrefix (N.begun ++ writer.old.moves) core.now.history }
-    requires more { length (N.begun ++ writer.old.moves) + brings answer
+    requires known { IsPrefix (N.begun ++ moves_of writer.old.moves) core.now.history }
+    requires more { length (N.begun ++ moves_of writer.old.moves) + brings answer
         ≤ length core.now.history }
     requires rise { writer.old.faults ≤ faults_since D.faults core.now }
     requires room { length core.now.history < 2 ^ 64 }
     ensures table { writer.new.table ≡ writer.old.table }
     ensures idle { IsIdle writer.new }
     ensures faults { writer.new.faults ≡ faults_since D.faults core.now }
-    ensures history { N.begun ++ writer.new.moves
-        ≡ take (length (N.begun ++ writer.old.moves) + brings answer) core.now.history }
+    ensures history { N.begun ++ moves_of writer.new.moves
+        ≡ take (length (N.begun ++ moves_of writer.old.moves) + brings answer)
+        core.now.history }
+    ensures noted { AreNoted (D.moment core.now.disk) writer.old.moves writer.new.moves }
+    ensures sure { moments_of writer.new.moves
+        ≡ sure_after (D.moment core.now.disk) (moments_of writer.old.moves) answer }
     ensures taken { taken.new ≡ answered (faults_since D.faults core.now)
-        (take (length (N.begun ++ writer.old.moves) + brings answer) core.now.history)
+        (take (length (N.begun ++ moves_of writer.old.moves) + brings answer) core.now.history)
+        (sure_after (D.moment core.now.disk) (moments_of writer.old.moves) answer)
         answer taken.old }
 {
     tell(front, writer, &mut taken.given.pass, core, &answer);
@@ -200,8 +214,8 @@ fn answer_one<T: Mrdt, D: Disk + Drop, A: Address, N: Named<T::Op, T::Reply>>(
 
 // Each job is answered at its place: the writer adds the moves that it does not know yet, each for the job that it is of.
 fn answer_each<T: Mrdt, D: Disk + Drop, A: Address, N: Named<T::Op, T::Reply>>(
-    front: &Front<MoveOf<T>>,
-    writer: &mut Writer<MoveOf<T>>,
+    front: &Front<EntryOf<T>>,
+    writer: &mut Writer<EntryOf<T>>,
     all: &mut [Taken<T, A, N>],
     core: &Core<T, D, A>,
     answers: Vec<Answer<T>>,
@@ -209,8 +223,8 @@ fn answer_each<T: Mrdt, D: Disk + Drop, A: Address, N: Named<T::Op, T::Reply>>(
     requires front { front.now ≡ front_of N.table N.begun N.parts }
     requires table { writer.old.table ≡ N.table }
     requires idle { IsIdle writer.old }
-    requires known { IsPrefix (N.begun ++ writer.old.moves) core.now.history }
-    requires more { length (N.begun ++ writer.old.moves) + bring answers.items
+    requires known { IsPrefix (N.begun ++ moves_of writer.old.moves) core.now.history }
+    requires more { length (N.begun ++ moves_of writer.old.moves) + bring answers.items
         ≡ length core.now.history }
     requires each { length all.old ≡ length answers.items }
     requires rise { writer.old.faults ≡ faults_since D.faults core.now }
@@ -218,9 +232,11 @@ fn answer_each<T: Mrdt, D: Disk + Drop, A: Address, N: Named<T::Op, T::Reply>>(
     ensures table { writer.new.table ≡ writer.old.table }
     ensures idle { IsIdle writer.new }
     ensures faults { writer.new.faults ≡ faults_since D.faults core.now }
-    ensures history { N.begun ++ writer.new.moves ≡ core.now.history }
+    ensures history { N.begun ++ moves_of writer.new.moves ≡ core.now.history }
+    ensures noted { AreNoted (D.moment core.now.disk) writer.old.moves writer.new.moves }
     ensures answered { all.new ≡ answered_all (faults_since D.faults core.now) core.now.history
-        (length (N.begun ++ writer.old.moves)) answers.items all.old }
+        (D.moment core.now.disk) (moments_of writer.old.moves)
+        (length (N.begun ++ moves_of writer.old.moves)) answers.items all.old }
 {
     let mut answers = answers.into_iter();
     for taken in all.iter_mut() {

@@ -3,7 +3,7 @@ ghost use Rattle.std.specs.Prelude.{◌≡◌, ◌<◌, ◌≤◌, [], IfOk, IfE
 ghost use Rattle.branch_shared.specs.Keeps.{faults_since};
 
 use crate::job::Job;
-use crate::name::MoveOf;
+use crate::name::EntryOf;
 use branch_address::Address;
 use branch_disk::Disk;
 use branch_front::{Front, Told, Writer};
@@ -18,8 +18,8 @@ use store_core::Core;
 pub struct Blank<T: Mrdt, D: Disk + Drop, A: Address> {
     pub(crate) alloc: Global,
     pub(crate) core: Core<T, D, A>,
-    pub(crate) front: Front<MoveOf<T>>,
-    pub(crate) writer: Writer<MoveOf<T>>,
+    pub(crate) front: Front<EntryOf<T>>,
+    pub(crate) writer: Writer<EntryOf<T>>,
     pub(crate) begun: u64,
     pub(crate) queue: branch_batch::Blank<Job<T, A>>,
 }
@@ -86,8 +86,8 @@ impl<T: Mrdt, D: Disk + Drop, A: Address> Blank<T, D, A> {
 
 // The writer learns how often the core's disk has failed.
 pub(crate) fn note_faults<T: Mrdt, D: Disk + Drop, A: Address>(
-    front: &Front<MoveOf<T>>,
-    writer: &mut Writer<MoveOf<T>>,
+    front: &Front<EntryOf<T>>,
+    writer: &mut Writer<EntryOf<T>>,
     core: &Core<T, D, A>,
 )
     requires table { writer.old.table ≡ front.now.table }
@@ -97,9 +97,9 @@ pub(crate) fn note_faults<T: Mrdt, D: Disk + Drop, A: Address>(
     note_faults_as::<T, D, A, Brand>(front, writer, core);
 }
 
-fn note_faults_as<T: Mrdt, D: Disk + Drop, A: Address, E: Told<MoveOf<T>>>(
-    front: &Front<MoveOf<T>>,
-    writer: &mut Writer<MoveOf<T>>,
+fn note_faults_as<T: Mrdt, D: Disk + Drop, A: Address, E: Told<EntryOf<T>>>(
+    front: &Front<EntryOf<T>>,
+    writer: &mut Writer<EntryOf<T>>,
     core: &Core<T, D, A>,
 )
     requires table { writer.old.table ≡ front.now.table }

@@ -2,7 +2,7 @@
 ghost use Rattle.std.specs.Prelude.{◌≡◌, ◌<◌};
 ghost use Rattle.branch_shared.specs.Batches.{pass_of};
 
-use crate::name::{MoveOf, Named};
+use crate::name::{EntryOf, Named};
 use crate::pass::Pass;
 use branch_address::Address;
 use branch_batch::{Service, Stub};
@@ -15,7 +15,7 @@ use store_core::{Addressed, LandRefused, Landed};
 #[derive(Drop)]
 pub(crate) struct Job<T: Mrdt, A: Address> {
     pub(crate) prepared: Addressed<T, A>,
-    pub(crate) pass: branch_front::Pass<MoveOf<T>>,
+    pub(crate) pass: branch_front::Pass<EntryOf<T>>,
 }
 
 impl<T: Mrdt, A: Address> Model for Job<T, A> {
@@ -84,7 +84,7 @@ impl<T: Mrdt, A: Address, N: Named<T::Op, T::Reply>> Model for Taken<T, A, N> {
 
 /// A pass of the store again.
 pub(crate) fn pass_again<T: Mrdt, N: Named<T::Op, T::Reply>>(
-    pass: branch_front::Pass<MoveOf<T>>,
+    pass: branch_front::Pass<EntryOf<T>>,
 ) -> Pass<T, N>
     requires table { pass.table ≡ N.table }
     requires part { 0 < pass.parts }

@@ -13,10 +13,11 @@ ghost use Rattle.store_seen.specs.Groups.{IsGrouped, GroupRefusedAs};
 ghost use Rattle.store_seen.specs.Pairs.{IsPaired, PairRefusedAs};
 ghost use Rattle.store_seen.specs.Turns.{LookRefusedAs};
 ghost use Rattle.store_core.specs.Answers.{drop_answer};
+ghost use Rattle.branch_shared.specs.Entries.{AreNoted, moments_of, moves_of};
 ghost use Rattle.branch_shared.specs.Keeps.{IsNoDrop, faults_since, front_of};
-ghost use Rattle.branch_shared.specs.Passes.{seen_by, IsSeenOn, LandedAt, LandRefusedAt, ForkedAt, ForkRefusedAt, AnsweredAt};
+ghost use Rattle.branch_shared.specs.Passes.{seen_by, IsSeenOn, KnowsMoments, LandedAt, LandRefusedAt, ForkedAt, ForkRefusedAt, AnsweredAt};
 
-use crate::name::{MoveOf, Named};
+use crate::name::{EntryOf, Named};
 use crate::pass::Pass;
 use branch_address::Address;
 use branch_disk::Disk;
@@ -34,12 +35,13 @@ use store_core::{
 #[derive(Drop)]
 pub struct Kept<T: Mrdt, D: Disk + Drop, A: Address, N: Named<T::Op, T::Reply>> {
     pub(crate) core: Core<T, D, A>,
-    pub(crate) writer: Writer<MoveOf<T>>,
+    pub(crate) writer: Writer<EntryOf<T>>,
     pub(crate) of: PhantomData<N>,
 }
 
 impl<T: Mrdt, D: Disk + Drop, A: Address, N: Named<T::Op, T::Reply>> Model for Kept<T, D, A, N> {
     ghost use Rattle.branch_history.specs.declared.moves.Move.{Move};
+    ghost use Rattle.branch_machine.specs.Fixed.{fix};
     ghost use Rattle.store_core.specs.Views.{StoreView};
     ghost use Rattle.branch_shared.specs.Keeps.{IsKept};
 
@@ -48,19 +50,21 @@ impl<T: Mrdt, D: Disk + Drop, A: Address, N: Named<T::Op, T::Reply>> Model for K
     ghost view = { λ k. k.core };
 
     ghost invariant = { λ k.
-        IsKept D.faults N.table N.begun N.terms N.opened N.drops k.core k.writer };
+        IsKept D.Disk (fix T.meaning N.terms A.address) N.table N.begun N.terms N.opened N.drops
+        N.since N.left k.core k.writer };
 }
 
 impl<T: Mrdt, D: Disk + Drop, A: Address, N: Named<T::Op, T::Reply>> Kept<T, D, A, N> {
     /// Looks at the branch with a name, for the pass.
     pub(crate) fn look(
         &mut self,
-        front: &Front<MoveOf<T>>,
+        front: &Front<EntryOf<T>>,
         pass: &mut Pass<T, N>,
         branch: &Name,
     ) -> Result<Seen<T>, LookRefused>
         requires front { front.now ≡ front_of N.table N.begun N.parts }
         ensures prefix { IsPrefix pass.old.moves pass.new.moves }
+        ensures sure { KnowsMoments N.begun pass.old pass.new }
         ensures begun { IsPrefix N.begun pass.new.moves }
         ensures valid { IsFullyValid (fix T.meaning N.terms A.address) pass.new.moves }
         ensures faults { pass.old.faults ≤ pass.new.faults }
@@ -80,7 +84,7 @@ impl<T: Mrdt, D: Disk + Drop, A: Address, N: Named<T::Op, T::Reply>> Kept<T, D, 
     /// Pairs a look with the head that a branch has now, for the pass.
     pub(crate) fn pair(
         &mut self,
-        front: &Front<MoveOf<T>>,
+        front: &Front<EntryOf<T>>,
         pass: &mut Pass<T, N>,
         seen: &Seen<T>,
         from: &Name,
@@ -89,6 +93,7 @@ impl<T: Mrdt, D: Disk + Drop, A: Address, N: Named<T::Op, T::Reply>> Kept<T, D, 
         requires history { IsPrefix seen.now.history pass.old.moves }
         requires terms { seen.now.terms ≡ N.terms }
         ensures prefix { IsPrefix pass.old.moves pass.new.moves }
+        ensures sure { KnowsMoments N.begun pass.old pass.new }
         ensures begun { IsPrefix N.begun pass.new.moves }
         ensures valid { IsFullyValid (fix T.meaning N.terms A.address) pass.new.moves }
         ensures faults { pass.old.faults ≤ pass.new.faults }
@@ -105,7 +110,7 @@ impl<T: Mrdt, D: Disk + Drop, A: Address, N: Named<T::Op, T::Reply>> Kept<T, D, 
     /// Groups a look with the heads that branches have now, for the pass.
     pub(crate) fn group(
         &mut self,
-        front: &Front<MoveOf<T>>,
+        front: &Front<EntryOf<T>>,
         pass: &mut Pass<T, N>,
         seen: &Seen<T>,
         from: &[Name],
@@ -116,6 +121,7 @@ impl<T: Mrdt, D: Disk + Drop, A: Address, N: Named<T::Op, T::Reply>> Kept<T, D, 
         requires some { 1 ≤ length from.now }
         requires few { length from.now ≤ 8 }
         ensures prefix { IsPrefix pass.old.moves pass.new.moves }
+        ensures sure { KnowsMoments N.begun pass.old pass.new }
         ensures begun { IsPrefix N.begun pass.new.moves }
         ensures valid { IsFullyValid (fix T.meaning N.terms A.address) pass.new.moves }
         ensures faults { pass.old.faults ≤ pass.new.faults }
@@ -133,7 +139,7 @@ impl<T: Mrdt, D: Disk + Drop, A: Address, N: Named<T::Op, T::Reply>> Kept<T, D, 
     /// beginning of the history.
     pub(crate) fn land(
         &mut self,
-        front: &Front<MoveOf<T>>,
+        front: &Front<EntryOf<T>>,
         pass: &mut Pass<T, N>,
         prepared: Addressed<T, A>,
     ) -> Result<Landed<T::Reply>, LandRefused>
@@ -141,6 +147,7 @@ impl<T: Mrdt, D: Disk + Drop, A: Address, N: Named<T::Op, T::Reply>> Kept<T, D, 
         requires history { IsPrefix prepared.seen.history pass.old.moves }
         requires terms { prepared.seen.terms ≡ N.terms }
         ensures prefix { IsPrefix pass.old.moves pass.new.moves }
+        ensures sure { KnowsMoments N.begun pass.old pass.new }
         ensures begun { IsPrefix N.begun pass.new.moves }
         ensures valid { IsFullyValid (fix T.meaning N.terms A.address) pass.new.moves }
         ensures faults { pass.old.faults ≤ pass.new.faults }
@@ -167,13 +174,14 @@ impl<T: Mrdt, D: Disk + Drop, A: Address, N: Named<T::Op, T::Reply>> Kept<T, D, 
     /// Forks a new branch from the head of another, for the pass.
     pub(crate) fn fork(
         &mut self,
-        front: &Front<MoveOf<T>>,
+        front: &Front<EntryOf<T>>,
         pass: &mut Pass<T, N>,
         new: Name,
         from: &Name,
     ) -> Result<Forked, ForkRefused>
         requires front { front.now ≡ front_of N.table N.begun N.parts }
         ensures prefix { IsPrefix pass.old.moves pass.new.moves }
+        ensures sure { KnowsMoments N.begun pass.old pass.new }
         ensures begun { IsPrefix N.begun pass.new.moves }
         ensures valid { IsFullyValid (fix T.meaning N.terms A.address) pass.new.moves }
         ensures faults { pass.old.faults ≤ pass.new.faults }
@@ -200,7 +208,7 @@ impl<T: Mrdt, D: Disk + Drop, A: Address, N: Named<T::Op, T::Reply>> Kept<T, D, 
     /// Drops the branch of a look, for the pass.
     pub(crate) fn drop_branch(
         &mut self,
-        front: &Front<MoveOf<T>>,
+        front: &Front<EntryOf<T>>,
         pass: &mut Pass<T, N>,
         seen: &Seen<T>,
     ) -> Result<u64, DropRefused>
@@ -209,6 +217,7 @@ impl<T: Mrdt, D: Disk + Drop, A: Address, N: Named<T::Op, T::Reply>> Kept<T, D, 
         requires history { IsPrefix seen.now.history pass.old.moves }
         requires terms { seen.now.terms ≡ N.terms }
         ensures prefix { IsPrefix pass.old.moves pass.new.moves }
+        ensures sure { KnowsMoments N.begun pass.old pass.new }
         ensures begun { IsPrefix N.begun pass.new.moves }
         ensures valid { IsFullyValid (fix T.meaning N.terms A.address) pass.new.moves }
         ensures faults { pass.old.faults ≤ pass.new.faults }
@@ -229,22 +238,25 @@ impl<T: Mrdt, D: Disk + Drop, A: Address, N: Named<T::Op, T::Reply>> Kept<T, D, 
 
 // The pass sees the core's history, and the writer and the pass how often its disk has failed.
 pub(crate) fn see<T: Mrdt, D: Disk + Drop, A: Address, N: Named<T::Op, T::Reply>>(
-    front: &Front<MoveOf<T>>,
-    writer: &mut Writer<MoveOf<T>>,
+    front: &Front<EntryOf<T>>,
+    writer: &mut Writer<EntryOf<T>>,
     pass: &mut Pass<T, N>,
     core: &Core<T, D, A>,
 )
     requires front { front.now ≡ front_of N.table N.begun N.parts }
     requires table { writer.old.table ≡ N.table }
     requires idle { IsIdle writer.old }
-    requires history { core.now.history ≡ N.begun ++ writer.old.moves }
+    requires history { core.now.history ≡ N.begun ++ moves_of writer.old.moves }
     requires rise { writer.old.faults ≤ faults_since D.faults core.now }
     ensures writer { writer.new ≡ record writer.old { faults = faults_since D.faults core.now } }
     ensures pass { pass.new ≡ record pass.old {
       moves = core.now.history;
+      sure = moments_of writer.old.moves;
       faults = faults_since D.faults core.now;
     } }
     ensures prefix { IsPrefix pass.old.moves core.now.history }
+    ensures sure { IsPrefix pass.old.sure (moments_of writer.old.moves) }
+    ensures knows { KnowsMoments N.begun pass.old pass.new }
     ensures faults { pass.old.faults ≤ writer.old.faults }
     ensures valid { IsFullyValid (fix T.meaning core.now.terms A.address) core.now.history }
     ensures later { D.faults core.now.opened ≤ D.faults core.now.disk }
@@ -255,24 +267,27 @@ pub(crate) fn see<T: Mrdt, D: Disk + Drop, A: Address, N: Named<T::Op, T::Reply>
     see_as::<T, D, A, N, Brand>(front, writer, pass, core);
 }
 
-fn see_as<T: Mrdt, D: Disk + Drop, A: Address, N: Named<T::Op, T::Reply>, E: Told<MoveOf<T>>>(
-    front: &Front<MoveOf<T>>,
-    writer: &mut Writer<MoveOf<T>>,
+fn see_as<T: Mrdt, D: Disk + Drop, A: Address, N: Named<T::Op, T::Reply>, E: Told<EntryOf<T>>>(
+    front: &Front<EntryOf<T>>,
+    writer: &mut Writer<EntryOf<T>>,
     pass: &mut Pass<T, N>,
     core: &Core<T, D, A>,
 )
     requires front { front.now ≡ front_of N.table N.begun N.parts }
     requires table { writer.old.table ≡ N.table }
     requires idle { IsIdle writer.old }
-    requires history { core.now.history ≡ N.begun ++ writer.old.moves }
+    requires history { core.now.history ≡ N.begun ++ moves_of writer.old.moves }
     requires rise { writer.old.faults ≤ faults_since D.faults core.now }
     requires told { E.faults ≡ faults_since D.faults core.now }
     ensures writer { writer.new ≡ record writer.old { faults = faults_since D.faults core.now } }
     ensures pass { pass.new ≡ record pass.old {
       moves = core.now.history;
+      sure = moments_of writer.old.moves;
       faults = faults_since D.faults core.now;
     } }
     ensures prefix { IsPrefix pass.old.moves core.now.history }
+    ensures sure { IsPrefix pass.old.sure (moments_of writer.old.moves) }
+    ensures knows { KnowsMoments N.begun pass.old pass.new }
     ensures faults { pass.old.faults ≤ writer.old.faults }
     ensures valid { IsFullyValid (fix T.meaning core.now.terms A.address) core.now.history }
     ensures later { D.faults core.now.opened ≤ D.faults core.now.disk }
@@ -285,10 +300,10 @@ fn see_as<T: Mrdt, D: Disk + Drop, A: Address, N: Named<T::Op, T::Reply>, E: Tol
     writer.look::<E>(front, &mut pass.pass);
 }
 
-// The writer adds the core's last move, for the pass.
+// The writer adds the core's last move, for the pass: now it is acknowledged.
 fn add<T: Mrdt, D: Disk + Drop, A: Address, N: Named<T::Op, T::Reply>>(
-    front: &Front<MoveOf<T>>,
-    writer: &mut Writer<MoveOf<T>>,
+    front: &Front<EntryOf<T>>,
+    writer: &mut Writer<EntryOf<T>>,
     pass: &mut Pass<T, N>,
     core: &Core<T, D, A>,
 )
@@ -296,29 +311,34 @@ fn add<T: Mrdt, D: Disk + Drop, A: Address, N: Named<T::Op, T::Reply>>(
     requires table { writer.old.table ≡ N.table }
     requires idle { IsIdle writer.old }
     requires grown { (made : Move T.Op T.Reply)
-        × (core.now.history ≡ (N.begun ++ writer.old.moves) ++ made ∷ [])
+        × (core.now.history ≡ (N.begun ++ moves_of writer.old.moves) ++ made ∷ [])
         × (N.drops ≡ false → IsNoDrop made) }
-    requires drops_none { N.drops ≡ false → AllByRecursion IsNoDrop writer.old.moves }
+    requires drops_none { N.drops ≡ false
+        → AllByRecursion IsNoDrop (moves_of writer.old.moves) }
     requires rise { writer.old.faults ≤ faults_since D.faults core.now }
     requires room { length core.now.history ≤ 2 ^ 48 }
     ensures table { writer.new.table ≡ writer.old.table }
-    ensures history { core.now.history ≡ N.begun ++ writer.new.moves }
+    ensures history { core.now.history ≡ N.begun ++ moves_of writer.new.moves }
+    ensures noted { AreNoted (D.moment core.now.disk) writer.old.moves writer.new.moves }
     ensures writer { (writer.new.faults ≡ faults_since D.faults core.now) × IsIdle writer.new }
-    ensures drops_none { N.drops ≡ false → AllByRecursion IsNoDrop writer.new.moves }
+    ensures drops_none { N.drops ≡ false
+        → AllByRecursion IsNoDrop (moves_of writer.new.moves) }
     ensures pass { pass.new ≡ record pass.old {
       moves = core.now.history;
+      sure = moments_of writer.new.moves;
       mine = pass.old.mine ++ length core.now.history ∷ [];
       faults = faults_since D.faults core.now;
       receipts = pass.old.receipts + 1;
     } }
+    ensures knows { KnowsMoments N.begun pass.old pass.new }
     ensures valid { IsFullyValid (fix T.meaning core.now.terms A.address) core.now.history }
 {
     add_as::<T, D, A, N, Brand>(front, writer, pass, core);
 }
 
-fn add_as<T: Mrdt, D: Disk + Drop, A: Address, N: Named<T::Op, T::Reply>, E: Told<MoveOf<T>>>(
-    front: &Front<MoveOf<T>>,
-    writer: &mut Writer<MoveOf<T>>,
+fn add_as<T: Mrdt, D: Disk + Drop, A: Address, N: Named<T::Op, T::Reply>, E: Told<EntryOf<T>>>(
+    front: &Front<EntryOf<T>>,
+    writer: &mut Writer<EntryOf<T>>,
     pass: &mut Pass<T, N>,
     core: &Core<T, D, A>,
 )
@@ -326,7 +346,7 @@ fn add_as<T: Mrdt, D: Disk + Drop, A: Address, N: Named<T::Op, T::Reply>, E: Tol
     requires table { writer.old.table ≡ N.table }
     requires idle { IsIdle writer.old }
     requires entry { (length E.entry ≡ 1)
-        × (core.now.history ≡ (N.begun ++ writer.old.moves) ++ E.entry) }
+        × (core.now.history ≡ (N.begun ++ moves_of writer.old.moves) ++ moves_of E.entry) }
     requires rise { writer.old.faults ≤ faults_since D.faults core.now }
     requires told { E.faults ≡ faults_since D.faults core.now }
     requires room { length core.now.history ≤ 2 ^ 48 }
@@ -336,10 +356,12 @@ fn add_as<T: Mrdt, D: Disk + Drop, A: Address, N: Named<T::Op, T::Reply>, E: Tol
     } }
     ensures pass { pass.new ≡ record pass.old {
       moves = core.now.history;
+      sure = moments_of writer.new.moves;
       mine = pass.old.mine ++ length core.now.history ∷ [];
       faults = faults_since D.faults core.now;
       receipts = pass.old.receipts + 1;
     } }
+    ensures knows { KnowsMoments N.begun pass.old pass.new }
     ensures valid { IsFullyValid (fix T.meaning core.now.terms A.address) core.now.history }
 {
     // Its clauses say what is known of a core.

@@ -14,6 +14,7 @@ mod pass;
 mod room;
 mod rounds;
 mod shared;
+mod spelled;
 
 pub use blank::Blank;
 pub use name::Named;

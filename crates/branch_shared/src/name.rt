@@ -3,8 +3,17 @@ use branch_history::Move;
 use mrdt_model::Mrdt;
 use std::marker::Brand;
 
-/// A move of a store over a type.
-pub(crate) type MoveOf<T> = Move<<T as Mrdt>::Op, <T as Mrdt>::Reply>;
+/// What the front knows of a move that landed: the move, and the moment of the disk at which it was acknowledged. It stands
+/// in proofs alone: no value of it is ever made.
+pub(crate) struct Entry<O, R> {
+    /// The move.
+    pub(crate) made: Move<O, R>,
+    /// The moment of the disk.
+    pub(crate) since: u64,
+}
+
+/// An entry of a store over a type.
+pub(crate) type EntryOf<T> = Entry<<T as Mrdt>::Op, <T as Mrdt>::Reply>;
 
 /// Names one shared store, for proofs alone: a name takes no bytes. O and R are the operations and replies of its type.
 ///
@@ -13,6 +22,7 @@ pub(crate) type MoveOf<T> = Move<<T as Mrdt>::Op, <T as Mrdt>::Reply>;
 pub trait Named<O, R> {
     ghost use Rattle.std.specs.Prelude.{ℕ, Bool, List};
     ghost use Rattle.atomic_table.specs.Seated.{TableId};
+    ghost use Rattle.branch_disk.specs.Disk.{Files};
     ghost use Rattle.branch_names.specs.declared.terms.Terms.{Terms};
     ghost use Rattle.branch_history.specs.declared.moves.Move.{Move};
 
@@ -36,6 +46,12 @@ pub trait Named<O, R> {
 
     // Whether branches may be dropped in it.
     ghost drops: { Bool };
+
+    // The moment of its disk when it was shared.
+    ghost since: { ℕ };
+
+    // The files that a crash at some moment from one on might have left until then.
+    ghost left: { ℕ → Files → Type 0 };
 }
 
 impl<O, R> Named<O, R> for Brand {
@@ -56,4 +72,8 @@ impl<O, R> Named<O, R> for Brand {
     ghost opened = { 0 };
 
     ghost drops = { false };
+
+    ghost since = { 0 };
+
+    ghost left = { λ t c. ⊥ };
 }

@@ -7,7 +7,7 @@ ghost use Rattle.branch_shared.specs.Keeps.{front_of};
 
 use crate::job::{Given, Job, Landing, Taken, pass_again};
 use crate::kept::Kept;
-use crate::name::{MoveOf, Named};
+use crate::name::{EntryOf, Named};
 use branch_address::Address;
 use branch_batch::{Finished, Waiting};
 use branch_disk::Disk;
@@ -61,7 +61,7 @@ impl<T: Mrdt, D: Disk + Drop, A: Address, N: Named<T::Op, T::Reply>> Kept<T, D, 
     /// Lands the jobs of a batch, and gives back what serves them. It takes no memory but that of the landings themselves.
     pub(crate) fn land_batch(
         &mut self,
-        front: &Front<MoveOf<T>>,
+        front: &Front<EntryOf<T>>,
         room: Room<T, A, N>,
     ) -> Done<T, A, N>
         requires front { front.now ≡ front_of N.table N.begun N.parts }

@@ -1,5 +1,5 @@
 // A store that threads share.
-ghost use Rattle.std.specs.Prelude.{ℕ, ◌≡◌, ◌≢◌, ◌+◌, ◌-◌, ◌<◌, ◌≤◌, ◌++◌, true, false, [], length, max, vec_capacity, Err, IfOk, IfErr, OnErr};
+ghost use Rattle.std.specs.Prelude.{ℕ, ◌≡◌, ◌≢◌, ◌+◌, ◌-◌, ◌<◌, ◌≤◌, ◌++◌, true, false, [], length, max, vec_capacity, Err, IfOk, IfErr, OnErr, OnOk};
 ghost use mathlib.Core.List.{IsPrefix};
 ghost use Rattle.branch_front.specs.Lists.{longer, AreAllWithin, AreApart, AreDistinct, AreSomeWithin};
 ghost use Rattle.branch_history.specs.Machine.{turn, answers};
@@ -12,16 +12,19 @@ ghost use Rattle.store_seen.specs.Turns.{LookRefusedAs};
 ghost use Rattle.store_core.specs.Answers.{drop_answer};
 ghost use Rattle.branch_shared.specs.Keeps.{DropsNone, faults_since};
 ghost use Rattle.branch_shared.specs.Batches.{MayLand, Serves};
+ghost use Rattle.branch_shared.specs.Crashes.{AreSure, IsSafe, IsSharedAt};
 ghost use Rattle.branch_shared.specs.Names.{IsNamed};
-ghost use Rattle.branch_shared.specs.Passes.{seen_by, IsSeenOn, LandedAt, LandRefusedAt, BatchRefusedAt, ForkedAt, ForkRefusedAt, AnsweredAt};
+ghost use Rattle.branch_shared.specs.Passes.{seen_by, IsSeenOn, KnowsMoments, LandedAt, LandRefusedAt, BatchRefusedAt, ForkedAt, ForkRefusedAt, AnsweredAt};
+ghost use Rattle.branch_shared.specs.Spelled.{LandsSpelled};
 
 use crate::blank::Blank;
 use crate::job::{Given, Job, Landing};
 use crate::kept::Kept;
-use crate::name::{MoveOf, Named};
+use crate::name::{EntryOf, Named};
 use crate::pass::Pass;
 use crate::room::Room;
 use crate::rounds::Rounds;
+use crate::spelled::spells_landings;
 use branch_address::Address;
 use branch_batch::{Queue, Ticket};
 use branch_disk::Disk;
@@ -57,7 +60,7 @@ type Claim<T, A, N> = Ticket<Job<T, A>, Given<T, N>, Landing<T, A, N>>;
 #[derive(Drop)]
 pub struct Shared<T: Mrdt, D: Disk + Drop, A: Address, N: Named<T::Op, T::Reply>> {
     alloc: Global,
-    front: Front<MoveOf<T>>,
+    front: Front<EntryOf<T>>,
     kept: Mutex<Kept<T, D, A, N>>,
     queue: Line<T, A, N>,
     rounds: Rounds,
@@ -89,11 +92,14 @@ pub struct Closed<T: Mrdt, D: Disk + Drop, A: Address> {
 }
 
 impl<T: Mrdt, D: Disk + Drop, A: Address, N: Named<T::Op, T::Reply>> Shared<T, D, A, N> {
-    /// The store under its name, and the pass that holds all parts.
+    /// The store under its name, and the pass that holds all parts. The name also says which moment of the disk this is,
+    /// and what a crash might have left until then.
     pub fn new(blank: Blank<T, D, A>) -> (Shared<T, D, A, N>, Pass<T, N>)
         requires name { IsNamed blank N.table N.queue N.begun N.terms N.parts N.opened }
+        requires since { IsSharedAt D.Disk N.since N.left blank.core }
         ensures { result.1 ≡ record {
           moves = blank.core.history;
+          sure = [];
           mine = [];
           others = [];
           faults = faults_since D.faults blank.core;
@@ -109,6 +115,8 @@ impl<T: Mrdt, D: Disk + Drop, A: Address, N: Named<T::Op, T::Reply>> Shared<T, D
             begun,
             queue,
         } = blank;
+        // Its clauses say what is known of a core.
+        let _ = core.moves();
         let pass = writer.first(&front);
         let kept = Kept {
             core,
@@ -157,6 +165,7 @@ impl<T: Mrdt, D: Disk + Drop, A: Address, N: Named<T::Op, T::Reply>> Shared<T, D
         branch: &Name,
     ) -> Result<Seen<T>, LookRefused>
         ensures prefix { IsPrefix pass.old.moves pass.new.moves }
+        ensures sure { KnowsMoments N.begun pass.old pass.new }
         ensures begun { IsPrefix N.begun pass.new.moves }
         ensures valid { IsFullyValid (fix T.meaning N.terms A.address) pass.new.moves }
         ensures faults { pass.old.faults ≤ pass.new.faults }
@@ -184,6 +193,7 @@ impl<T: Mrdt, D: Disk + Drop, A: Address, N: Named<T::Op, T::Reply>> Shared<T, D
         requires history { IsPrefix seen.now.history pass.old.moves }
         requires terms { seen.now.terms ≡ N.terms }
         ensures prefix { IsPrefix pass.old.moves pass.new.moves }
+        ensures sure { KnowsMoments N.begun pass.old pass.new }
         ensures begun { IsPrefix N.begun pass.new.moves }
         ensures valid { IsFullyValid (fix T.meaning N.terms A.address) pass.new.moves }
         ensures faults { pass.old.faults ≤ pass.new.faults }
@@ -210,6 +220,7 @@ impl<T: Mrdt, D: Disk + Drop, A: Address, N: Named<T::Op, T::Reply>> Shared<T, D
         requires some { 1 ≤ length from.now }
         requires few { length from.now ≤ 8 }
         ensures prefix { IsPrefix pass.old.moves pass.new.moves }
+        ensures sure { KnowsMoments N.begun pass.old pass.new }
         ensures begun { IsPrefix N.begun pass.new.moves }
         ensures valid { IsFullyValid (fix T.meaning N.terms A.address) pass.new.moves }
         ensures faults { pass.old.faults ≤ pass.new.faults }
@@ -224,7 +235,7 @@ impl<T: Mrdt, D: Disk + Drop, A: Address, N: Named<T::Op, T::Reply>> Shared<T, D
 
     /// Lands what was prepared on a look, now or earlier. After `Ok` the last move that the pass has seen is this one.
     /// It is refused exactly as the machine refuses it on the history that the pass has seen then, or where the disk fails
-    /// or has failed.
+    /// or has failed. The value that it brings is spelled as it was prepared.
     ///
     /// The object of the new value is spelled and hashed before the lock is waited for, in memory of its own; only where
     /// that is short, it is hashed under the lock. Under the lock the heads are compared, the new bytes are copied, the
@@ -238,6 +249,7 @@ impl<T: Mrdt, D: Disk + Drop, A: Address, N: Named<T::Op, T::Reply>> Shared<T, D
         requires history { IsPrefix prepared.seen.history pass.old.moves }
         requires terms { prepared.seen.terms ≡ N.terms }
         ensures prefix { IsPrefix pass.old.moves pass.new.moves }
+        ensures sure { KnowsMoments N.begun pass.old pass.new }
         ensures begun { IsPrefix N.begun pass.new.moves }
         ensures valid { IsFullyValid (fix T.meaning N.terms A.address) pass.new.moves }
         ensures faults { pass.old.faults ≤ pass.new.faults }
@@ -245,12 +257,15 @@ impl<T: Mrdt, D: Disk + Drop, A: Address, N: Named<T::Op, T::Reply>> Shared<T, D
         ensures landed { IfOk result (λ landed.
             LandedAt (fix T.meaning N.terms A.address) prepared pass.old pass.new landed.moves
             landed.kind) }
+        ensures spelled { OnOk result
+            (LandsSpelled (fix T.meaning N.terms A.address) prepared pass.new.moves) }
         ensures refused { IfErr result
             (LandRefusedAt (fix T.meaning N.terms A.address) N.opened prepared pass.old pass.new) }
         ensures rest { OnErr result (IsSeenOn pass.old pass.new) }
         ensures quiet { result ≢ Err LandRefused.DiskFault
             → ((moves : ℕ) → result ≢ Err (LandRefused.Failed moves)) → pass.new.faults ≡ 0 }
     {
+        spells_landings::<T, A>(&prepared);
         let prepared = Addressed::new(self.alloc, prepared);
         self.visit(rt).land(&self.front, pass, prepared)
     }
@@ -258,7 +273,8 @@ impl<T: Mrdt, D: Disk + Drop, A: Address, N: Named<T::Op, T::Reply>> Shared<T, D
     /// Lands what was prepared on a look, as `land` does, but together with the landings of other callers who wait too: one
     /// of them lands all, at most 64, with one write of their records. After `Ok` the last move that the pass has seen is
     /// its own, though others may have landed behind it in the same batch. It is refused exactly as the machine refuses it
-    /// on the history that the pass has seen then; where the disk fails or has failed, it is so for all of a batch.
+    /// on the history that the pass has seen then; where the disk fails or has failed, it is so for all of a batch. The value
+    /// that it brings is spelled as it was prepared.
     ///
     /// A part of the pass goes with the move, and comes back with the answer. Where memory for the queue is short, the move
     /// is landed alone.
@@ -272,6 +288,7 @@ impl<T: Mrdt, D: Disk + Drop, A: Address, N: Named<T::Op, T::Reply>> Shared<T, D
         requires history { IsPrefix prepared.seen.history pass.old.moves }
         requires terms { prepared.seen.terms ≡ N.terms }
         ensures prefix { IsPrefix pass.old.moves pass.new.moves }
+        ensures sure { KnowsMoments N.begun pass.old pass.new }
         ensures begun { IsPrefix N.begun pass.new.moves }
         ensures valid { IsFullyValid (fix T.meaning N.terms A.address) pass.new.moves }
         ensures faults { pass.old.faults ≤ pass.new.faults }
@@ -279,6 +296,8 @@ impl<T: Mrdt, D: Disk + Drop, A: Address, N: Named<T::Op, T::Reply>> Shared<T, D
         ensures landed { IfOk result (λ landed.
             LandedAt (fix T.meaning N.terms A.address) prepared pass.old pass.new landed.moves
             landed.kind) }
+        ensures spelled { OnOk result
+            (LandsSpelled (fix T.meaning N.terms A.address) prepared pass.new.moves) }
         ensures refused { IfErr result
             (BatchRefusedAt (fix T.meaning N.terms A.address) N.opened prepared pass.old
             pass.new) }
@@ -286,6 +305,7 @@ impl<T: Mrdt, D: Disk + Drop, A: Address, N: Named<T::Op, T::Reply>> Shared<T, D
         ensures quiet { result ≢ Err LandRefused.DiskFault
             → ((moves : ℕ) → result ≢ Err (LandRefused.Failed moves)) → pass.new.faults ≡ 0 }
     {
+        spells_landings::<T, A>(&prepared);
         let prepared = Addressed::new(self.alloc, prepared);
         let part = pass.pass.split_off(&self.front, 1);
         let given = self.land_together(
@@ -456,6 +476,7 @@ impl<T: Mrdt, D: Disk + Drop, A: Address, N: Named<T::Op, T::Reply>> Shared<T, D
         from: &Name,
     ) -> Result<Forked, ForkRefused>
         ensures prefix { IsPrefix pass.old.moves pass.new.moves }
+        ensures sure { KnowsMoments N.begun pass.old pass.new }
         ensures begun { IsPrefix N.begun pass.new.moves }
         ensures valid { IsFullyValid (fix T.meaning N.terms A.address) pass.new.moves }
         ensures faults { pass.old.faults ≤ pass.new.faults }
@@ -486,6 +507,7 @@ impl<T: Mrdt, D: Disk + Drop, A: Address, N: Named<T::Op, T::Reply>> Shared<T, D
         requires history { IsPrefix seen.now.history pass.old.moves }
         requires terms { seen.now.terms ≡ N.terms }
         ensures prefix { IsPrefix pass.old.moves pass.new.moves }
+        ensures sure { KnowsMoments N.begun pass.old pass.new }
         ensures begun { IsPrefix N.begun pass.new.moves }
         ensures valid { IsFullyValid (fix T.meaning N.terms A.address) pass.new.moves }
         ensures faults { pass.old.faults ≤ pass.new.faults }
@@ -502,6 +524,7 @@ impl<T: Mrdt, D: Disk + Drop, A: Address, N: Named<T::Op, T::Reply>> Shared<T, D
         ensures receipts { result ≡ pass.receipts }
         ensures into { into.new ≡ record into.old {
           moves = longer into.old.moves pass.moves;
+          sure = longer into.old.sure pass.sure;
           others = into.old.others ++ (pass.mine ++ pass.others);
           faults = max into.old.faults pass.faults;
           parts = into.old.parts + pass.parts;
@@ -511,6 +534,8 @@ impl<T: Mrdt, D: Disk + Drop, A: Address, N: Named<T::Op, T::Reply>> Shared<T, D
         // The longer of the two lists begins with both.
         ensures this { IsPrefix into.old.moves into.new.moves }
         ensures that { IsPrefix pass.moves into.new.moves }
+        ensures sure { KnowsMoments N.begun into.old into.new }
+        ensures theirs { KnowsMoments N.begun pass into.new }
 
         // No move is claimed twice, and none was claimed by both.
         ensures once { AreDistinct (into.new.mine ++ into.new.others) }
@@ -524,10 +549,16 @@ impl<T: Mrdt, D: Disk + Drop, A: Address, N: Named<T::Op, T::Reply>> Shared<T, D
 
     /// The core, where no pass is at hand. Of what passes have seen, and of what callers were told, nothing is said then:
     /// `close_with` says it.
+    ///
+    /// At each moment since the store was shared, a crash leaves a beginning of its history that has all moves that it
+    /// began with. Once the disk has failed, more moves may stand behind the history, at most 64: those of the one call
+    /// that failed. They are valid there. Of a run of callers that never ends nothing is said.
     pub fn close(self) -> Core<T, D, A>
         ensures history { IsPrefix N.begun result.history }
         ensures terms { result.terms ≡ N.terms }
         ensures opened { D.faults result.opened ≡ N.opened }
+        ensures crashes { IsSafe D.Disk (fix T.meaning N.terms A.address) N.since N.left N.begun
+            result }
     {
         let Shared {
             alloc: _,
@@ -547,12 +578,20 @@ impl<T: Mrdt, D: Disk + Drop, A: Address, N: Named<T::Op, T::Reply>> Shared<T, D
 
     /// The core, how many moves landed since the store was shared, and how many of them the last pass, and those that
     /// left into it, landed: all, where it holds all parts, and then it claims each of them, once. None of these moves drops
-    /// a branch, but in a store whose name says that it drops some.
+    /// a branch, but in a store whose name says that it drops some. What a crash leaves is as after `close`.
+    ///
+    /// Each move that the last pass has seen, since the store was shared, is in what a crash leaves at each moment since the
+    /// one at which it was acknowledged, with all moves before it. The pass knew this moment when the call that landed the
+    /// move returned, and the moment has come whenever the store is closed.
     pub fn close_with(self, last: Pass<T, N>) -> Closed<T, D, A>
         ensures history { IsPrefix last.moves result.core.history }
         ensures begun { IsPrefix N.begun result.core.history }
         ensures terms { result.core.terms ≡ N.terms }
         ensures opened { D.faults result.core.opened ≡ N.opened }
+        ensures crashes { IsSafe D.Disk (fix T.meaning N.terms A.address) N.since N.left N.begun
+            result.core }
+        ensures sure { AreSure D.Disk (fix T.meaning N.terms A.address) N.begun last.moves last.sure
+            result.core.disk }
         ensures faults { last.faults ≤ faults_since D.faults result.core }
         ensures drops_none { N.drops ≡ false → DropsNone N.begun result.core.history }
         ensures landed { length N.begun + result.landed ≡ length result.core.history }

@@ -1,3 +1,4 @@
+pub mod Crashes
 pub mod Drawn
 pub mod Reasons
 pub mod Known

@@ -69,7 +69,7 @@ closed-length begun history first landed same is = ap (λ xs. length xs + landed
 pub record Over {S O R Q A E : Type 0} (on : Setting S O R Q A) (begun history : List (Move O R)) (since faults parts : ℕ) (scripts : List (List Step)) (result : Result (List Outcome) E) : Type 0 where
   pub old : PassView (Move O R)
   pub new : PassView (Move O R)
-  pub first : old ≡ record { moves = begun; mine = []; others = []; faults = since; parts = parts; receipts = 0 }
+  pub first : old ≡ record { moves = begun; sure = []; mine = []; others = []; faults = since; parts = parts; receipts = 0 }
   pub ran : IfOk result (Ran on old new scripts)
   pub kept : OnErr result (new ≡ old)
   pub sees : IsPrefix new.moves history

@@ -1,8 +1,9 @@
 // Clients of generated work, over a core.
-ghost use Rattle.std.specs.Prelude.{◌≡◌, ◌≤◌, IfOk, OnErr};
+ghost use Rattle.std.specs.Prelude.{◌≡◌, ◌≤◌, false, IfOk, OnErr};
 ghost use mathlib.Core.List.{IsPrefix};
 ghost use Rattle.branch_machine.specs.Fixed.{fix};
 ghost use Rattle.branch_machine.specs.Validity.{IsFullyValid};
+ghost use Rattle.branch_shared.specs.Crashes.{IsSafeFrom};
 ghost use Rattle.branch_shared.specs.Keeps.{faults_since};
 ghost use Rattle.parallel_clients.specs.Outcomes.{setting};
 ghost use Rattle.client_runs.specs.Worked.{HaveWorked};
@@ -42,12 +43,17 @@ pub struct Work {
 /// common. A client tells that the disk failed only where it has, since the core was opened. Where memory is short before
 /// the first client begins, that is the answer, and no move is made. That clients work in threads of their own is how the
 /// code goes, and in no clause.
+///
+/// At each moment from the call on, a crash leaves a part of the history that the core comes back with, no shorter than
+/// the old one; once the disk has failed, perhaps with more moves behind it, at most 64, which are valid there: those of
+/// the one call that failed.
 pub fn run_on<
     T: Forms + Send + Sync,
     D: Disk + Drop + Send,
     A: Address + Send,
     R: Threads + Wait + Sync,
 >(rt: &R, alloc: Global, core: Core<T, D, A>, work: Work) -> Finished<T, D, A>
+    requires working { core.failed ≡ false }
     ensures grows { IsPrefix core.history result.core.history }
     ensures valid { IsFullyValid (fix T.meaning core.terms A.address) result.core.history }
     ensures terms { result.core.terms ≡ core.terms }
@@ -58,6 +64,7 @@ pub fn run_on<
         core.history result.core.history (faults_since D.faults result.core) work.count work.steps
         work.number) }
     ensures idle { OnErr result.outcomes (result.core.history ≡ core.history) }
+    ensures crashes { IsSafeFrom D.Disk (fix T.meaning core.terms A.address) core result.core }
 {
     keeps_limits::<T>();
     keeps_order::<T>();

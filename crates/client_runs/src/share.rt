@@ -3,6 +3,7 @@ ghost use Rattle.std.specs.Prelude.{◌≡◌, ◌*◌, ◌<◌, ◌≤◌, fals
 ghost use mathlib.Core.List.{IsPrefix};
 ghost use Rattle.branch_machine.specs.Fixed.{fix};
 ghost use Rattle.branch_machine.specs.Validity.{IsFullyValid};
+ghost use Rattle.branch_shared.specs.Crashes.{IsSafeFrom, IsSharedAt};
 ghost use Rattle.branch_shared.specs.Keeps.{DropsNone, faults_since};
 ghost use Rattle.branch_shared.specs.Names.{IsNamed};
 ghost use Rattle.parallel_clients.specs.Outcomes.{MayDropIn, setting};
@@ -40,6 +41,7 @@ pub(crate) fn share<
     R: Threads + Wait + Sync,
 >(rt: &R, alloc: Global, blank: Blank<T, D, A>, scripts: &[Listing<Step>]) -> Finished<T, D, A>
     requires name { IsNamed blank N.table N.queue N.begun N.terms N.parts N.opened }
+    requires since { IsSharedAt D.Disk N.since N.left blank.core }
     requires parts { 2 * length scripts.now < blank.parts }
     requires drops { N.drops ≡ false }
     requires scripts { MayDropIn N.drops scripts.now }
@@ -54,6 +56,8 @@ pub(crate) fn share<
         (HaveRun (setting (fix T.meaning blank.core.terms A.address) T.forms blank.opened)
         blank.core.history result.core.history (faults_since D.faults result.core) scripts.now) }
     ensures idle { OnErr result.outcomes (result.core.history ≡ blank.core.history) }
+    ensures crashes { IsSafeFrom D.Disk (fix T.meaning blank.core.terms A.address) blank.core
+        result.core }
 {
     stays_outcome::<T>();
     let (shared, mut pass) = Shared::<T, D, A, N>::new(blank);

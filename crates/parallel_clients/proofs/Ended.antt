@@ -88,7 +88,7 @@ module _ {S O R Q A : Type 0} (on : Setting S O R Q A) (from : PassView (Move O 
 
   pub left-more : (now after : PassView (Move O R)) (entrants : List (Entrant (PassView (Move O R)))) (outcomes : List Outcome) (entrant : Entrant (PassView (Move O R)))
       → HaveLeft on from now entrants outcomes → HasRunOwn on from entrant
-      → after ≡ record now { moves = longer now.moves entrant.pass.moves; others = now.others ++ (entrant.pass.mine ++ entrant.pass.others); faults = max now.faults entrant.pass.faults; parts = now.parts + entrant.pass.parts; receipts = now.receipts + entrant.pass.receipts }
+      → after ≡ record now { moves = longer now.moves entrant.pass.moves; sure = longer now.sure entrant.pass.sure; others = now.others ++ (entrant.pass.mine ++ entrant.pass.others); faults = max now.faults entrant.pass.faults; parts = now.parts + entrant.pass.parts; receipts = now.receipts + entrant.pass.receipts }
       → IsPrefix now.moves after.moves → IsPrefix entrant.pass.moves after.moves → AreDistinct (after.mine ++ after.others)
       → HaveLeft on from after (entrants ++ entrant ∷ []) (outcomes ++ entrant.outcome ∷ [])
   left-more now after entrants outcomes entrant left ran is this that once =

@@ -49,7 +49,7 @@ moved-earlier made old mid new places after grows seen moved = record {
 
 pub stayed-earlier : {M : Type 0} (old mid new : PassView M) (places after : List ℕ) → IsSeenOn old mid → HasStayed mid new places after → HasStayed old new places after
 stayed-earlier {M} old mid new places after seen stayed = record {
-  rest = stayed.rest ∙ ap (λ (p : PassView M). record p { moves = new.moves; faults = new.faults }) seen;
+  rest = stayed.rest ∙ ap (λ (p : PassView M). record p { moves = new.moves; sure = new.sure; faults = new.faults }) seen;
   noted = stayed.noted;
 }
 

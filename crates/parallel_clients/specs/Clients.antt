@@ -36,4 +36,4 @@ pub record Ran {S O R Q A : Type 0} (on : Setting S O R Q A) (old new : PassView
   pub valid : KeepsValid on.fixed old new
   pub faults : old.faults ≤ new.faults
   pub apart : HavePlacesApart outcomes
-  pub rest : new ≡ record old { moves = new.moves; others = old.others ++ all_places outcomes; faults = new.faults; receipts = old.receipts + count_places outcomes }
+  pub rest : new ≡ record old { moves = new.moves; sure = new.sure; others = old.others ++ all_places outcomes; faults = new.faults; receipts = old.receipts + count_places outcomes }

@@ -7,8 +7,8 @@ pub trait Gate: Sync {
     /// A client is about to prepare an operation, a merge or a join.
     fn before_prepare<R: Wait>(&self, rt: &R, client: u64);
 
-    /// A move of a client landed, and the history has this many moves then.
-    fn after_land<R: Wait>(&self, rt: &R, client: u64, moves: u64);
+    /// A move of a client landed.
+    fn after_land<R: Wait>(&self, rt: &R, client: u64);
 }
 
 /// A gate that lets each client through at once.
@@ -18,5 +18,5 @@ pub struct OpenGate;
 impl Gate for OpenGate {
     fn before_prepare<R: Wait>(&self, _rt: &R, _client: u64) {}
 
-    fn after_land<R: Wait>(&self, _rt: &R, _client: u64, _moves: u64) {}
+    fn after_land<R: Wait>(&self, _rt: &R, _client: u64) {}
 }

@@ -84,7 +84,7 @@ impl<T: Forms, D: Disk + Drop, A: Address, N: Named<T::Op, T::Reply>, G: Gate, R
         match self.shared.land_batched(self.rt, pass, prepared) {
             Ok(landed) => {
                 note(places, landed.moves);
-                self.gate.after_land(self.rt, self.number, landed.moves);
+                self.gate.after_land(self.rt, self.number);
                 Ok(Landing::Moved)
             }
             Err(LandRefused::Dropped { branch }) => Err(ClientRefusal::Dropped { branch }),

@@ -263,7 +263,7 @@ impl<T: Forms, D: Disk + Drop, A: Address, N: Named<T::Op, T::Reply>, G: Gate, R
         match self.shared.fork(self.rt, pass, *new, from) {
             Ok(forked) => {
                 note(places, forked.moves);
-                self.gate.after_land(self.rt, self.number, forked.moves);
+                self.gate.after_land(self.rt, self.number);
                 Ok(())
             }
             Err(ForkRefused::NameTaken { .. }) => Ok(()),

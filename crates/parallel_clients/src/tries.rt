@@ -264,7 +264,7 @@ impl<T: Forms, D: Disk + Drop, A: Address, N: Named<T::Op, T::Reply>, G: Gate, R
         match self.shared.drop_branch(self.rt, pass, &at.seen) {
             Ok(moves) => {
                 note(places, moves);
-                self.gate.after_land(self.rt, self.number, moves);
+                self.gate.after_land(self.rt, self.number);
                 Ok(Landing::Moved)
             }
             Err(refused) => match undropped(refused) {

@@ -1,15 +1,17 @@
 -- The scripts are the clients' drawn steps, and over a valid history none of these names a branch that is not there.
-use Rattle.std.proofs.Common.{◌≡◌, false, List, [], length, ap, sym, ◌∙◌, subst, arith, append-nil}
+use Rattle.std.proofs.Common.{◌≡◌, false, List, [], length, ap, sym, ◌∙◌, subst, arith, append-nil, refl}
 use Rattle.branch_history.specs.declared.moves.Move.{Move}
 use Rattle.branch_machine.specs.Fixed.{fix}
 use Rattle.branch_machine.specs.Validity.{IsFullyValid}
 use Rattle.branch_script.specs.declared.step.Step.{Step}
+use Rattle.branch_shared.specs.Crashes.{IsSafeFrom}
 use Rattle.branch_shared.specs.Keeps.{DropsNone, faults_since}
 use Rattle.branch_shared.specs.Names.{BlankView}
 use Rattle.store_core.specs.Views.{StoreView}
 use Rattle.parallel_clients.specs.Outcomes.{MayDropIn, setting}
 use Rattle.client_runs.specs.Scripts.{scripts_of}
 use Rattle.client_runs.specs.Worked.{HaveRun, HaveWorked}
+use Rattle.client_runs.proofs.Crashes.{safe-still}
 use Rattle.client_runs.proofs.Drawn.{scripts-may}
 use Rattle.client_runs.proofs.Known.{first-within, first-main}
 use Rattle.client_runs.proofs.Runs.{answer-says, length-scripts_of, have-worked}
@@ -54,3 +56,25 @@ returns-in-Ok-new-clause-worked g c =
     have-worked on c.lacks_only_sequences.ensures.op core.history history drops within main faults work.count work.steps work.number outcomes
     (subst (λ (xs : List (List Step)). HaveRun on core.history history faults xs outcomes) drawn own))
     c.share.ensures.ran
+
+pub share-requires-clause-since : goal.share-requires-clause-since
+share-requires-clause-since g c κs within = record {
+  works = ap (λ (b : BlankView (Move _ _) _). b.core.failed) c.in-Ok-new.ensures.made ∙ c.requires.working;
+  moment_is = refl;
+  no_more = λ t f was. was;
+  no_less = λ t f was. was;
+}
+
+pub returns-in-Err-clause-crashes : goal.returns-in-Err-clause-crashes
+returns-in-Err-clause-crashes g c =
+    safe-still g.D.Disk (fix g.T.Mrdt.meaning c.args.core.terms g.A.Address.address) c.args.core (g.met.D.Disk g.world.𝓛 g.world.𝓜 g.world.𝓡 ((λ s x. x), (λ x. x), (λ x. x), λ x. x)).only_now c.moves.ensures.valid (c.moves.ensures.stands c.requires.working)
+
+pub returns-in-Ok-new-clause-crashes : goal.returns-in-Ok-new-clause-crashes
+returns-in-Ok-new-clause-crashes g c =
+    subst (λ (b : BlankView (Move _ _) _). IsSafeFrom g.D.Disk (fix g.T.Mrdt.meaning b.core.terms g.A.Address.address) b.core c.share.result.core) c.in-Ok-new.ensures.made c.share.ensures.crashes
+
+pub returns-clause-crashes : goal.returns-clause-crashes
+returns-clause-crashes g c =
+    let fixed = fix g.T.Mrdt.meaning c.args.core.terms g.A.Address.address in
+    subst (λ (s : StoreView (Move _ _) _). IsSafeFrom g.D.Disk fixed c.args.core s) (sym c.in-Err-new.ensures.same)
+    (safe-still g.D.Disk fixed c.args.core (g.met.D.Disk g.world.𝓛 g.world.𝓜 g.world.𝓡 ((λ s x. x), (λ x. x), (λ x. x), λ x. x)).only_now c.moves.ensures.valid (c.moves.ensures.stands c.requires.working))

@@ -3,4 +3,14 @@ use Rattle.std.proofs.Common.{false}
 use Rattle.client_runs.proofs.run.run_on.Given as goal
 
 abbrev pub ghosts-share : goal.ghosts-share
-ghosts-share g a = record { table = a.blank.table; queue = a.blank.queue; begun = a.blank.core.history; terms = a.blank.core.terms; parts = a.blank.parts; opened = a.blank.opened; drops = false }
+ghosts-share g a = record {
+  table = a.blank.table;
+  queue = a.blank.queue;
+  begun = a.blank.core.history;
+  terms = a.blank.core.terms;
+  parts = a.blank.parts;
+  opened = a.blank.opened;
+  drops = false;
+  since = g.D.Disk.moment a.blank.core.disk;
+  left = g.D.Disk.left_since a.blank.core.disk;
+}

@@ -5,9 +5,12 @@ use mathlib.Core.List.{IsPrefix}
 use Rattle.branch_front.specs.Lists.{AreAllWithin}
 use Rattle.branch_history.specs.declared.moves.Move.{Move}
 use Rattle.branch_machine.specs.Fixed.{fix}
+use Rattle.branch_names.specs.declared.terms.Terms.{Terms}
+use Rattle.branch_shared.specs.Crashes.{IsSafe}
 use Rattle.branch_shared.specs.Keeps.{DropsNone, faults_since}
 use Rattle.parallel_clients.specs.Clients.{Ran}
 use Rattle.parallel_clients.specs.Outcomes.{setting}
+use Rattle.client_runs.proofs.Crashes.{safe-from}
 use Rattle.client_runs.proofs.Runs.{named-setting, closed-length, Over, faults-rise, stays-so, have-run}
 use Rattle.client_runs.proofs.share.share.Given as given
 use Rattle.client_runs.proofs.share.share.Goals as goal
@@ -60,3 +63,13 @@ returns-clause-idle g c =
 
 pub returns-clause-drops_none : goal.returns-clause-drops_none
 returns-clause-drops_none g c = subst (λ (ms : List (Move _ _)). DropsNone ms c.close_with-closed.result.core.history) (sym c.requires.name.history_is) (c.close_with-closed.ensures.drops_none c.requires.drops)
+
+pub returns-clause-crashes : goal.returns-clause-crashes
+returns-clause-crashes g c =
+    let n = g.N.Named in
+    let disk = g.D.Disk in
+    let blank = c.args.blank in
+    let name = c.requires.name in
+    let new = c.close_with-closed.result.core in
+    let safe = subst (λ (t : Terms). IsSafe disk (fix g.T.Mrdt.meaning t g.A.Address.address) n.since n.left n.begun new) (sym name.terms_are) c.close_with-closed.ensures.crashes in
+    safe-from disk (fix g.T.Mrdt.meaning blank.core.terms g.A.Address.address) n.since n.left n.begun blank.core new c.requires.since name.history_is safe

@@ -1,8 +1,18 @@
 -- A drop that was made lengthens what the pass has seen.
-use Rattle.std.proofs.Common.{◌∷◌, [], ap, sym, ◌∙◌}
+use Rattle.std.proofs.Common.{◌≡◌, ◌∷◌, ◌++◌, [], length, ap, sym, subst, ◌∙◌}
 use mathlib.Core.List.{IsPrefix}
 use Rattle.branch_front.proofs.Prefixes.{prefix_trans}
+use Rattle.branch_front.specs.Views.{View}
+use Rattle.branch_history.specs.Steps as machine
+use Rattle.branch_machine.specs.Fixed.{fix}
+use Rattle.store_core.specs.Answers.{drop_answer}
+use Rattle.branch_shared.specs.declared.name.Entry.{Entry}
+use Rattle.branch_shared.specs.Entries.{AreNoted, moments_of, moves_of}
+use Rattle.branch_shared.specs.Keeps.{faults_since}
+use Rattle.branch_shared.proofs.Calls.{safe-answered, safe-under}
 use Rattle.branch_shared.proofs.Dropping.{drop-made}
+use Rattle.branch_shared.proofs.Entries.{GoOn, each-known, knows-both, noted-moments, noted-none}
+use Rattle.branch_shared.proofs.Held.{kept-on, kept-still, drop-same, drop-stayed}
 use Rattle.branch_shared.proofs.kept.Kept.drop_branch.Goals as goal
 
 pub returns-then-is_ok-clause-prefix : goal.returns-then-is_ok-clause-prefix
@@ -11,3 +21,53 @@ returns-then-is_ok-clause-prefix g c =
     c.drop_branch-outcome.ensures.takes (sym c.is_ok.ensures.value ∙ c.if-is_ok.true) in
     let grown : IsPrefix c.self.inside.core.history c.drop_branch-outcome.new.self.history = (made.made ∷ [], sym made.history) in
     rw (ap (λ v. v.moves) c.add.ensures.pass) (prefix_trans _ _ _ c.see.ensures.prefix grown)
+
+pub returns-then-is_ok-clause-sure : goal.returns-then-is_ok-clause-sure
+returns-then-is_ok-clause-sure g c = knows-both g.N.Named.begun c.args.pass.now c.see.new.pass c.add.new.pass c.see.ensures.knows c.add.ensures.knows
+
+pub returns-else-is_ok-clause-sure : goal.returns-else-is_ok-clause-sure
+returns-else-is_ok-clause-sure g c = knows-both g.N.Named.begun c.args.pass.now c.see.new.pass c.see-else-is_ok.new.pass c.see.ensures.knows c.see-else-is_ok.ensures.knows
+
+pub invariant_of-self : goal.invariant_of-self
+invariant_of-self g c =
+    let n = g.N.Named in
+    let disk = g.D.Disk in
+    let meaning = g.T.Mrdt.meaning in
+    let address = g.A.Address.address in
+    let old = c.self.inside.core in
+    let call = c.drop_branch-outcome in
+    let new = call.new.self in
+    let seen = c.args.seen.now in
+    let us = moments_of c.self.inside.writer.moves in
+    let vs = moments_of c.add.new.writer.moves in
+    let on = subst (λ (w : View (Entry _ _)). GoOn (disk.moment new.disk) (moments_of w.moves) vs) c.see.ensures.writer (noted-moments (disk.moment new.disk) c.see.new.writer.moves c.add.new.writer.moves c.add.ensures.noted) in
+    let long = each-known n.begun c.add.new.writer.moves ∙ ap (λ h. length h) (sym c.add.ensures.history) in
+    let only_now = g.met.D.Disk.only_now in
+    let safe = safe-under disk meaning address n.since n.left n.begun old new only_now us vs on long n.terms c.self.invariant.terms_are c.self.invariant.safe c.self.invariant.sure
+    (λ was. safe-answered disk meaning address n.since n.left n.begun old new only_now us vs on long (machine.Drop seen.branch seen.head) (drop_answer seen call.result) was call.ensures.takes call.ensures.leaves c.add.ensures.valid) in
+    kept-on disk (fix meaning n.terms address) n.table n.begun n.terms n.opened n.drops n.since n.left old new c.self.inside.writer c.add.new.writer c.self.invariant safe
+    (drop-same old new _ seen call.result call.ensures.leaves.keeps (sym c.is_ok.ensures.value ∙ c.if-is_ok.true))
+    (c.add.ensures.table ∙ ap (λ w. w.table) c.see.ensures.writer) c.add.ensures.history c.add.ensures.writer.0 c.add.ensures.writer.1 c.add.ensures.drops_none
+
+pub invariant_of-self-else-is_ok : goal.invariant_of-self-else-is_ok
+invariant_of-self-else-is_ok g c =
+    let n = g.N.Named in
+    let disk = g.D.Disk in
+    let meaning = g.T.Mrdt.meaning in
+    let address = g.A.Address.address in
+    let old = c.self.inside.core in
+    let call = c.drop_branch-outcome in
+    let new = call.new.self in
+    let seen = c.args.seen.now in
+    let us = moments_of c.self.inside.writer.moves in
+    let vs = moments_of c.see-else-is_ok.new.writer.moves in
+    let stays = drop-stayed old new _ seen call.result call.ensures.leaves.keeps (sym c.is_ok.ensures.value ∙ c.if-is_ok.false) in
+    let told = c.see-else-is_ok.ensures.writer ∙ ap (λ (w : View (Entry _ _)). record w { faults = faults_since disk.faults new }) c.see.ensures.writer in
+    let same : c.see-else-is_ok.new.writer.moves ≡ c.self.inside.writer.moves = ap (λ (w : View (Entry _ _)). w.moves) told in
+    let on = noted-moments (disk.moment new.disk) c.self.inside.writer.moves c.see-else-is_ok.new.writer.moves (subst (AreNoted (disk.moment new.disk) c.self.inside.writer.moves) (sym same) (noted-none (disk.moment new.disk) c.self.inside.writer.moves)) in
+    let long = each-known n.begun c.see-else-is_ok.new.writer.moves ∙ (ap (λ l. length (n.begun ++ moves_of l)) same ∙ ap (λ h. length h) (sym (stays.history ∙ c.self.invariant.history_is))) in
+    let only_now = g.met.D.Disk.only_now in
+    let safe = safe-under disk meaning address n.since n.left n.begun old new only_now us vs on long n.terms c.self.invariant.terms_are c.self.invariant.safe c.self.invariant.sure
+    (λ was. safe-answered disk meaning address n.since n.left n.begun old new only_now us vs on long (machine.Drop seen.branch seen.head) (drop_answer seen call.result) was call.ensures.takes call.ensures.leaves c.see-else-is_ok.ensures.valid) in
+    kept-still disk (fix meaning n.terms address) n.table n.begun n.terms n.opened n.drops n.since n.left old new c.self.inside.writer c.see-else-is_ok.new.writer c.self.invariant safe
+    stays told
