@@ -1,6 +1,7 @@
-// A document as lines.
-ghost use Rattle.std.specs.Prelude.{◌≡◌, ◌++◌, codes, OnOk, IfOk};
+// A document as lines. After want of memory a first part of it has been written.
+ghost use Rattle.std.specs.Prelude.{◌≡◌, ◌++◌, codes, OnOk, OnErr, IfOk};
 ghost use Rattle.std.specs.List.{flat_map};
+ghost use Rattle.mrdt_model.specs.Spelled.{AppendsPart};
 ghost use Rattle.branch_words.specs.Words.{kind_word};
 ghost use Rattle.branch_show.specs.Documents.{whole_query, words_of, key_line, kind_lines, document_text};
 
@@ -35,8 +36,11 @@ fn put_words<V: Asked>(
     kind: Kind,
     key: &[u8],
 ) -> Result<(), Memory>
-    ensures { OnOk result (out.new.items ≡ out.old.items
+    ensures ok { OnOk result (out.new.items ≡ out.old.items
         ++ words_of (V.answers document.now (whole_query kind key.now))) }
+    ensures err { OnErr result
+        (AppendsPart out.old.items out.new.items
+        (words_of (V.answers document.now (whole_query kind key.now)))) }
 {
     match ask_whole(alloc, document, kind, key)? {
         None => Ok(()),
@@ -46,8 +50,11 @@ fn put_words<V: Asked>(
 
 // The words in front of an answer: `KIND KEY `.
 fn put_front<'a>(out: &mut Vec<u8>, kind: Kind, key: &'a [u8]) -> Result<(), Memory>
-    ensures { OnOk result (out.new.items
+    ensures ok { OnOk result (out.new.items
         ≡ out.old.items ++ (kind_word kind ++ codes " " ++ key.now ++ codes " ")) }
+    ensures err { OnErr result
+        (AppendsPart out.old.items out.new.items
+        (kind_word kind ++ codes " " ++ key.now ++ codes " ")) }
 {
     let kind: &'a [u8] = kind_word(kind);
     put_pieces(out, &[kind, b" ", key, b" "])
@@ -61,8 +68,10 @@ fn put_line<V: Asked>(
     kind: Kind,
     key: &[u8],
 ) -> Result<(), Memory>
-    ensures { OnOk result (out.new.items
+    ensures ok { OnOk result (out.new.items
         ≡ out.old.items ++ key_line (V.answers document.now) kind key.now) }
+    ensures err { OnErr result
+        (AppendsPart out.old.items out.new.items (key_line (V.answers document.now) kind key.now)) }
 {
     put_front(out, kind, key)?;
     put_words(alloc, out, document, kind, key)?;
@@ -77,8 +86,11 @@ fn put_lines<V: Asked>(
     kind: Kind,
     keys: &[Bytes],
 ) -> Result<(), Memory>
-    ensures { OnOk result (out.new.items
+    ensures ok { OnOk result (out.new.items
         ≡ out.old.items ++ flat_map (key_line (V.answers document.now) kind) keys.now) }
+    ensures err { OnErr result
+        (AppendsPart out.old.items out.new.items
+        (flat_map (key_line (V.answers document.now) kind) keys.now)) }
 {
     for key in keys {
         put_line(alloc, out, document, kind, key.as_slice())?;
@@ -93,8 +105,10 @@ fn put_kind_lines<V: Asked>(
     document: &V,
     kind: Kind,
 ) -> Result<(), Memory>
-    ensures { OnOk result (out.new.items
+    ensures ok { OnOk result (out.new.items
         ≡ out.old.items ++ kind_lines (V.answers document.now) kind) }
+    ensures err { OnErr result
+        (AppendsPart out.old.items out.new.items (kind_lines (V.answers document.now) kind)) }
 {
     match document.ask(&PlainQuery::Keys(kind))? {
         None => Ok(()),
@@ -105,8 +119,10 @@ fn put_kind_lines<V: Asked>(
 /// A line for each key of each kind, as `counter hits 7` and `set tags [1] red`: the answer to `value`, `on`, `get`,
 /// `values`, `members`, `read`, `items` or `read`. It asks for the keys of each kind once, and for each key once.
 pub fn put_document<V: Asked>(alloc: Global, out: &mut Vec<u8>, document: &V) -> Result<(), Memory>
-    ensures { OnOk result (out.new.items
+    ensures ok { OnOk result (out.new.items
         ≡ out.old.items ++ document_text (V.answers document.now)) }
+    ensures err { OnErr result
+        (AppendsPart out.old.items out.new.items (document_text (V.answers document.now))) }
 {
     for kind in all_kinds() {
         put_kind_lines(alloc, out, document, kind)?;

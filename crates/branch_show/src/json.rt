@@ -1,5 +1,6 @@
-// A document as JSON.
-ghost use Rattle.std.specs.Prelude.{◌≡◌, ◌++◌, ◌||◌, [], Some, codes, map, filter, if◌then◌else◌, OnOk, IfOk};
+// A document as JSON. After want of memory a first part of it has been written.
+ghost use Rattle.std.specs.Prelude.{◌≡◌, ◌++◌, ◌||◌, [], Some, codes, map, filter, if◌then◌else◌, OnOk, OnErr, IfOk};
+ghost use Rattle.mrdt_model.specs.Spelled.{AppendsPart};
 ghost use Rattle.branch_doc.specs.declared.plain.PlainQuery.TheVariants.{Keys};
 ghost use Rattle.branch_words.specs.Words.{kind_word};
 ghost use Rattle.branch_show.specs.Documents.{all_kinds, keys_in};
@@ -25,9 +26,12 @@ fn put_key<V: Asked>(
     is_behind: bool,
     key: &[u8],
 ) -> Result<(), Memory>
-    ensures { OnOk result (out.new.items
+    ensures ok { OnOk result (out.new.items
         ≡ out.old.items ++ ((if is_behind then codes "," else [])
         ++ key_member (V.answers document.now) kind key.now)) }
+    ensures err { OnErr result
+        (AppendsPart out.old.items out.new.items
+        ((if is_behind then codes "," else []) ++ key_member (V.answers document.now) kind key.now)) }
 {
     let answer = ask_whole(alloc, document, kind, key)?;
     put_comma(out, is_behind)?;
@@ -43,8 +47,11 @@ fn put_keys<V: Asked>(
     kind: Kind,
     keys: &[Bytes],
 ) -> Result<(), Memory>
-    ensures { OnOk result (out.new.items
+    ensures ok { OnOk result (out.new.items
         ≡ out.old.items ++ with_commas (map (key_member (V.answers document.now) kind) keys.now)) }
+    ensures err { OnErr result
+        (AppendsPart out.old.items out.new.items
+        (with_commas (map (key_member (V.answers document.now) kind) keys.now))) }
 {
     for (i, key) in keys.iter().enumerate() {
         put_key(alloc, out, document, kind, i > 0, key.as_slice())?;
@@ -60,9 +67,13 @@ fn put_kind<V: Asked>(
     kind: Kind,
     keys: &[Bytes],
 ) -> Result<(), Memory>
-    ensures { OnOk result (out.new.items
+    ensures ok { OnOk result (out.new.items
         ≡ out.old.items ++ json_member (kind_word kind)
         (json_object (map (key_member (V.answers document.now) kind) keys.now))) }
+    ensures err { OnErr result
+        (AppendsPart out.old.items out.new.items
+        (json_member (kind_word kind)
+        (json_object (map (key_member (V.answers document.now) kind) keys.now)))) }
 {
     put_name(out, kind_word(kind))?;
     put_text(out, b"{")?;
@@ -79,8 +90,13 @@ fn put_told<V: Asked>(
     kind: Kind,
     is_behind: bool,
 ) -> Result<bool, Memory>
-    ensures text { OnOk result (out.new.items
+    ensures ok { OnOk result (out.new.items
         ≡ out.old.items ++ (if is_told (V.answers document.now (Keys kind))
+        then (if is_behind then codes "," else []) ++ kind_member (V.answers document.now) kind
+        else [])) }
+    ensures err { OnErr result
+        (AppendsPart out.old.items out.new.items
+        (if is_told (V.answers document.now (Keys kind))
         then (if is_behind then codes "," else []) ++ kind_member (V.answers document.now) kind
         else [])) }
     ensures next { IfOk result (λ next. next
@@ -98,9 +114,13 @@ fn put_told<V: Asked>(
 
 // The members of all kinds.
 fn put_kinds<V: Asked>(alloc: Global, out: &mut Vec<u8>, document: &V) -> Result<(), Memory>
-    ensures { OnOk result (out.new.items
+    ensures ok { OnOk result (out.new.items
         ≡ out.old.items ++ with_commas (map (kind_member (V.answers document.now))
         (filter (λ k. is_told (V.answers document.now (Keys k))) all_kinds))) }
+    ensures err { OnErr result
+        (AppendsPart out.old.items out.new.items
+        (with_commas (map (kind_member (V.answers document.now))
+        (filter (λ k. is_told (V.answers document.now (Keys k))) all_kinds)))) }
 {
     let mut is_behind = false;
     for kind in all_kinds() {
@@ -112,7 +132,9 @@ fn put_kinds<V: Asked>(alloc: Global, out: &mut Vec<u8>, document: &V) -> Result
 /// The document as one JSON object on one line: a member for each kind, whose members are its keys, without blanks. A byte
 /// of a key or of a word outside 32 to 126 is written as `\u00` and two hexadecimal digits.
 pub fn put_json<V: Asked>(alloc: Global, out: &mut Vec<u8>, document: &V) -> Result<(), Memory>
-    ensures { OnOk result (out.new.items ≡ out.old.items ++ json_text (V.answers document.now)) }
+    ensures ok { OnOk result (out.new.items ≡ out.old.items ++ json_text (V.answers document.now)) }
+    ensures err { OnErr result
+        (AppendsPart out.old.items out.new.items (json_text (V.answers document.now))) }
 {
     put_text(out, b"{")?;
     put_kinds(alloc, out, document)?;

@@ -1,6 +1,7 @@
-// Answers as JSON.
-ghost use Rattle.std.specs.Prelude.{◌≡◌, ◌++◌, [], Some, codes, decimal, map, if◌then◌else◌, OnOk};
+// Answers as JSON. After want of memory a first part of it has been written.
+ghost use Rattle.std.specs.Prelude.{◌≡◌, ◌++◌, [], Some, codes, decimal, map, if◌then◌else◌, OnOk, OnErr};
 ghost use Rattle.std.specs.List.{flat_map};
+ghost use Rattle.mrdt_model.specs.Spelled.{AppendsPart};
 ghost use Rattle.branch_print.specs.Texts.{time_text};
 ghost use Rattle.branch_show.specs.Json.{with_commas, json_byte, json_string, json_array, json_entry, json_maybe, json_answer};
 
@@ -12,15 +13,19 @@ use mrdt_model::{Bytes, Memory, Time};
 
 // A number in a string.
 fn put_digits(out: &mut Vec<u8>, number: u64) -> Result<(), Memory>
-    ensures { OnOk result (out.new.items
+    ensures ok { OnOk result (out.new.items
         ≡ out.old.items ++ flat_map json_byte (decimal number)) }
+    ensures err { OnErr result
+        (AppendsPart out.old.items out.new.items (flat_map json_byte (decimal number))) }
 {
     put_number(out, number)
 }
 
 // A time as a string.
 fn put_time(out: &mut Vec<u8>, time: Time) -> Result<(), Memory>
-    ensures { OnOk result (out.new.items ≡ out.old.items ++ json_string (time_text time)) }
+    ensures ok { OnOk result (out.new.items ≡ out.old.items ++ json_string (time_text time)) }
+    ensures err { OnErr result
+        (AppendsPart out.old.items out.new.items (json_string (time_text time))) }
 {
     put_text(out, b"\"")?;
     put_digits(out, time.clock)?;
@@ -31,7 +36,8 @@ fn put_time(out: &mut Vec<u8>, time: Time) -> Result<(), Memory>
 
 // A time, and what was put then.
 fn put_entry(out: &mut Vec<u8>, entry: &Kept<Bytes>) -> Result<(), Memory>
-    ensures { OnOk result (out.new.items ≡ out.old.items ++ json_entry entry.now) }
+    ensures ok { OnOk result (out.new.items ≡ out.old.items ++ json_entry entry.now) }
+    ensures err { OnErr result (AppendsPart out.old.items out.new.items (json_entry entry.now)) }
 {
     put_text(out, b"{\"time\":")?;
     put_time(out, entry.time)?;
@@ -42,8 +48,11 @@ fn put_entry(out: &mut Vec<u8>, entry: &Kept<Bytes>) -> Result<(), Memory>
 
 // An item of an array of entries.
 fn put_next_entry(out: &mut Vec<u8>, is_behind: bool, entry: &Kept<Bytes>) -> Result<(), Memory>
-    ensures { OnOk result (out.new.items
+    ensures ok { OnOk result (out.new.items
         ≡ out.old.items ++ ((if is_behind then codes "," else []) ++ json_entry entry.now)) }
+    ensures err { OnErr result
+        (AppendsPart out.old.items out.new.items
+        ((if is_behind then codes "," else []) ++ json_entry entry.now)) }
 {
     put_comma(out, is_behind)?;
     put_entry(out, entry)
@@ -51,8 +60,11 @@ fn put_next_entry(out: &mut Vec<u8>, is_behind: bool, entry: &Kept<Bytes>) -> Re
 
 // An item of an array of strings.
 fn put_next_string(out: &mut Vec<u8>, is_behind: bool, bytes: &[u8]) -> Result<(), Memory>
-    ensures { OnOk result (out.new.items
+    ensures ok { OnOk result (out.new.items
         ≡ out.old.items ++ ((if is_behind then codes "," else []) ++ json_string bytes.now)) }
+    ensures err { OnErr result
+        (AppendsPart out.old.items out.new.items
+        ((if is_behind then codes "," else []) ++ json_string bytes.now)) }
 {
     put_comma(out, is_behind)?;
     put_string(out, bytes)
@@ -60,8 +72,10 @@ fn put_next_string(out: &mut Vec<u8>, is_behind: bool, bytes: &[u8]) -> Result<(
 
 // The items of an array of entries.
 fn put_each_entry(out: &mut Vec<u8>, entries: &[Kept<Bytes>]) -> Result<(), Memory>
-    ensures { OnOk result (out.new.items
+    ensures ok { OnOk result (out.new.items
         ≡ out.old.items ++ with_commas (map json_entry entries.now)) }
+    ensures err { OnErr result
+        (AppendsPart out.old.items out.new.items (with_commas (map json_entry entries.now))) }
 {
     for (i, entry) in entries.iter().enumerate() {
         put_next_entry(out, i > 0, entry)?;
@@ -71,8 +85,10 @@ fn put_each_entry(out: &mut Vec<u8>, entries: &[Kept<Bytes>]) -> Result<(), Memo
 
 // The items of an array of strings.
 fn put_each_string(out: &mut Vec<u8>, strings: &[Bytes]) -> Result<(), Memory>
-    ensures { OnOk result (out.new.items
+    ensures ok { OnOk result (out.new.items
         ≡ out.old.items ++ with_commas (map json_string strings.now)) }
+    ensures err { OnErr result
+        (AppendsPart out.old.items out.new.items (with_commas (map json_string strings.now))) }
 {
     for (i, string) in strings.iter().enumerate() {
         put_next_string(out, i > 0, string.as_slice())?;
@@ -82,7 +98,9 @@ fn put_each_string(out: &mut Vec<u8>, strings: &[Bytes]) -> Result<(), Memory>
 
 // An array of entries.
 fn put_entries(out: &mut Vec<u8>, entries: &[Kept<Bytes>]) -> Result<(), Memory>
-    ensures { OnOk result (out.new.items ≡ out.old.items ++ json_array json_entry entries.now) }
+    ensures ok { OnOk result (out.new.items ≡ out.old.items ++ json_array json_entry entries.now) }
+    ensures err { OnErr result
+        (AppendsPart out.old.items out.new.items (json_array json_entry entries.now)) }
 {
     put_text(out, b"[")?;
     put_each_entry(out, entries)?;
@@ -91,7 +109,9 @@ fn put_entries(out: &mut Vec<u8>, entries: &[Kept<Bytes>]) -> Result<(), Memory>
 
 // An array of strings.
 fn put_strings(out: &mut Vec<u8>, strings: &[Bytes]) -> Result<(), Memory>
-    ensures { OnOk result (out.new.items ≡ out.old.items ++ json_array json_string strings.now) }
+    ensures ok { OnOk result (out.new.items ≡ out.old.items ++ json_array json_string strings.now) }
+    ensures err { OnErr result
+        (AppendsPart out.old.items out.new.items (json_array json_string strings.now)) }
 {
     put_text(out, b"[")?;
     put_each_string(out, strings)?;
@@ -100,7 +120,8 @@ fn put_strings(out: &mut Vec<u8>, strings: &[Bytes]) -> Result<(), Memory>
 
 // The string that there is, or `null`.
 fn put_maybe(out: &mut Vec<u8>, bytes: &Option<Bytes>) -> Result<(), Memory>
-    ensures { OnOk result (out.new.items ≡ out.old.items ++ json_maybe bytes.now) }
+    ensures ok { OnOk result (out.new.items ≡ out.old.items ++ json_maybe bytes.now) }
+    ensures err { OnErr result (AppendsPart out.old.items out.new.items (json_maybe bytes.now)) }
 {
     match bytes {
         None => put_text(out, b"null"),
@@ -110,8 +131,11 @@ fn put_maybe(out: &mut Vec<u8>, bytes: &Option<Bytes>) -> Result<(), Memory>
 
 // One of the two truth values.
 fn put_truth(out: &mut Vec<u8>, is_true: bool) -> Result<(), Memory>
-    ensures { OnOk result (out.new.items
+    ensures ok { OnOk result (out.new.items
         ≡ out.old.items ++ (if is_true then codes "true" else codes "false")) }
+    ensures err { OnErr result
+        (AppendsPart out.old.items out.new.items
+        (if is_true then codes "true" else codes "false")) }
 {
     if is_true {
         put_text(out, b"true")
@@ -122,7 +146,9 @@ fn put_truth(out: &mut Vec<u8>, is_true: bool) -> Result<(), Memory>
 
 // What is at a key, as the document answers it.
 fn put_given(out: &mut Vec<u8>, answer: &PlainAnswer) -> Result<(), Memory>
-    ensures { OnOk result (out.new.items ≡ out.old.items ++ json_answer (Some answer.now)) }
+    ensures ok { OnOk result (out.new.items ≡ out.old.items ++ json_answer (Some answer.now)) }
+    ensures err { OnErr result
+        (AppendsPart out.old.items out.new.items (json_answer (Some answer.now))) }
 {
     match answer {
         PlainAnswer::CounterValue(value) => put_signed(out, *value),
@@ -139,7 +165,8 @@ fn put_given(out: &mut Vec<u8>, answer: &PlainAnswer) -> Result<(), Memory>
 
 // What is at a key.
 pub(crate) fn put_json_answer(out: &mut Vec<u8>, answer: &Option<PlainAnswer>) -> Result<(), Memory>
-    ensures { OnOk result (out.new.items ≡ out.old.items ++ json_answer answer.now) }
+    ensures ok { OnOk result (out.new.items ≡ out.old.items ++ json_answer answer.now) }
+    ensures err { OnErr result (AppendsPart out.old.items out.new.items (json_answer answer.now)) }
 {
     match answer {
         None => put_text(out, b"null"),
