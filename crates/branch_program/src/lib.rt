@@ -1,12 +1,15 @@
 //! The program over standard streams: its words, and the run that they say over a disk.
 #![tactic(auto)]
 
+mod asked;
 mod told;
 
+use asked::Asked;
 use branch_address::{Address, Sha256Address};
 use branch_command::{Flagged, read_flag};
 use branch_disk::Disk;
 use branch_io::{ReadSource, Sink, Source, WriteSink};
+use branch_progress::Listener;
 use branch_shell::{Status, read_clients, run_alone, run_clients};
 use mrdt_model::Memory;
 use std::alloc::{AllocError, Global};
@@ -16,7 +19,7 @@ use std::rt::{Env, Files};
 use std::sync::Wait;
 use std::thread::Threads;
 use std::{env, fs, io};
-use told::tell_why;
+use told::{Told, tell_why};
 
 /// The words of the command line.
 #[derive(Drop)]
@@ -104,9 +107,10 @@ impl Ended {
 }
 
 /// Runs the command that the words say, over a source, a sink and both disks, and hands the disks back. The flag by which
-/// words ask to be told more changes nothing here. `clients` alone gets the handle to start threads and to wait with: every
-/// other command is run by a call that takes none, and so returns whatever call fails.
-pub fn run_words<S, K, D, A, R>(
+/// words ask to be told more changes nothing here, but that the listener hears of the run only where it is given. `clients`
+/// alone gets the handle to start threads and to wait with: every other command is run by a call that takes none, and so
+/// returns whatever call fails.
+pub fn run_words<S, K, D, A, R, L>(
     rt: &R,
     alloc: Global,
     words: &[String],
@@ -114,6 +118,7 @@ pub fn run_words<S, K, D, A, R>(
     sink: &mut K,
     disk: D,
     second: D,
+    listener: &mut L,
 ) -> (Ended, D, D)
 where
     S: Source,
@@ -121,13 +126,22 @@ where
     D: Disk + Drop + Send,
     A: Address + Send,
     R: Threads + Wait + Sync,
+    L: Listener,
 {
     let Ok(Flagged { words, is_verbose }) = read_flag(alloc, words) else {
         return (Ended::without_memory(), disk, second);
     };
+    let mut asked = Asked {
+        listener,
+        is_verbose,
+    };
     let (status, disk, second) = match read_clients(alloc, &words) {
-        Ok(Some(work)) => run_clients::<K, D, A, R>(rt, alloc, work, sink, disk, second),
-        Ok(None) => run_alone::<S, K, D, A>(alloc, &words, source, sink, disk, second),
+        Ok(Some(work)) => {
+            run_clients::<K, D, A, R, _>(rt, alloc, work, sink, disk, second, &mut asked)
+        }
+        Ok(None) => {
+            run_alone::<S, K, D, A, _>(alloc, &words, source, sink, disk, second, &mut asked)
+        }
         Err(Memory) => (Status::Memory, disk, second),
     };
     (Ended { status, is_verbose }, disk, second)
@@ -146,9 +160,9 @@ fn fill_streams<R: Files>(rt: &R) -> io::Result<(R::File, R::File, R::File)> {
 }
 
 /// Runs the command over both disks, of which no file is open yet. It reads standard input, writes to standard output and,
-/// where the words ask to be told more, why it ends as it does to standard error, and nothing else; and tells how the
-/// program ends: by the number of its status. Before any file of a store is opened it makes sure that none can take the
-/// place of a standard stream that is closed, and where it cannot, it ends as where the disk fails.
+/// where the words ask to be told more, how far it has come and why it ends as it does to standard error, and nothing else;
+/// and tells how the program ends: by the number of its status. Before any file of a store is opened it makes sure that none
+/// can take the place of a standard stream that is closed, and where it cannot, it ends as where the disk fails.
 pub fn run_command<D, R>(rt: &R, command: &[String], disk: D, second: D) -> ExitCode
 where
     D: Disk + Drop + Send,
@@ -159,7 +173,8 @@ where
     };
     let mut source = ReadSource::new(rt.reader());
     let mut sink = WriteSink::new(io::writer(rt));
-    let (ended, _disk, _second) = run_words::<_, _, _, Sha256Address, _>(
+    let mut told = Told { rt };
+    let (ended, _disk, _second) = run_words::<_, _, _, Sha256Address, _, _>(
         rt,
         rt.alloc(),
         command,
@@ -167,6 +182,7 @@ where
         &mut sink,
         disk,
         second,
+        &mut told,
     );
     tell_why(rt, ended);
     ExitCode::from(ended.status.number())

@@ -7,12 +7,13 @@ use Rattle.branch_disk.specs.Disk.{Files, StillTells}
 use Rattle.branch_compact.specs.Switch.{is_current}
 use Rattle.store_compact.specs.declared.answers.Which.{Which}
 use Rattle.store_compact.specs.declared.answers.Which.TheVariants.{First, Second}
-use Rattle.branch_command.specs.Commands.{Said}
+use Rattle.branch_command.specs.declared.command.Command.{Command}
+use Rattle.branch_command.specs.declared.command.Command.TheVariants as read
+use Rattle.branch_command.specs.Commands.{Said, Init, Help, Means}
 use Rattle.branch_shell.specs.declared.choose.Values.{Values}
 use Rattle.branch_shell.specs.declared.status.Status.{Status}
-use Rattle.branch_shell.specs.declared.task.Task.{Task}
-use Rattle.branch_shell.specs.declared.task.Task.TheVariants as task
 use Rattle.branch_shell.specs.declared.status.Status.TheVariants.{StoreRefused}
+use Rattle.branch_shell.specs.Alone.{WorksOnCurrent}
 use Rattle.branch_shell.specs.Once.{Says}
 use Rattle.branch_shell.specs.Reading.{Exchanges}
 use Rattle.branch_shell.specs.Values.{HaveValues}
@@ -20,7 +21,6 @@ use Rattle.branch_shell.specs.Statuses.{Wrote, WroteBy}
 use Rattle.branch_shell.specs.Counts.{HasReason, HaveReason}
 use Rattle.branch_shell.specs.Disks.{Disks, held, IsCurrentBy, current_told, AreChosen, NoneChosen}
 use Rattle.branch_shell.specs.Ran.{RanOnCurrent, RanOverBoth}
-use Rattle.branch_shell.specs.Tasks.{said_of}
 
 -- of the two that tell these, this one
 abbrev told_of : Which → Option Files → Option Files → Option Files
@@ -85,18 +85,18 @@ pub aside_second : {D : Type 0} (disk : Ghosts D) (values : Values) (old now : D
     → AreChosen disk old now Second values → ForSome (disk.contents now.first) (IsCurrentBy Second)
 aside_second disk values old now are f told = are.current f (sym are.first.same ∙ told)
 
--- a task on the current disk is a command over both
-pub over_both : {D : Type 0} (disk : Ghosts D) (address : List ℕ → List ℕ) (t : Task)
-    (old new : Disks D) (left : Option (List ℕ)) (status : Status) (input text : List ℕ)
+-- a command on the current disk is one over both
+pub over_both : {D : Type 0} (disk : Ghosts D) (address : List ℕ → List ℕ) (said : Said) (command : Command)
+    → WorksOnCurrent command → Means said command
+    → (old new : Disks D) (left : Option (List ℕ)) (status : Status) (input text : List ℕ)
     → NoneChosen disk old new status input text
-    ⊎ RanOnCurrent disk address (said_of t) old new left status input text
-    → RanOverBoth disk address (said_of t) old new left status input text
-over_both disk address task.Script old new left status input text did = did
-over_both disk address (task.Look look) old new left status input text did = did
-over_both disk address (task.Generate steps number) old new left status input text did = did
-over_both disk address task.Upgrade old new left status input text did = did
-over_both disk address task.Compact old new left status input text did = did
-over_both disk address (task.Receive name) old new left status input text did = did
+    ⊎ RanOnCurrent disk address said old new left status input text
+    → RanOverBoth disk address said old new left status input text
+over_both disk address (Init n) (read.Init terms) works means old new left status input text did = absurd works
+over_both disk address (Init n) command works means old new left status input text did = absurd means
+over_both disk address Help (read.Tell words) works means old new left status input text did = absurd works
+over_both disk address Help command works means old new left status input text did = absurd means
+over_both disk address said command works means old new left status input text did = did
 
 -- the counts of two disks, the other way round
 pub reason_swapped : (source sink first second source_now sink_now first_now second_now : ℕ)

@@ -1,17 +1,19 @@
 -- What compacting wrote and left, and the counts of faults then.
-use Rattle.std.proofs.Common.{◌≡◌, ◌≢◌, ◌⊎◌, ℕ, List, [], length, false, refl, sym, ap, ap₂, subst, ◌∙◌, inl, inr}
+use Rattle.std.proofs.Common.{◌≡◌, ◌≢◌, ◌⊎◌, ℕ, List, [], ◌∷◌, length, false, refl, sym, ap, ap₂, subst, ◌∙◌, inl, inr}
 use Rattle.std.specs.Prelude.{Option, Some}
 use Rattle.branch_disk.specs.declared.disk.Disk.{Ghosts}
-use Rattle.branch_disk.specs.Disk.{Files}
+use Rattle.branch_disk.specs.Disk.{Files, LeavesOnly}
+use Rattle.branch_disk.specs.Moments.{weakened}
+use Rattle.branch_files.specs.Reading.{Opens, ReadsAs}
 use Rattle.branch_compact.specs.Compact.{compact}
-use Rattle.branch_compact.specs.Switch.{is_current}
+use Rattle.branch_compact.specs.Switch.{current, is_current}
 use Rattle.branch_print.specs.Reports.{compacted_text}
 use Rattle.store_compact.specs.declared.answers.Which.{Which}
 use Rattle.store_compact.specs.declared.answers.Which.TheVariants.{First, Second}
 use Rattle.store_compact.specs.declared.answers.Compacted.{Compacted}
 use Rattle.store_compact.specs.declared.answers.CompactRefused.{CompactRefused}
 use Rattle.store_compact.specs.declared.answers.CompactRefused.TheVariants as refusal
-use Rattle.store_compact.specs.Compacting.{first_of, second_of, IsCompacted as IsMade, IsNotCompacted, HasCauseOfEither}
+use Rattle.store_compact.specs.Compacting.{first_of, second_of, ReadsEither, Compacts, IsCompacted as IsMade, IsNotCompacted, HasCauseOfEither}
 use Rattle.branch_shell.specs.declared.status.Status.{Status}
 use Rattle.branch_shell.specs.declared.status.Status.TheVariants.{Done, StoreRefused, DiskFault, WriteFault, Memory}
 use Rattle.branch_shell.specs.Counts.{HaveReason}
@@ -19,7 +21,7 @@ use Rattle.branch_shell.specs.Once.{Answers, WroteOnce}
 use Rattle.branch_shell.specs.Documents.{SaysUnopened}
 use Rattle.branch_shell.specs.Stores.{Stored, IsOpenedAs}
 use Rattle.branch_shell.specs.Disks.{IsSettled, IsCurrentBy, LeavesAsBefore, StaysSame}
-use Rattle.branch_shell.specs.Compacting.{counts_text, view_of, SaysCompacted, StaysAside, IsCompactedFrom, RanCompact}
+use Rattle.branch_shell.specs.Compacting.{counts_text, view_of, SaysCompacted, StaysAside, Stage, GoInStages, IsCompactedFrom, RanCompact}
 use Rattle.std.proofs.KnownBytes.{Appends-nil}
 use Rattle.branch_io.specs.Causes.{Rose}
 use Rattle.branch_shell.proofs.Once.{answers_map}
@@ -47,6 +49,31 @@ pub placed_back : {D : Type 0} (which : Which) (first second held other : D)
 placed_back First first second held other is_held is_other = (is_held, is_other)
 placed_back Second first second held other is_held is_other = (is_other, is_held)
 
+-- the stages of a compaction, as those of two disks of which one goes on at a time
+module _ {D : Type 0} (disk : Ghosts D) {S O R Q A : Type 0} (of : ValueType S O R Q A) (address : List ℕ → List ℕ) (store : Stored O R) (opened other first second : D) where
+  abbrev Either : Files → Files → Type 0
+  Either f s = ReadsEither of.meaning address store.terms store.history (current f s)
+
+  abbrev Read : Files → Files → Type 0
+  Read f s = ReadsAs of.meaning address (current f s) (Opens store.terms store.history)
+
+  -- who goes from one disk to another, beside images of the other disk
+  written : (from to : D) (aside : Files → Type 0) (P Q : Files → Files → Type 0) → ((c f : Files) → P c f → Q c f)
+      → LeavesOnly disk.moment disk.left_since from to (λ c. (f : Files) → aside f → P c f) → LeavesOnly disk.moment disk.left_since from to (λ c. (f : Files) → aside f → Q c f)
+  written from to aside P Q so all =
+      weakened disk.moment disk.left_since from to (λ c. (f : Files) → aside f → P c f) (λ c. (f : Files) → aside f → Q c f) all (λ c p f there. so c f (p f there))
+
+  in_stages : (which : Which) → Compacts disk of.meaning address which (view_of store opened) other first second
+      → (all : List (Stage D)) × GoInStages disk Either all (first_of which opened other) (second_of which opened other) first second
+  in_stages First s = (
+    record { which = Second; to = second } ∷ record { which = First; to = first } ∷ [],
+    (written other second (disk.may_leave opened) (λ c f. Read f c) (λ c f. Either f c) (λ c f read. inl read) s.writing, (s.switching, (refl, refl))),
+  )
+  in_stages Second s = (
+    record { which = First; to = s.between } ∷ record { which = First; to = first } ∷ [],
+    (written other s.between (disk.may_leave opened) Read Either (λ c f read. inl read) s.writing, (s.switching, (refl, s.kept))),
+  )
+
 module _ {D : Type 0} (disk : Ghosts D) {S O R Q A : Type 0} (of : ValueType S O R Q A) (address : List ℕ → List ℕ) (which : Which) (store : Stored O R)
     (opened other first second held_now other_now : D)
     (is_held : held_now ≡ first_of which first second)
@@ -67,6 +94,7 @@ module _ {D : Type 0} (disk : Ghosts D) {S O R Q A : Type 0} (of : ValueType S O
       (second_of which held_now other_now) status
   made_so counted status is = moved status (record {
     stages = is.moments;
+    pairs = in_stages disk of address store opened other first second which is.moments;
     either = λ f s left right. inr (is.reads f s left right);
     complete = λ done. is.reads;
     exact = λ done. is.exact;
@@ -79,6 +107,7 @@ module _ {D : Type 0} (disk : Ghosts D) {S O R Q A : Type 0} (of : ValueType S O
       (second_of which held_now other_now) status
   not_made_so why status other_status is = moved status (record {
     stages = is.moments;
+    pairs = in_stages disk of address store opened other first second which is.moments;
     either = is.reads;
     complete = λ done. absurd (other_status done);
     exact = λ done. absurd (other_status done);

@@ -22,3 +22,4 @@ pub mod Compactions
 pub mod Outcomes
 pub mod Heads
 pub mod Received
+pub mod Clients

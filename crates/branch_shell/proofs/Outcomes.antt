@@ -7,8 +7,11 @@ use mathlib.Core.List.{IsPrefix}
 use Rattle.branch_io.specs.Causes.{Rose}
 use Rattle.branch_disk.specs.Disk.{Files}
 use Rattle.branch_files.specs.Laws.{ReadsWhatStands}
+use Rattle.branch_files.specs.Stands.{Stands}
 use Rattle.branch_history.specs.declared.moves.Move.{Move}
+use Rattle.branch_machine.specs.Laws.{HasFullyValidPrefixes}
 use Rattle.branch_machine.specs.Validity.{IsFullyValid}
+use Rattle.branch_shared.specs.Crashes.{StandsFrom}
 use Rattle.branch_command.specs.Work.{Clients}
 use Rattle.branch_gen.specs.Clients.{client_steps}
 use Rattle.parallel_clients.specs.declared.outcome.ClientRefusal.{ClientRefusal}
@@ -17,14 +20,14 @@ use Rattle.parallel_clients.specs.declared.outcome.Outcome.{Outcome}
 use Rattle.parallel_clients.specs.declared.outcome.Outcome.TheVariants as outcome
 use Rattle.parallel_clients.specs.Outcomes.{Setting, setting}
 use Rattle.client_runs.specs.Worked.{HasWorked, HaveWorked}
-use Rattle.store_core.specs.Images.{AllStand, MayBeLeft}
+use Rattle.store_core.specs.Images.{AllStand, WithFirst}
 use Rattle.branch_shell.specs.declared.status.Status.{Status}
 use Rattle.branch_shell.specs.declared.status.Status.TheVariants.{Done, Usage, StoreRefused, DiskFault, ReadFault, WriteFault, LineTooLong, InputTooLong, Memory}
 use Rattle.branch_shell.specs.Counts.{HasReason, SaysReason}
 use Rattle.branch_shell.specs.Once.{Answers, WroteOnce}
 use Rattle.branch_shell.specs.Stores.{Stored, ReadsAsStore}
 use Rattle.branch_shell.specs.Bundling.{fixed_for}
-use Rattle.branch_shell.specs.Together.{client_line, both_texts, client_lines, SaysTogether, RanTogether, with_history, CameTogether, ReadsUpTo, FindsBranch, FindsAll, IsFault, TellsFault, SomeTellFault, StopsFor}
+use Rattle.branch_shell.specs.Together.{client_line, both_texts, client_lines, with_history, CameTogether, ReadsFrom, ReadsWithFirst, FindsBranch, FindsAll, IsFault, TellsFault, SomeTellFault, StopsFor}
 use Rattle.branch_shell.specs.Values.{ValueType}
 
 -- two texts that there are
@@ -140,14 +143,26 @@ module _ {S O R Q A : Type 0} (on : Setting S O R Q A) (old new : List (Move O R
   pub fault_rose : SomeTellFault outcomes → Rose on.opened (on.opened + faults)
   fault_rose some = fault_of_one some.0 some.1 (worked.each some.0 some.1 some.2) some.3
 
--- what may be left of a store reads as it, after a fault of the disk with or without moves behind its history
-module _ {S O R Q A : Type 0} (of : ValueType S O R Q A) (address : List ℕ → List ℕ) (reads : ReadsWhatStands of.meaning) (store : Stored O R) (history : List (Move O R)) (valid : IsFullyValid (fixed_for of.meaning address store) history) where
-  pub reads_failed : (c : Files) → MayBeLeft (fixed_for of.meaning address store) history c → ReadsUpTo of address store history DiskFault c
-  reads_failed c (inl stands) = inl (reads store.terms address history c valid stands)
-  reads_failed c (inr more) = inr (refl, (more.0, reads store.terms address (history ++ more.0) c more.2 more.1))
+-- what stands for a store, or for a part of its moves, reads as it
+module _ {S O R Q A : Type 0} (of : ValueType S O R Q A) (address : List ℕ → List ℕ) (reads : ReadsWhatStands of.meaning) (store : Stored O R) where
+  pub reads_all : (history : List (Move O R)) → IsFullyValid (fixed_for of.meaning address store) history → (images : Files → Type 0) → AllStand (fixed_for of.meaning address store) history images
+      → (c : Files) → images c → ReadsAsStore of.meaning address (with_history store history) c
+  reads_all history valid images stand c left = reads store.terms address history c valid (stand c left)
 
-  pub reads_all : (images : Files → Type 0) → AllStand (fixed_for of.meaning address store) history images → (c : Files) → images c → ReadsAsStore of.meaning address (with_history store history) c
-  reads_all images stand c left = reads store.terms address history c valid (stand c left)
+  module _ (prefixes : HasFullyValidPrefixes of.meaning) (whole : List (Move O R)) (valid : IsFullyValid (fixed_for of.meaning address store) whole) where
+    reads_part : (moves : List (Move O R)) → IsPrefix moves whole → (c : Files) → Stands (fixed_for of.meaning address store) moves c → ReadsAsStore of.meaning address (with_history store moves) c
+    reads_part moves within c stands =
+        let so = subst (IsFullyValid (fixed_for of.meaning address store)) (sym within.1) valid in
+        reads store.terms address moves c (prefixes store.terms address moves within.0 so) stands
+
+    pub reads_from : (c : Files) → StandsFrom (fixed_for of.meaning address store) store.history whole c → ReadsFrom of address store whole c
+    reads_from c is = record { moves = is.moves; begins = is.begins; within = is.within; reads = reads_part is.moves is.within c is.stands }
+
+    pub reads_first : (history more : List (Move O R)) → history ++ more ≡ whole → (c : Files) → WithFirst (fixed_for of.meaning address store) history more c → ReadsWithFirst of address store history more c
+    reads_first history more is c with_first =
+        let first = with_first.0 in
+        let within : IsPrefix (history ++ first) whole = (with_first.1.0, append_assoc history first with_first.1.0 ∙ ap (λ (l : List (Move O R)). history ++ l) with_first.1.1 ∙ is) in
+        (first, with_first.1, reads_part (history ++ first) within c with_first.2)
 
 -- the history that a store came to by clients, or by none
 pub came_together : {E : Type 0} {S O R Q A : Type 0} (of : ValueType S O R Q A) (address : List ℕ → List ℕ) (store : Stored O R) (clients : Clients) (history : List (Move O R)) (opened since : ℕ) (r : Result (List Outcome) E) → IsPrefix store.history history → IsFullyValid (fixed_for of.meaning address store) history
@@ -174,8 +189,3 @@ never_usage success refused status g0 g1 w is = subst (λ (s : Status). WroteOnc
 
 pub all_said : (success refused : List ℕ → Type 0) (status : Status) (g0 g1 : Option (List ℕ)) → Answers success refused status g0 g1 → status ≡ Done → (text : List ℕ) × Appends g0 g1 text × success text
 all_said success refused status g0 g1 w is = (w.0, w.1, subst (λ (s : Status). WroteOnce success refused s w.0) is w.2)
-
--- what clients wrote, without what they left
-pub says_ran : {D : Type 0} (may_leave : D → Files → Type 0) {S O R Q A : Type 0} (of : ValueType S O R Q A) (address : List ℕ → List ℕ) (told : Option Files) (clients : Clients) (new : D) (text : List ℕ)
-    → RanTogether may_leave of address told clients new text → SaysTogether of address told clients text
-says_ran may_leave of address told clients new text ran = (ran.0, ran.1, (ran.2.history, ran.2.told))

@@ -9,29 +9,22 @@ use Rattle.branch_disk.specs.Moments.{weakened, started}
 use Rattle.branch_names.specs.declared.terms.Terms.{Terms}
 use Rattle.store_core.specs.Inits.{IsEmpty}
 use Rattle.mrdt_model.specs.Laws.{Meaning}
-use Rattle.store_core.specs.Opens.{ReadsAsNone}
 use Rattle.branch_command.specs.Terms.{TermNumbers, AreTerms, kind_number}
-use Rattle.branch_command.specs.Work.{Clients as ClientsGiven}
-use Rattle.branch_command.specs.Commands.{Said, Init, Script, Look, Generate, Clients, Upgrade, Compact, Receive, Help}
+use Rattle.branch_command.specs.Commands.{Said, Init, Script, Look, Help}
 use Rattle.branch_shell.specs.declared.status.Status.{Status}
 use Rattle.branch_shell.specs.declared.status.Status.TheVariants.{Done, Usage, StoreRefused, DiskFault, Memory}
 use Rattle.branch_shell.specs.Reading.{Exchanges}
 use Rattle.branch_shell.specs.Once.{WroteOnce, Answers, Says}
-use Rattle.branch_shell.specs.Stores.{Stored, ReadsAsNoneOrEmpty}
+use Rattle.branch_shell.specs.Stores.{ReadsAsNoneOrEmpty}
 use Rattle.branch_shell.specs.Values.{ValueType, documents, documents_with_sequences}
-use Rattle.branch_shell.specs.Documents.{SaysUnopened}
-use Rattle.branch_shell.specs.Together.{RanTogether, SaysTogether, LeftTogether}
 use Rattle.branch_command.specs.declared.look.Look.{Look as Looked}
 use Rattle.branch_shell.specs.Looks.{SaysLook, SaysNoLook}
 use Rattle.mrdt_old_doc.specs.OldDocument.{old_document}
-use Rattle.branch_shell.specs.Statuses.{Wrote, WroteOf, ScriptWrote, Holds}
+use Rattle.branch_shell.specs.Statuses.{WroteOf, ScriptWrote}
 use Rattle.store_compact.specs.declared.answers.Which.{Which}
 use Rattle.branch_shell.specs.Disks.{Disks, LeavesAsBefore, StaysSame, NoneChosen}
 use Rattle.branch_shell.specs.Ran.{LeavesInit, LeavesLooked, SaysMade, SaysNotMade, RanInit, RanInitFor, RanChosen, RanOverBoth}
-use Rattle.branch_shell.proofs.Once.{wrote_map}
-use Rattle.branch_shell.proofs.Said.{one_command}
 use Rattle.branch_shell.proofs.Inits.{empty_reads, empty_map, none_or_empty_map}
-use Rattle.branch_shell.proofs.Outcomes.{says_ran}
 
 -- a script tells no misuse
 script_usage : {S O R Q A : Type 0} (of : ValueType S O R Q A) (address : List ℕ → List ℕ) (told : Option Files) (left : Option (List ℕ)) (input text : List ℕ) → ScriptWrote of address told left Usage input text → ⊥
@@ -47,27 +40,12 @@ no_usage of address told left status input text w is =
 pub once_usage : (success refusal : List ℕ → Type 0) (status : Status) (text : List ℕ) → WroteOnce success refusal status text → status ≡ Usage → ⊥
 once_usage success refusal status text w is = subst (λ (s : Status). WroteOnce success refusal s text) is w
 
--- what was given by one command, or this, by the words that say it
-pub said_behind : (address : List ℕ → List ℕ) (told : Option Files) (words : Option Said) (this command : Said) → words ≡ Some this → words ≡ Some command
-    → (status : Status) (l0 l1 g0 g1 : Option (List ℕ)) (same : Type 0) → same ⊎ Exchanges l0 l1 g0 g1 (Wrote address this told l1 status)
-    → same ⊎ Exchanges l0 l1 g0 g1 (Wrote address command told l1 status)
-said_behind address told words this command is said status l0 l1 g0 g1 same (inl stays) = inl stays
-said_behind address told words this command is said status l0 l1 g0 g1 same (inr e) =
-    inr (e.0, e.1, e.2, e.3, subst (λ (k : Said). Wrote address k told l1 status e.0 e.1) (one_command words this command is said) e.4)
-
 -- the text of help, or a first part of it
 text_given : (text : List ℕ) (result : Status) (g0 g1 : Option (List ℕ)) (before now : ℕ) → Says text Done result g0 g1 before now → (given : List ℕ) × Appends g0 g1 given
 text_given text result g0 g1 before now (inl (is, gave, same)) = (text, gave)
 text_given text result g0 g1 before now (inr (is, gives, rose)) = (gives.part, gives.given)
 
 module _ (address : List ℕ → List ℕ) {D : Type 0} (disk : Ghosts D) where
-  -- what a run did of one command, by the words that say it
-  pub said_ran : (words : Option Said) (this command : Said) → words ≡ Some this → words ≡ Some command
-      → (old new : Disks D) (l0 l1 g0 g1 : Option (List ℕ)) (status : Status) → Exchanges l0 l1 g0 g1 (RanOverBoth disk address this old new l1 status)
-      → Exchanges l0 l1 g0 g1 (RanOverBoth disk address command old new l1 status)
-  said_ran words this command is said old new l0 l1 g0 g1 status e =
-      (e.0, e.1, e.2, e.3, subst (λ (k : Said). RanOverBoth disk address k old new l1 status e.0 e.1) (one_command words this command is said) e.4)
-
   pub help_ran : (old : Disks D) (text : List ℕ) (status : Status) (l g0 g1 : Option (List ℕ)) (before now : ℕ) → Says text Done status g0 g1 before now
       → Exchanges l l g0 g1 (RanOverBoth disk address Help old old l status)
   help_ran old text status l g0 g1 before now says =
@@ -134,37 +112,6 @@ module _ {S O R Q A : Type 0} (of : ValueType S O R Q A) (address : List ℕ →
   look_ran which old new aside status l g0 g1 look w leaves =
       ([], w.0, Consumes-nil l, w.1, (record { wrote = (refl, w.2); leaves = leaves; refused = λ refused. leaves.any_moment }, refl))
 
-  pub clients_ran : (which : Which) (old new aside : D) (status : Status) (l g0 g1 : Option (List ℕ)) (clients : ClientsGiven)
-      → Answers (RanTogether disk.may_leave of address (disk.contents old) clients new) (SaysUnopened of address (disk.contents old)) status g0 g1
-      → ((store : Stored O R) → Holds disk.contents disk.may_leave of.meaning address old store → LeftTogether disk.may_leave of address store clients status new)
-      → ((files : Files) → disk.contents old ≡ Some files → ReadsAsNone of.kind of.meaning address files → LeavesAsBefore disk old new)
-      → (status ≡ StoreRefused → LeavesAsBefore disk old new)
-      → Exchanges l l g0 g1 (RanChosen disk of address (Clients clients) which old new aside aside l status)
-  clients_ran which old new aside status l g0 g1 clients w crashes none refused =
-      let told = disk.contents old in
-      let Ran_so : List ℕ → Type 0 = RanTogether disk.may_leave of address told clients new in (
-        [],
-        w.0,
-        Consumes-nil l,
-        w.1,
-        (
-          record {
-            wrote = (
-              refl,
-              wrote_map Ran_so (SaysUnopened of address told) (SaysTogether of address told clients) (SaysUnopened of address told)
-                  (says_ran disk.may_leave of address told clients new) (λ whole is. is) status w.0 w.2,
-            );
-            leaves = record {
-              ran = λ done. subst (λ (s : Status). WroteOnce Ran_so (SaysUnopened of address told) s w.0) done w.2;
-              crashes = crashes;
-              none = none;
-            };
-            refused = refused;
-          },
-          refl,
-        ),
-      )
-
 module _ (address : List ℕ → List ℕ) {D : Type 0} (disk : Ghosts D)
     (only_now : (d : D) (c : Files) → disk.left_since d (disk.moment d) c → disk.may_leave d c) where
   -- nothing was done
@@ -197,14 +144,8 @@ module _ (address : List ℕ → List ℕ) {D : Type 0} (disk : Ghosts D)
   -- for want of memory to read the words
   idle_over : (old : Disks D) (l : Option (List ℕ)) (command : Said) → RanOverBoth disk address command old old l Memory [] []
   idle_over old l (Init n) = (refl, idle_init_for n n.sequences old)
-  idle_over old l Script = inl (idle old Memory (inr refl))
-  idle_over old l (Look look) = inl (idle old Memory (inr refl))
-  idle_over old l (Generate work) = inl (idle old Memory (inr refl))
-  idle_over old l (Clients clients) = inl (idle old Memory (inr refl))
-  idle_over old l Upgrade = inl (idle old Memory (inr refl))
-  idle_over old l Compact = inl (idle old Memory (inr refl))
-  idle_over old l (Receive name) = inl (idle old Memory (inr refl))
   idle_over old l Help = (refl, refl)
+  idle_over old l command = inl (idle old Memory (inr refl))
 
   pub both_memory : (old : Disks D) (l g : Option (List ℕ)) (command : Said)
       → Exchanges l l g g (RanOverBoth disk address command old old l Memory)

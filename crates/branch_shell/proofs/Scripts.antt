@@ -5,9 +5,7 @@ use Rattle.std.specs.Io.KnownBytes.{Keeps}
 use Rattle.std.proofs.KnownBytes.{Appends-kept}
 use Rattle.branch_disk.specs.declared.disk.Disk.{Ghosts}
 use Rattle.branch_disk.specs.Disk.{Files}
-use Rattle.branch_files.specs.Reading.{Opens}
 use Rattle.branch_script.specs.Lines.{lines_of}
-use Rattle.branch_names.specs.declared.terms.Terms.{Terms}
 use Rattle.branch_command.specs.Commands.{Script}
 use Rattle.branch_engine.specs.Play.{begins, text_from, after_from}
 use Rattle.branch_shell.specs.declared.status.Status.{Status}
@@ -18,12 +16,11 @@ use Rattle.branch_shell.specs.Once.{WroteOnce}
 use Rattle.branch_shell.specs.Documents.{fixed_of, script_text, SaysUnopened}
 use Rattle.branch_shell.specs.Disks.{LeavesAsBefore}
 use Rattle.branch_shell.specs.Ran.{HoldsStore, LeavesScript, Ran}
-use Rattle.branch_shell.specs.Statuses.{WroteOver, WroteOf, Holds, Runs, TellsWholeLines, TellsPart}
+use Rattle.branch_shell.specs.Statuses.{WroteOver, WroteOf, Runs, TellsWholeLines, TellsPart}
 use Rattle.branch_shell.proofs.Told.{whole_part, text_from-append}
 use Rattle.branch_shell.proofs.Ends.{script_text-is}
 use Rattle.branch_shell.proofs.Opening.{for_its_kind, store_read, failed}
 use Rattle.branch_shell.specs.Values.{ValueType}
-use Rattle.branch_history.specs.declared.moves.Move.{Move}
 
 pub exchanges_map : (l0 l1 g0 g1 : Option (List ℕ)) (P Q : List ℕ → List ℕ → Type 0) → ((input text : List ℕ) → P input text → Q input text) → Exchanges l0 l1 g0 g1 P → Exchanges l0 l1 g0 g1 Q
 exchanges_map l0 l1 g0 g1 P Q f e = (e.0, e.1, e.2, e.3, f e.0 e.1 e.4)
@@ -76,16 +73,6 @@ module _ {S O R Q A : Type 0} (of : ValueType S O R Q A) (address : List ℕ →
     pub finished : (store : Stored O R) (old new : D) (l0 l1 g0 g1 g2 : Option (List ℕ)) (status : Status) → Keeps g1 g2 → Exchanges l0 l1 g0 g1 (Runs may_leave moment left_since of address store old new l1 status)
         → Exchanges l0 l1 g0 g2 (Runs may_leave moment left_since of address store old new l1 status)
     finished store old new l0 l1 g0 g1 g2 status keeps e = (e.0, e.1, e.2, Appends-kept g0 g1 g2 e.1 e.3 keeps, e.4)
-
-    abbrev stored : Terms → List (Move O R) → Stored O R
-    stored terms history = record { terms = terms; history = history }
-
-    pub same_store : (disk : D) (store found : Stored O R) → Holds contents may_leave of.meaning address disk store → IsOpenedAs of.kind of.meaning address (contents disk) found → found ≡ store
-    same_store disk store found holds opened =
-        let same : Opens store.terms store.history ≡ Opens found.terms found.history = opened.only holds.files holds.told (Opens store.terms store.history) holds.reads in
-        let terms : found.terms ≡ store.terms = cc same in
-        let history : found.history ≡ store.history = cc same in
-        ap (λ (l : Terms). stored l found.history) terms ∙ ap (stored store.terms) history
 
   -- from the opening of the store on
   module _ {D : Type 0} (disk : Ghosts D)

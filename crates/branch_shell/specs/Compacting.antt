@@ -1,15 +1,16 @@
 -- Making the store of the compact history on the other disk, and switching to it: what is written,
 -- and what becomes of both disks.
-use Rattle.std.specs.Prelude.{◌≡◌, ◌≢◌, ◌⊎◌, ℕ, false, List, length}
+use Rattle.std.specs.Prelude.{◌≡◌, ◌≢◌, ◌⊎◌, ℕ, false, List, [], ◌∷◌, length}
 use Rattle.std.specs.declared.option.Option.{Option}
 use Rattle.branch_disk.specs.declared.disk.Disk.{Ghosts}
-use Rattle.branch_disk.specs.Disk.{Files}
+use Rattle.branch_disk.specs.Disk.{Files, LeavesOnly}
 use Rattle.branch_history.specs.declared.moves.Move.{Move}
 use Rattle.branch_compact.specs.Compact.{compact}
 use Rattle.branch_compact.specs.Switch.{current}
 use Rattle.branch_print.specs.Reports.{compacted_text}
 use Rattle.store_core.specs.Views.{StoreView}
 use Rattle.store_compact.specs.declared.answers.Which.{Which}
+use Rattle.store_compact.specs.declared.answers.Which.TheVariants.{First, Second}
 use Rattle.store_compact.specs.Compacting.{first_of, second_of, BothRead, ReadsEither, Compacts, HoldsCompact}
 use Rattle.branch_shell.specs.declared.status.Status.{Status}
 use Rattle.branch_shell.specs.declared.status.Status.TheVariants.{Done, StoreRefused}
@@ -47,13 +48,50 @@ pub record StaysAside {D : Type 0} (disk : Ghosts D) (held held_now other other_
   pub current : StaysSame disk held held_now
   pub aside : other_now ≡ other
 
--- The store was opened over this disk. From then on the two disks are in the stages of a compaction;
--- at the end they read as the history or as the compact one, and after `Done` as that, whose files
--- they have then.
+-- One of two disks goes on to a later state of it, and the other stays as it is.
+pub record Stage (D : Type 0) : Type 0 where
+  pub which : Which
+  pub to : D
+
+-- the first of two disks behind a stage, and the second
+abbrev pub first_after : {D : Type 0} → Which → D → D → D
+first_after First to first = to
+first_after Second to first = first
+
+abbrev pub second_after : {D : Type 0} → Which → D → D → D
+second_after First to second = second
+second_after Second to second = to
+
+-- at each moment of a stage, of each image of the one disk with each that the other may leave this is
+-- true
+abbrev pub LeavesPairs : {D : Type 0} → Ghosts D → (Files → Files → Type 0) → Which → D → D → D
+    → Type 0
+LeavesPairs disk P First to first second = LeavesOnly disk.moment disk.left_since first to
+    (λ f. (s : Files) → disk.may_leave second s → P f s)
+LeavesPairs disk P Second to first second = LeavesOnly disk.moment disk.left_since second to
+    (λ s. (f : Files) → disk.may_leave first f → P f s)
+
+-- two disks come by these stages, one behind the other, to what they are at the end, and at each
+-- moment this is true of each image of the one with each of the other
+abbrev pub GoInStages : {D : Type 0} → Ghosts D → (Files → Files → Type 0) → List (Stage D) → D → D
+    → D → D → Type 0
+GoInStages disk P [] first second first_end second_end =
+    (first_end ≡ first) × (second_end ≡ second)
+GoInStages disk P (stage ∷ stages) first second first_end second_end =
+    LeavesPairs disk P stage.which stage.to first second
+    × GoInStages disk P stages (first_after stage.which stage.to first)
+    (second_after stage.which stage.to second) first_end second_end
+
+-- The store was opened over this disk. From then on the two disks are in the stages of a compaction,
+-- in each of which they read as the history or as the compact one, whatever a crash leaves of both;
+-- so they do at the end, and after `Done` as the compact one, whose files they have then.
 pub record IsCompactedFrom {S O R Q A D : Type 0} (disk : Ghosts D) (of : ValueType S O R Q A)
     (address : List ℕ → List ℕ) (which : Which) (store : Stored O R)
     (opened other first second : D) (status : Status) : Type 0 where
   pub stages : Compacts disk of.meaning address which (view_of store opened) other first second
+  pub pairs : (all : List (Stage D)) × GoInStages disk
+      (λ f s. ReadsEither of.meaning address store.terms store.history (current f s)) all
+      (first_of which opened other) (second_of which opened other) first second
   pub either : (f s : Files) → disk.may_leave first f → disk.may_leave second s
       → ReadsEither of.meaning address store.terms store.history (current f s)
   pub complete : status ≡ Done → BothRead of.meaning address store.terms

@@ -12,7 +12,6 @@ pub mod Disks
 pub mod Bundling
 pub mod Looks
 pub mod Compacting
-pub mod Tasks
 pub mod Statuses
 pub mod Ran
 pub mod Alone

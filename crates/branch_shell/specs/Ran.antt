@@ -20,13 +20,13 @@ use Rattle.branch_shell.specs.declared.status.Status.TheVariants.{Done, StoreRef
 use Rattle.branch_shell.specs.Documents.{store_after}
 use Rattle.branch_shell.specs.Values.{ValueType, documents, documents_with_sequences}
 use Rattle.branch_shell.specs.Generated.{drawn_lines, HoldsAfterSome}
-use Rattle.branch_shell.specs.Statuses.{WroteOf, Holds, HoldsSome, HoldsAnswered}
+use Rattle.branch_shell.specs.Statuses.{WroteOf, HoldsSome, HoldsAnswered}
 use Rattle.branch_shell.specs.Once.{WroteOnce}
 use Rattle.branch_shell.specs.Stores.{Stored, ReadsAsStore, ReadsAsEmpty, ReadsAsNoneOrEmpty, SaysReady, SaysNotEmpty}
 use Rattle.branch_shell.specs.Disks.{Disks, held, other, LeavesAsBefore, StaysSame, AreChosen, NoneChosen}
 use Rattle.branch_shell.specs.Compacting.{RanCompact}
 use Rattle.store_compact.specs.declared.answers.Which.{Which}
-use Rattle.branch_shell.specs.Together.{RanTogether, LeftTogether}
+use Rattle.branch_shell.specs.Together.{RanTogether, SurvivesClients}
 use Rattle.branch_shell.specs.Upgrading.{RanUpgrade}
 use Rattle.branch_shell.specs.Bundling.{RanReceive}
 use Rattle.mrdt_old_doc.specs.OldDocument.{old_document}
@@ -107,19 +107,31 @@ pub record LeavesLooked {S O R Q A D : Type 0} (disk : Ghosts D) (of : ValueType
   pub keeps : status ≡ Done → (store : Stored O R) → HoldsStore disk of address old store
       → (c : Files) → disk.may_leave new c → ReadsAsStore of.meaning address store c
 
+-- What clients leave of a store that was opened at some moment: before it only what a crash might have
+-- left at the start, and from it on a part of the history that they came to.
+pub record LeavesShared {S O R Q A D : Type 0} (disk : Ghosts D) (of : ValueType S O R Q A)
+    (address : List ℕ → List ℕ) (store : Stored O R) (clients : ClientsGiven) (old new : D)
+    (status : Status) : Type 0 where
+  pub opened : D
+  pub before : LeavesAsBefore disk old opened
+  pub since : SurvivesClients disk of address store clients opened new status
+
+-- What a crash leaves of the disk of clients over a store: they failed to open it, or worked on it.
+abbrev pub LeavesClients : {S O R Q A D : Type 0} → Ghosts D → ValueType S O R Q A
+    → (List ℕ → List ℕ) → Stored O R → ClientsGiven → D → D → Status → List ℕ → List ℕ → Type 0
+LeavesClients disk of address store clients old new status input text =
+    FailsToOpen disk old new status input text
+    ⊎ LeavesShared disk of address store clients old new status
+
 -- What clients leave: after `Done` the store with the history whose report was written; and however
--- they end the store with the history that it came to by them, or after a fault of the disk with one
--- move more.
+-- they end, at each moment a part of the history that they came to.
 pub record LeavesTogether {S O R Q A D : Type 0} (disk : Ghosts D) (of : ValueType S O R Q A)
     (address : List ℕ → List ℕ) (clients : ClientsGiven) (old new : D) (status : Status)
-    (text : List ℕ) : Type 0 where
+    (input text : List ℕ) : Type 0 where
   pub ran : status ≡ Done
       → RanTogether disk.may_leave of address (disk.contents old) clients new text
-  pub crashes : (store : Stored O R)
-      → Holds disk.contents disk.may_leave of.meaning address old store
-      → LeftTogether disk.may_leave of address store clients status new
-  pub none : (files : Files) → disk.contents old ≡ Some files
-      → ReadsAsNone of.kind of.meaning address files → LeavesAsBefore disk old new
+  pub leaves : LeavesStore disk of address old new
+      (λ store. LeavesClients disk of address store clients old new status input text)
 
 -- what a crash leaves of the disk of a command over one disk, with values of this type
 abbrev pub Leaves : {S O R Q A D : Type 0} → Ghosts D → ValueType S O R Q A → (List ℕ → List ℕ)
@@ -133,7 +145,7 @@ Leaves disk of address (Generate work) old new left status input text =
     LeavesStore disk of address old new
     (λ store. LeavesWork disk of address store (drawn_lines work) old new status input text)
 Leaves disk of address (Clients clients) old new left status input text =
-    LeavesTogether disk of address clients old new status text
+    LeavesTogether disk of address clients old new status input text
 Leaves disk of address (Init numbers) old new left status input text = ⊥
 Leaves disk of address Upgrade old new left status input text = ⊥
 Leaves disk of address Compact old new left status input text = ⊥

@@ -3,7 +3,6 @@ use Rattle.std.specs.Prelude.{◌≡◌, ℕ, ◌^◌, ◌<◌, ◌≤◌, ◌�
 use Rattle.std.specs.declared.option.Option.{Option}
 use Rattle.std.specs.Option.{ForSome}
 use Rattle.std.specs.Io.KnownBytes.{IsAtEnd}
-use Rattle.mrdt_model.specs.Laws.{Meaning}
 use Rattle.branch_disk.specs.Disk.{Files, LeavesOnly}
 use Rattle.branch_script.specs.Lines.{lines_of}
 use Rattle.branch_engine.specs.Play.{begins}
@@ -104,15 +103,6 @@ abbrev pub Wrote : (List ℕ → List ℕ) → Said → Option Files → Option 
     → List ℕ → Type 0
 Wrote address command told left status input text = (values : Values)
     × ForSome told (HaveValues values) × WroteBy values address command told left status input text
-
--- at the start the disk tells files that read as the store, and so does each image
-pub record Holds {S O R Q A D : Type 0} (contents : D → Option Files)
-    (may_leave : D → Files → Type 0) (meaning : Meaning S O R Q A) (address : List ℕ → List ℕ)
-    (disk : D) (store : Stored O R) : Type 0 where
-  pub files : Files
-  pub told : contents disk ≡ Some files
-  pub reads : ReadsAsStore meaning address store files
-  pub images : (c : Files) → may_leave disk c → ReadsAsStore meaning address store c
 
 -- the files read as the store after some of the lines that were read
 abbrev pub HoldsSome : {S O R Q A : Type 0} → ValueType S O R Q A → (List ℕ → List ℕ) → Stored O R

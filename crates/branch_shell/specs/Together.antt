@@ -1,8 +1,9 @@
 -- Clients that work side by side on one store: what is written of them, and what a crash leaves.
-use Rattle.std.specs.Prelude.{◌≡◌, ℕ, ◌+◌, ◌⊎◌, List, [], ◌∷◌, ◌++◌, codes, length, slice_get, Some, None, option_map}
+use Rattle.std.specs.Prelude.{◌≡◌, ◌≢◌, ℕ, ◌+◌, ◌≤◌, ◌⊎◌, List, [], ◌∷◌, ◌++◌, codes, length, slice_get, Some, None, option_map}
 use Rattle.std.specs.declared.option.Option.{Option}
 use mathlib.Core.List.{IsPrefix}
-use Rattle.branch_disk.specs.Disk.{Files}
+use Rattle.branch_disk.specs.declared.disk.Disk.{Ghosts}
+use Rattle.branch_disk.specs.Disk.{Files, LeavesOnly}
 use Rattle.branch_history.specs.declared.moves.Move.{Move}
 use Rattle.branch_history.specs.Steps as machine
 use Rattle.branch_machine.specs.Validity.{IsFullyValid}
@@ -106,17 +107,30 @@ RanTogether {S} {O} {R} may_leave of address told clients new text = (store : St
 abbrev pub CameTogether : {S O R Q A : Type 0} → ValueType S O R Q A → (List ℕ → List ℕ) → Stored O R → Clients → List (Move O R) → Type 0
 CameTogether of address store clients history = (history ≡ store.history) ⊎ ((outcomes : List Outcome) × WorkedTogether of address store clients history outcomes)
 
--- the files read as the store with this history; or with more moves behind it, where the disk failed
-abbrev pub ReadsUpTo : {S O R Q A : Type 0} → ValueType S O R Q A → (List ℕ → List ℕ) → Stored O R → List (Move O R) → Status → Files → Type 0
-ReadsUpTo {S} {O} {R} of address store history status c =
-    ReadsAsStore of.meaning address (with_history store history) c
-    ⊎ ((status ≡ DiskFault) × ((more : List (Move O R)) × ReadsAsStore of.meaning address (with_history store (history ++ more)) c))
+-- The files read as the store with a part of a history, from its beginning on, that has at least the store's own.
+pub record ReadsFrom {S O R Q A : Type 0} (of : ValueType S O R Q A) (address : List ℕ → List ℕ) (store : Stored O R) (history : List (Move O R)) (c : Files) : Type 0 where
+  pub moves : List (Move O R)
+  pub begins : IsPrefix store.history moves
+  pub within : IsPrefix moves history
+  pub reads : ReadsAsStore of.meaning address (with_history store moves) c
 
--- However clients ended, each image of the disk reads as the store with the history that it came to by them.
-pub record LeftTogether {S O R Q A D : Type 0} (may_leave : D → Files → Type 0) (of : ValueType S O R Q A) (address : List ℕ → List ℕ) (store : Stored O R) (clients : Clients) (status : Status) (new : D) : Type 0 where
+-- The files read as the store with this history, and behind it the first of more moves: none of them, some or all.
+abbrev pub ReadsWithFirst : {S O R Q A : Type 0} → ValueType S O R Q A → (List ℕ → List ℕ) → Stored O R → List (Move O R) → List (Move O R) → Files → Type 0
+ReadsWithFirst {S} {O} {R} of address store history more c =
+    (first : List (Move O R)) × IsPrefix first more × ReadsAsStore of.meaning address (with_history store (history ++ first)) c
+
+-- What a crash leaves from the moment on when a store was opened on which clients work. They came to one history, however they ended. Behind it there may be a tail of
+-- at most 64 moves that are valid there: none but after a fault of the disk. At each moment an image has a part of these moves with at least those that the store had;
+-- and at the end the whole history, with the first moves of the tail.
+pub record SurvivesClients {S O R Q A D : Type 0} (disk : Ghosts D) (of : ValueType S O R Q A) (address : List ℕ → List ℕ) (store : Stored O R) (clients : Clients) (opened new : D) (status : Status) : Type 0 where
   pub history : List (Move O R)
+  pub tail : List (Move O R)
   pub came : CameTogether of address store clients history
-  pub reads : (c : Files) → may_leave new c → ReadsUpTo of address store history status c
+  pub none : status ≢ DiskFault → tail ≡ []
+  pub few : length tail ≤ 64
+  pub valid : IsFullyValid (fixed_for of.meaning address store) (history ++ tail)
+  pub any_moment : LeavesOnly disk.moment disk.left_since opened new (ReadsFrom of address store (history ++ tail))
+  pub at_end : (c : Files) → disk.may_leave new c → ReadsWithFirst of address store history tail c
 
 -- a client's step was not refused for a branch that is not there
 abbrev pub FindsBranch : ClientRefusal → Type 0

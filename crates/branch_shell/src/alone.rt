@@ -13,11 +13,11 @@ use crate::answer::say;
 use crate::current::run_task;
 use crate::init::init_for;
 use crate::status::Status;
-use crate::task::Task;
 use branch_address::Address;
 use branch_command::{Command, CommandRefused, read_command};
 use branch_disk::Disk;
 use branch_io::{Sink, Source};
+use branch_progress::Listener;
 use client_runs::Work as ClientWork;
 use mrdt_model::Memory;
 use std::alloc::Global;
@@ -105,13 +105,17 @@ fn read_alone(alloc: Global, words: &[String]) -> Result<Command, CommandRefused
 /// disk it leaves as it was. Of `receive` a crash leaves the store with the moves of a first part of the bundle, in order,
 /// and after `Done` with all and with the branch. While `compact` writes the other disk, the two read as the history;
 /// while the one byte is written, and after a fault, as that or as the compact history; and after `Done` as this.
-pub fn run_alone<S: Source, K: Sink, D: Disk + Drop, A: Address>(
+///
+/// The listener hears of each record that is read back when a store is opened, of each line of `script` and of `generate`
+/// once it was run, and how many items of a bundle were received. It changes nothing.
+pub fn run_alone<S: Source, K: Sink, D: Disk + Drop, A: Address, L: Listener>(
     alloc: Global,
     words: &[String],
     source: &mut S,
     sink: &mut K,
     disk: D,
     second: D,
+    listener: &mut L,
 ) -> (Status, D, D)
     ensures usage { result.0 ≡ Status.Usage → command_alone (map string_bytes words.now) ≡ None }
     ensures unsaid { command_alone (map string_bytes words.now) ≡ None
@@ -155,28 +159,11 @@ pub fn run_alone<S: Source, K: Sink, D: Disk + Drop, A: Address>(
 {
     match read_alone(alloc, words) {
         Ok(Command::Init(terms)) => { init_for::<K, D, A>(alloc, terms, sink, disk, second) }
-        Ok(Command::Script) => {
-            run_task::<S, K, D, A>(alloc, Task::Script, source, sink, disk, second)
-        }
-        Ok(Command::Look(look)) => {
-            run_task::<S, K, D, A>(alloc, Task::Look(look), source, sink, disk, second)
-        }
-        Ok(Command::Generate { steps, number }) => {
-            let task = Task::Generate { steps, number };
-            run_task::<S, K, D, A>(alloc, task, source, sink, disk, second)
-        }
         Ok(Command::Clients { .. }) => unreachable!(),
-        Ok(Command::Upgrade) => {
-            run_task::<S, K, D, A>(alloc, Task::Upgrade, source, sink, disk, second)
-        }
-        Ok(Command::Compact) => {
-            run_task::<S, K, D, A>(alloc, Task::Compact, source, sink, disk, second)
-        }
-        Ok(Command::Receive(named)) => {
-            let task = Task::Receive { name: named.name };
-            run_task::<S, K, D, A>(alloc, task, source, sink, disk, second)
-        }
         Ok(Command::Tell(text)) => (say(sink, text.as_bytes(), Status::Done), disk, second),
+        Ok(command) => {
+            run_task::<S, K, D, A, L>(alloc, command, source, sink, disk, second, listener)
+        }
         Err(CommandRefused::Usage) => (Status::Usage, disk, second),
         Err(CommandRefused::Memory) => (Status::Memory, disk, second),
     }

@@ -18,6 +18,7 @@ use branch_address::Address;
 use branch_disk::Disk;
 use branch_io::Sink;
 use branch_print::reports::put_compacted;
+use branch_progress::Listener;
 use mrdt_old_doc::Doc1;
 use std::alloc::Global;
 use store_compact::{CompactRefused, Compacted, Which, compact};
@@ -109,13 +110,14 @@ fn compact_over<T: Kinded, K: Sink, D: Disk + Drop, A: Address>(
 
 /// Opens the store that the current disk holds, makes the store of its compact history on the other disk, over what
 /// that holds, switches to it, and says how many moves stay, of how many. The current disk comes back in front of the
-/// other.
-pub(crate) fn run_compact<T: Kinded, K: Sink, D: Disk + Drop, A: Address>(
+/// other. The listener hears of the opening.
+pub(crate) fn run_compact<T: Kinded, K: Sink, D: Disk + Drop, A: Address, L: Listener>(
     alloc: Global,
     which: Which,
     sink: &mut K,
     held: D,
     other: D,
+    listener: &mut L,
 ) -> (Status, D, D)
     requires settled { IsSettled D.Disk other }
     requires aside { which ≡ Which.Second → ForSome (D.contents other) (IsCurrentBy which) }
@@ -139,7 +141,7 @@ pub(crate) fn run_compact<T: Kinded, K: Sink, D: Disk + Drop, A: Address>(
     ensures no_fault { result.0 ≡ Status.WriteFault
         → (D.faults result.1 ≡ D.faults held) × (D.faults result.2 ≡ D.faults other) }
 {
-    match open_store::<T, Doc1, D, A>(alloc, held) {
+    match open_store::<T, Doc1, D, A, L>(alloc, held, listener) {
         Ok(core) => compact_over(alloc, which, sink, core, other),
         Err((why, held)) => (refuse(alloc, sink, why), held, other),
     }

@@ -25,6 +25,7 @@ use branch_engine::{Engine, TellRefused};
 use branch_gen::script_text;
 use branch_io::Sink;
 use branch_print::summaries::{Summary, put_summary};
+use branch_progress::{Listener, Progress};
 use mrdt_model::Memory;
 use mrdt_old_doc::Doc1;
 use std::alloc::Global;
@@ -69,11 +70,12 @@ fn count_line<T: Kinded, D: Disk + Drop, A: Address>(
     Ok(())
 }
 
-// Tells the lines of a text, and counts their replies.
-fn count_lines<T: Kinded, D: Disk + Drop, A: Address>(
+// Tells the lines of a text, and counts their replies. The listener hears how many there are.
+fn count_lines<T: Kinded, D: Disk + Drop, A: Address, L: Listener>(
     alloc: Global,
     engine: &mut Engine<T, D, A>,
     text: &[u8],
+    listener: &mut L,
 ) -> Result<Summary, Status>
     requires working { engine.old.core.failed ≡ false }
     requires ended { IsWholeLines text.now }
@@ -97,16 +99,20 @@ fn count_lines<T: Kinded, D: Disk + Drop, A: Address>(
     while let Some((line, behind)) = first_line(rest, 0) {
         count_line(engine, &mut summary, &mut reply, line)?;
         rest = behind;
+        listener.hear(Progress::Lines {
+            lines: summary.lines,
+        });
     }
     Ok(summary)
 }
 
 // Tells the lines that are drawn from a number, and counts their replies.
-fn count_drawn<T: Kinded, D: Disk + Drop, A: Address>(
+fn count_drawn<T: Kinded, D: Disk + Drop, A: Address, L: Listener>(
     alloc: Global,
     engine: &mut Engine<T, D, A>,
     steps: u64,
     number: u64,
+    listener: &mut L,
 ) -> Result<Summary, Status>
     requires working { engine.old.core.failed ≡ false }
     ensures told { OnOk result (TellsLines D.may_leave D.moment D.left_since
@@ -124,7 +130,7 @@ fn count_drawn<T: Kinded, D: Disk + Drop, A: Address>(
         (D.faults engine.new.core.disk)) }
 {
     let text = script_text(alloc, steps, number)?;
-    count_lines(alloc, engine, text.as_slice())
+    count_lines(alloc, engine, text.as_slice(), listener)
 }
 
 // Writes what came of a run, and then the report of the store.
@@ -162,12 +168,13 @@ fn say_work<T: Kinded, K: Sink, D: Disk + Drop, A: Address>(
 }
 
 // Runs the lines that are drawn from a number over a store that was opened, and hands its disk back.
-fn work_over<T: Kinded, K: Sink, D: Disk + Drop, A: Address>(
+fn work_over<T: Kinded, K: Sink, D: Disk + Drop, A: Address, L: Listener>(
     alloc: Global,
     core: Core<T, D, A>,
     steps: u64,
     number: u64,
     sink: &mut K,
+    listener: &mut L,
 ) -> (Status, D)
     requires working { core.failed ≡ false }
     ensures wrote { Answers (λ whole. whole
@@ -186,7 +193,7 @@ fn work_over<T: Kinded, K: Sink, D: Disk + Drop, A: Address>(
     ensures no_fault { result.0 ≡ Status.WriteFault → D.faults result.1 ≡ D.faults core.disk }
 {
     let mut engine = Engine::new(alloc, core);
-    match count_drawn(alloc, &mut engine, steps, number) {
+    match count_drawn(alloc, &mut engine, steps, number, listener) {
         Ok(summary) => (
             say_work(alloc, sink, &summary, engine.core()),
             engine.close(),
@@ -196,13 +203,15 @@ fn work_over<T: Kinded, K: Sink, D: Disk + Drop, A: Address>(
 }
 
 /// Runs the lines that are drawn from a number over the store that the disk holds, and says what came of them and the
-/// report of the store after them. Nothing is given to the sink before the last line was told.
-pub(crate) fn run_generate<T: Kinded, K: Sink, D: Disk + Drop, A: Address>(
+/// report of the store after them. Nothing is given to the sink before the last line was told. The listener hears of the
+/// opening, and of each line.
+pub(crate) fn run_generate<T: Kinded, K: Sink, D: Disk + Drop, A: Address, L: Listener>(
     alloc: Global,
     steps: u64,
     number: u64,
     sink: &mut K,
     disk: D,
+    listener: &mut L,
 ) -> (Status, D)
     ensures ran { (left : Option (List ℕ))
         → Exchanges left left (K.given sink.old) (K.given sink.new)
@@ -214,8 +223,8 @@ pub(crate) fn run_generate<T: Kinded, K: Sink, D: Disk + Drop, A: Address>(
     // Where the sink failed, the disk did not.
     ensures no_fault { result.0 ≡ Status.WriteFault → D.faults result.1 ≡ D.faults disk }
 {
-    match open_store::<T, Doc1, D, A>(alloc, disk) {
-        Ok(core) => work_over(alloc, core, steps, number, sink),
+    match open_store::<T, Doc1, D, A, L>(alloc, disk, listener) {
+        Ok(core) => work_over(alloc, core, steps, number, sink, listener),
         Err((why, disk)) => (refuse(alloc, sink, why), disk),
     }
 }

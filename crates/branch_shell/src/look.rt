@@ -30,6 +30,7 @@ use branch_io::Sink;
 use branch_log::{put_branch, put_commits, put_log};
 use branch_print::pieces::{put_count, put_text};
 use branch_print::sent::{put_address, put_refused_unknown};
+use branch_progress::Listener;
 use branch_show::{Asked, put_document, put_json};
 use mrdt_model::{Memory, Mrdt};
 use std::alloc::Global;
@@ -326,12 +327,14 @@ fn tell_look<T: Kinded, K: Sink, D: Disk + Drop, A: Address>(
     }
 }
 
-/// Opens the store that the disk holds and tells what is looked at. It writes nothing to the disk.
-pub(crate) fn run_look<T: Kinded, U: Mrdt, K: Sink, D: Disk + Drop, A: Address>(
+/// Opens the store that the disk holds and tells what is looked at. It writes nothing to the disk. The listener hears of
+/// the opening.
+pub(crate) fn run_look<T: Kinded, U: Mrdt, K: Sink, D: Disk + Drop, A: Address, L: Listener>(
     alloc: Global,
     look: &Look,
     sink: &mut K,
     disk: D,
+    listener: &mut L,
 ) -> (Status, D)
     ensures wrote { Answers
         (SaysLook (value_type T.meaning T.forms T.KIND) A.address (D.contents disk) look.now)
@@ -349,7 +352,7 @@ pub(crate) fn run_look<T: Kinded, U: Mrdt, K: Sink, D: Disk + Drop, A: Address>(
     ensures no_fault { result.0 ≡ Status.WriteFault → D.faults result.1 ≡ D.faults disk }
 {
     reads_what_stands::<T>();
-    match open_store::<T, U, D, A>(alloc, disk) {
+    match open_store::<T, U, D, A, L>(alloc, disk, listener) {
         Ok(core) => (tell_look(alloc, look, sink, &core), core.close()),
         Err((why, disk)) => (refuse(alloc, sink, why), disk),
     }

@@ -27,6 +27,7 @@ use branch_print::sent::{
     put_refused_full_branches, put_refused_full_commits, put_refused_full_moves,
     put_refused_own_origin, put_refused_taken, put_refused_time_clash, put_refused_too_large,
 };
+use branch_progress::Listener;
 use branch_receipts::laws::{accepts_sent, keeps_on_the_way, keeps_received};
 use mrdt_model::Mrdt;
 use std::alloc::Global;
@@ -139,12 +140,13 @@ fn say_taken<K: Sink>(alloc: Global, sink: &mut K, number: u32) -> Status
 }
 
 // Receives bytes that were read, under a name that no branch has, and closes the store.
-fn receive_read<T: Mrdt, K: Sink, D: Disk + Drop, A: Address>(
+fn receive_read<T: Mrdt, K: Sink, D: Disk + Drop, A: Address, L: Listener>(
     alloc: Global,
     name: Name,
     bytes: Vec<u8>,
     sink: &mut K,
     core: Core<T, D, A>,
+    listener: &mut L,
 ) -> (Status, D)
     requires working { core.failed ≡ false }
     requires free { branch_named (store_of core.terms.origin core.history).branches name ≡ None }
@@ -171,19 +173,20 @@ fn receive_read<T: Mrdt, K: Sink, D: Disk + Drop, A: Address>(
     let mut core = core;
     // It is a valid history: its count tells the proof so.
     let _moves = core.moves();
-    match receive_bytes(alloc, &mut core, bytes, name) {
+    match receive_bytes(alloc, &mut core, bytes, name, listener) {
         Ok(placed) => (say_received(alloc, sink, placed), core.close()),
         Err(why) => (refuse_received(alloc, sink, &why), core.close()),
     }
 }
 
 // Reads the source, and receives what it holds, under a name that no branch has.
-fn receive_from<T: Mrdt, S: Source, K: Sink, D: Disk + Drop, A: Address>(
+fn receive_from<T: Mrdt, S: Source, K: Sink, D: Disk + Drop, A: Address, L: Listener>(
     alloc: Global,
     name: Name,
     source: &mut S,
     sink: &mut K,
     core: Core<T, D, A>,
+    listener: &mut L,
 ) -> (Status, D)
     requires working { core.failed ≡ false }
     requires free { branch_named (store_of core.terms.origin core.history).branches name ≡ None }
@@ -208,18 +211,19 @@ fn receive_from<T: Mrdt, S: Source, K: Sink, D: Disk + Drop, A: Address>(
 {
     reads_what_stands::<T>();
     match read_all(alloc, source) {
-        Ok(bytes) => receive_read(alloc, name, bytes, sink, core),
+        Ok(bytes) => receive_read(alloc, name, bytes, sink, core, listener),
         Err(status) => (status, core.close()),
     }
 }
 
 // Receives what the source holds into a store that was opened. Where a branch has the name the source is not looked at.
-fn receive_opened<T: Mrdt, S: Source, K: Sink, D: Disk + Drop, A: Address>(
+fn receive_opened<T: Mrdt, S: Source, K: Sink, D: Disk + Drop, A: Address, L: Listener>(
     alloc: Global,
     name: Name,
     source: &mut S,
     sink: &mut K,
     core: Core<T, D, A>,
+    listener: &mut L,
 ) -> (Status, D)
     requires working { core.failed ≡ false }
     ensures ran { Exchanges (S.left source.old) (S.left source.new) (K.given sink.old)
@@ -243,20 +247,23 @@ fn receive_opened<T: Mrdt, S: Source, K: Sink, D: Disk + Drop, A: Address>(
 {
     match head_named(&core, &name) {
         Ok(Some(at)) => (say_taken(alloc, sink, at.0), core.close()),
-        Ok(None) => receive_from(alloc, name, source, sink, core),
+        Ok(None) => receive_from(alloc, name, source, sink, core, listener),
         Err(_) => (Status::Memory, core.close()),
     }
 }
 
 /// Opens the store that the disk holds, reads the source to its end, receives the bundle that it holds, and makes a
-/// branch of a name at its tip. Where a branch has the name the source is not looked at.
-pub(crate) fn run_receive<T: Kinded, U: Mrdt, S: Source, K: Sink, D: Disk + Drop, A: Address>(
-    alloc: Global,
-    name: Name,
-    source: &mut S,
-    sink: &mut K,
-    disk: D,
-) -> (Status, D)
+/// branch of a name at its tip. Where a branch has the name the source is not looked at. The listener hears of the opening,
+/// and of the items.
+pub(crate) fn run_receive<
+    T: Kinded,
+    U: Mrdt,
+    S: Source,
+    K: Sink,
+    D: Disk + Drop,
+    A: Address,
+    L: Listener,
+>(alloc: Global, name: Name, source: &mut S, sink: &mut K, disk: D, listener: &mut L) -> (Status, D)
     ensures ran { Exchanges (S.left source.old) (S.left source.new) (K.given sink.old)
         (K.given sink.new)
         (RanReceive D.Disk T.KIND T.meaning U.meaning A.address name disk result.1
@@ -272,8 +279,8 @@ pub(crate) fn run_receive<T: Kinded, U: Mrdt, S: Source, K: Sink, D: Disk + Drop
     ensures no_fault { result.0 ≡ Status.WriteFault → (S.faults source.new ≡ S.faults source.old)
         × (D.faults result.1 ≡ D.faults disk) }
 {
-    match open_store::<T, U, D, A>(alloc, disk) {
-        Ok(core) => receive_opened(alloc, name, source, sink, core),
+    match open_store::<T, U, D, A, L>(alloc, disk, listener) {
+        Ok(core) => receive_opened(alloc, name, source, sink, core, listener),
         Err((why, disk)) => (refuse(alloc, sink, why), disk),
     }
 }

@@ -18,12 +18,14 @@ ghost use Rattle.branch_shell.specs.Ran.{Ran};
 
 use crate::answer::refuse;
 use crate::kinded::Kinded;
+use crate::lines::LineCount;
 use crate::status::Status;
 use crate::unopened::open_store;
 use branch_address::Address;
 use branch_disk::Disk;
 use branch_engine::{Engine, TellRefused};
 use branch_io::{Sink, SinkFailed, Source, SourceFailed};
+use branch_progress::Listener;
 use mrdt_old_doc::Doc1;
 use std::alloc::Global;
 use store_core::Core;
@@ -48,12 +50,14 @@ pub(crate) fn give_all<K: Sink>(sink: &mut K, text: &[u8]) -> Result<(), SinkFai
     Ok(())
 }
 
-// Tells one line, and gives its reply.
-fn tell_line<T: Kinded, K: Sink, D: Disk + Drop, A: Address>(
+// Tells one line, and gives its reply. Then it counts as one more that was run.
+fn tell_line<T: Kinded, K: Sink, D: Disk + Drop, A: Address, L: Listener>(
     alloc: Global,
     engine: &mut Engine<T, D, A>,
     sink: &mut K,
     line: &[u8],
+    count: &mut LineCount,
+    listener: &mut L,
 ) -> Result<(), Status>
     requires working { engine.old.core.failed ≡ false }
     ensures ok { OnOk result (TellsLines D.may_leave D.moment D.left_since
@@ -76,7 +80,10 @@ fn tell_line<T: Kinded, K: Sink, D: Disk + Drop, A: Address>(
         Err(TellRefused::Memory) => return Err(Status::Memory),
     }
     match give_all(sink, &reply) {
-        Ok(()) => Ok(()),
+        Ok(()) => {
+            count.hear_next(listener);
+            Ok(())
+        }
         Err(SinkFailed) => Err(Status::WriteFault),
     }
 }
@@ -104,12 +111,14 @@ pub(crate) fn first_line(bytes: &[u8], known: usize) -> Option<(&[u8], &[u8])>
 }
 
 // Tells the whole lines, and says what is behind the last. The first `known` bytes hold no line end.
-fn tell_whole_lines<'a, T: Kinded, K: Sink, D: Disk + Drop, A: Address>(
+fn tell_whole_lines<'a, T: Kinded, K: Sink, D: Disk + Drop, A: Address, L: Listener>(
     alloc: Global,
     engine: &mut Engine<T, D, A>,
     sink: &mut K,
     bytes: &'a [u8],
     known: usize,
+    count: &mut LineCount,
+    listener: &mut L,
 ) -> Result<&'a [u8], Status>
     requires working { engine.old.core.failed ≡ false }
     requires few { length bytes.now ≤ 4096 }
@@ -131,7 +140,7 @@ fn tell_whole_lines<'a, T: Kinded, K: Sink, D: Disk + Drop, A: Address>(
     let mut rest = bytes;
     let mut scanned = known;
     while let Some((line, behind)) = first_line(rest, scanned) {
-        tell_line(alloc, engine, sink, line)?;
+        tell_line(alloc, engine, sink, line, count, listener)?;
         rest = behind;
         scanned = 0;
     }
@@ -139,11 +148,13 @@ fn tell_whole_lines<'a, T: Kinded, K: Sink, D: Disk + Drop, A: Address>(
 }
 
 // Tells the last line, which has no end, if there is one.
-fn tell_last<T: Kinded, K: Sink, D: Disk + Drop, A: Address>(
+fn tell_last<T: Kinded, K: Sink, D: Disk + Drop, A: Address, L: Listener>(
     alloc: Global,
     engine: &mut Engine<T, D, A>,
     sink: &mut K,
     line: &[u8],
+    count: &mut LineCount,
+    listener: &mut L,
 ) -> Result<(), Status>
     requires working { engine.old.core.failed ≡ false }
     requires unended { HasNoLineEnd line.now }
@@ -162,7 +173,7 @@ fn tell_last<T: Kinded, K: Sink, D: Disk + Drop, A: Address>(
     if line.is_empty() {
         return Ok(());
     }
-    tell_line(alloc, engine, sink, line)
+    tell_line(alloc, engine, sink, line, count, listener)
 }
 
 /// Takes the next bytes from the source, at most `room`, behind the first `waiting` bytes of the buffer; 0 is the end.
@@ -198,11 +209,12 @@ fn move_to_front(buffer: &mut [u8], start: usize, end: usize)
 }
 
 // Tells the lines of the source to its end, or to what stops it.
-fn tell_all<T: Kinded, S: Source, K: Sink, D: Disk + Drop, A: Address>(
+fn tell_all<T: Kinded, S: Source, K: Sink, D: Disk + Drop, A: Address, L: Listener>(
     alloc: Global,
     engine: &mut Engine<T, D, A>,
     source: &mut S,
     sink: &mut K,
+    listener: &mut L,
 ) -> Result<(), Status>
     requires working { engine.old.core.failed ≡ false }
     ensures ran { (store : Stored T.Op T.Reply)
@@ -226,6 +238,7 @@ fn tell_all<T: Kinded, S: Source, K: Sink, D: Disk + Drop, A: Address>(
     let mut buffer = [0u8; LINE_LIMIT];
     let mut waiting: usize = 0;
     let mut read: u64 = 0;
+    let mut lines = LineCount::new();
     while read < INPUT_LIMIT {
         let left = INPUT_LIMIT - read;
         let room = (LINE_LIMIT - waiting).min(left as usize);
@@ -234,11 +247,26 @@ fn tell_all<T: Kinded, S: Source, K: Sink, D: Disk + Drop, A: Address>(
             Err(SourceFailed) => return Err(Status::ReadFault),
         };
         if count == 0 {
-            return tell_last(alloc, engine, sink, &buffer[..waiting]);
+            return tell_last(
+                alloc,
+                engine,
+                sink,
+                &buffer[..waiting],
+                &mut lines,
+                listener,
+            );
         }
         read += count as u64;
         let end = waiting + count;
-        let rest = tell_whole_lines(alloc, engine, sink, &buffer[..end], waiting)?;
+        let rest = tell_whole_lines(
+            alloc,
+            engine,
+            sink,
+            &buffer[..end],
+            waiting,
+            &mut lines,
+            listener,
+        )?;
         waiting = rest.len();
         if waiting >= LINE_LIMIT {
             return Err(Status::LineTooLong);
@@ -259,11 +287,12 @@ fn ended(outcome: Result<(), Status>) -> Status
 }
 
 // Runs a script over a store that was opened, and hands its disk back.
-fn run_opened<T: Kinded, S: Source, K: Sink, D: Disk + Drop, A: Address>(
+fn run_opened<T: Kinded, S: Source, K: Sink, D: Disk + Drop, A: Address, L: Listener>(
     alloc: Global,
     core: Core<T, D, A>,
     source: &mut S,
     sink: &mut K,
+    listener: &mut L,
 ) -> (Status, D)
     requires working { core.failed ≡ false }
     ensures ran { Exchanges (S.left source.old) (S.left source.new) (K.given sink.old)
@@ -297,7 +326,7 @@ fn run_opened<T: Kinded, S: Source, K: Sink, D: Disk + Drop, A: Address>(
         (S.left source.new) Status.DiskFault) }
 {
     let mut engine = Engine::new(alloc, core);
-    let outcome = tell_all(alloc, &mut engine, source, sink);
+    let outcome = tell_all(alloc, &mut engine, source, sink, listener);
     match sink.finish() {
         Ok(()) => (ended(outcome), engine.close()),
         Err(SinkFailed) => (Status::WriteFault, engine.close()),
@@ -305,12 +334,14 @@ fn run_opened<T: Kinded, S: Source, K: Sink, D: Disk + Drop, A: Address>(
 }
 
 /// Runs the lines that the source holds over the store that the disk holds, and gives the sink their replies, each
-/// before the next line is worked on. It takes from the source only when no whole line is left.
-pub(crate) fn run_script<T: Kinded, S: Source, K: Sink, D: Disk + Drop, A: Address>(
+/// before the next line is worked on. It takes from the source only when no whole line is left. The listener hears of the
+/// opening, and of each line behind its reply.
+pub(crate) fn run_script<T: Kinded, S: Source, K: Sink, D: Disk + Drop, A: Address, L: Listener>(
     alloc: Global,
     source: &mut S,
     sink: &mut K,
     disk: D,
+    listener: &mut L,
 ) -> (Status, D)
     ensures ran { Exchanges (S.left source.old) (S.left source.new) (K.given sink.old)
         (K.given sink.new) (Ran D.Disk (value_type T.meaning T.forms T.KIND) A.address SaidScript
@@ -334,8 +365,8 @@ pub(crate) fn run_script<T: Kinded, S: Source, K: Sink, D: Disk + Drop, A: Addre
         (WroteOf (value_type T.meaning T.forms T.KIND) A.address SaidScript (D.contents disk)
         (S.left source.new) Status.DiskFault) }
 {
-    match open_store::<T, Doc1, D, A>(alloc, disk) {
-        Ok(core) => run_opened(alloc, core, source, sink),
+    match open_store::<T, Doc1, D, A, L>(alloc, disk, listener) {
+        Ok(core) => run_opened(alloc, core, source, sink, listener),
         Err((why, disk)) => (refuse(alloc, sink, why), disk),
     }
 }

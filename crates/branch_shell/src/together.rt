@@ -1,20 +1,15 @@
 // Clients that work side by side on one store.
-ghost use Rattle.std.specs.Prelude.{◌≡◌, ◌≢◌, ◌++◌, [], ℕ, List, Some, OnOk, IfErr, IfSome, IsSome};
+ghost use Rattle.std.specs.Prelude.{◌≡◌, ◌≢◌, ◌++◌, [], ℕ, List, OnOk, IfErr, IfSome, IsSome, false};
 ghost use Rattle.std.specs.declared.option.Option.{Option};
 ghost use Rattle.std.specs.List.{AllByRecursion};
-ghost use Rattle.branch_disk.specs.Disk.{Files, LeavesOnly};
-ghost use Rattle.store_core.specs.Opens.{ReadsAsNone};
 ghost use Rattle.branch_command.specs.Commands.{Clients as SaidClients};
 ghost use Rattle.branch_shell.specs.Reading.{Exchanges};
 ghost use Rattle.store_compact.specs.declared.answers.Which.{Which as SpecWhich};
-ghost use Rattle.branch_shell.specs.Ran.{RanBy, RanOverBoth};
+ghost use Rattle.branch_shell.specs.Ran.{Ran, RanBy, RanOverBoth};
 ghost use Rattle.branch_shell.specs.Counts.{HasReason, HaveReason, SaysReason};
 ghost use Rattle.branch_shell.specs.Once.{Answers};
-ghost use Rattle.branch_shell.specs.Documents.{SaysUnopened};
-ghost use Rattle.branch_shell.specs.Stores.{Stored};
 ghost use Rattle.branch_shell.specs.Values.{value_type};
-ghost use Rattle.branch_shell.specs.Statuses.{Holds};
-ghost use Rattle.branch_shell.specs.Together.{FindsBranch, FindsAll, IsFault, TellsFault, SomeTellFault, StopsFor, TellsClients, RanOver, RanTogether, LeftTogether, client_line, client_lines, machine_refusal};
+ghost use Rattle.branch_shell.specs.Together.{FindsBranch, FindsAll, IsFault, TellsFault, SomeTellFault, StopsFor, TellsClients, RanOver, SurvivesClients, client_line, client_lines, machine_refusal};
 ghost use Rattle.branch_print.specs.Texts.{refusal_text, line_end};
 
 use crate::answer::{put_report, refuse, say};
@@ -26,11 +21,13 @@ use branch_address::Address;
 use branch_disk::{Disk, DiskFailed};
 use branch_files::laws::reads_what_stands;
 use branch_io::Sink;
+use branch_machine::laws::has_fully_valid_prefixes;
 use branch_print::clients::{put_client, put_client_done};
 use branch_print::refusals::{
     put_collision, put_dropped, put_exhausted, put_full_branches, put_full_commits, put_full_moves,
     put_keeps_main, put_too_large,
 };
+use branch_progress::Listener;
 use client_runs::{Finished, Work, run_on};
 use mrdt_doc::Doc;
 use mrdt_old_doc::Doc1;
@@ -146,17 +143,18 @@ fn together_over<
     R: Threads + Wait + Sync,
 >(rt: &R, alloc: Global, core: Core<T, D, A>, work: Work, sink: &mut K) -> (Status, D)
     requires fresh { core.opened ≡ core.disk }
+    requires working { core.failed ≡ false }
     ensures wrote { Answers (RanOver D.may_leave (value_type T.meaning T.forms T.KIND) A.address
         (record { terms = core.terms; history = core.history })
         (record { count = work.count; work = record { steps = work.steps; number = work.number } })
         result.1)
         (λ whole. ⊥) result.0 (K.given sink.old) (K.given sink.new) }
-    ensures survives { LeftTogether D.may_leave (value_type T.meaning T.forms T.KIND) A.address
+    ensures survives { SurvivesClients D.Disk (value_type T.meaning T.forms T.KIND) A.address
         (record { terms = core.terms; history = core.history })
         (record {
           count = work.count;
           work = record { steps = work.steps; number = work.number };
-        }) result.0 result.1 }
+        }) core.disk result.1 result.0 }
     ensures reason { (n : ℕ)
         → HasReason (record { source = n; sink = K.faults sink.old; disk = D.faults core.disk })
         (record { source = n; sink = K.faults sink.new; disk = D.faults result.1 }) result.0 }
@@ -164,6 +162,7 @@ fn together_over<
     ensures no_fault { result.0 ≡ Status.WriteFault → D.faults result.1 ≡ D.faults core.disk }
 {
     reads_what_stands::<T>();
+    has_fully_valid_prefixes::<T>();
     let Finished { core, outcomes } = run_on(rt, alloc, core, work);
     // Its clauses say what is known of a core.
     let _ = core.moves();
@@ -181,57 +180,49 @@ fn together_over<
 
 // Runs clients side by side over the store that the disk holds, with values of a type, each in a thread of its own as
 // far as threads are to be had, and says what became of each and the report of the store after them. Nothing is given
-// to the sink before all clients are done.
+// to the sink before all clients are done. The listener hears of the opening.
 fn run_together<
     T: Kinded + Send + Sync,
     K: Sink,
     D: Disk + Drop + Send,
     A: Address + Send,
     R: Threads + Wait + Sync,
->(rt: &R, alloc: Global, work: Work, sink: &mut K, disk: D) -> (Status, D)
-    ensures wrote { Answers (RanTogether D.may_leave (value_type T.meaning T.forms T.KIND) A.address
-        (D.contents disk)
-        (record { count = work.count; work = record { steps = work.steps; number = work.number } })
-        result.1)
-        (SaysUnopened (value_type T.meaning T.forms T.KIND) A.address (D.contents disk)) result.0
-        (K.given sink.old) (K.given sink.new) }
-    // However clients end, each image of the disk reads as the store with the history that it came to by them; where the
-    // disk failed, also as it with more moves behind it.
-    ensures crashes { (store : Stored T.Op T.Reply)
-        → Holds D.contents D.may_leave T.meaning A.address disk store
-        → LeftTogether D.may_leave (value_type T.meaning T.forms T.KIND) A.address store
-        (record {
+    L: Listener,
+>(rt: &R, alloc: Global, work: Work, sink: &mut K, disk: D, listener: &mut L) -> (Status, D)
+    ensures ran { (left : Option (List ℕ))
+        → Exchanges left left (K.given sink.old) (K.given sink.new)
+        (Ran D.Disk (value_type T.meaning T.forms T.KIND) A.address
+        (SaidClients (record {
           count = work.count;
           work = record { steps = work.steps; number = work.number };
-        }) result.0 result.1 }
-    // Where the files are refused, they read as no store, and a crash leaves only what it might have left at the start.
-    ensures refused { result.0 ≡ Status.StoreRefused
-        → LeavesOnly D.moment D.left_since disk result.1 (D.may_leave disk) }
-    ensures refused_only { result.0 ≡ Status.StoreRefused → (f : Files) → D.contents disk ≡ Some f
-        → ReadsAsNone T.KIND T.meaning A.address f }
-    ensures keeps { (f : Files) → D.contents disk ≡ Some f
-        → ReadsAsNone T.KIND T.meaning A.address f
-        → LeavesOnly D.moment D.left_since disk result.1 (D.may_leave disk) }
+        })) disk result.1 left result.0) }
     ensures reason { (n : ℕ)
         → HasReason (record { source = n; sink = K.faults sink.old; disk = D.faults disk })
         (record { source = n; sink = K.faults sink.new; disk = D.faults result.1 }) result.0 }
     // Where the sink failed, the disk did not.
     ensures no_fault { result.0 ≡ Status.WriteFault → D.faults result.1 ≡ D.faults disk }
 {
-    match open_store::<T, Doc1, D, A>(alloc, disk) {
+    match open_store::<T, Doc1, D, A, L>(alloc, disk, listener) {
         Ok(core) => together_over(rt, alloc, core, work, sink),
         Err((why, disk)) => (refuse(alloc, sink, why), disk),
     }
 }
 
 // Runs clients over the store that the disk holds, which has these values.
-fn run_values<K: Sink, D: Disk + Drop + Send, A: Address + Send, R: Threads + Wait + Sync>(
+fn run_values<
+    K: Sink,
+    D: Disk + Drop + Send,
+    A: Address + Send,
+    R: Threads + Wait + Sync,
+    L: Listener,
+>(
     rt: &R,
     alloc: Global,
     values: Values,
     work: Work,
     sink: &mut K,
     disk: D,
+    listener: &mut L,
 ) -> (Status, D)
     ensures ran { (left : Option (List ℕ)) (which : SpecWhich) (other : _)
         → Exchanges left left (K.given sink.old) (K.given sink.new)
@@ -248,8 +239,12 @@ fn run_values<K: Sink, D: Disk + Drop + Send, A: Address + Send, R: Threads + Wa
     ensures no_fault { result.0 ≡ Status.WriteFault → D.faults result.1 ≡ D.faults disk }
 {
     match values {
-        Values::Documents => run_together::<Doc, K, D, A, R>(rt, alloc, work, sink, disk),
-        Values::WithSequences => run_together::<Wide, K, D, A, R>(rt, alloc, work, sink, disk),
+        Values::Documents => run_together::<Doc, K, D, A, R, L>(
+            rt, alloc, work, sink, disk, listener,
+        ),
+        Values::WithSequences => run_together::<Wide, K, D, A, R, L>(
+            rt, alloc, work, sink, disk, listener,
+        ),
     }
 }
 
@@ -262,16 +257,27 @@ fn run_values<K: Sink, D: Disk + Drop + Send, A: Address + Send, R: Threads + Wa
 /// written: a line of each client, and the report. After `Done` the files read as the store with the history whose report
 /// was written: it begins with the one that was found, each client's moves lie behind that in its own order, and the sum
 /// of the numbers of the lines, with the moves of clients that were refused, is how many moves lie behind the old history.
-/// Whatever the status, the files that are left read as the store with such a history, or with its own where no client
-/// began; after a fault of the disk also with more moves behind it. A fault comes only where the count of faults of that
-/// object rose, and no other count rises.
-pub fn run_clients<K: Sink, D: Disk + Drop + Send, A: Address + Send, R: Threads + Wait + Sync>(
+/// Whatever the status, a crash at any moment from the opening of the store on leaves files that read as the store with a
+/// part of such a history, or of its own where no client began, and with no fewer moves than it had then; at the end with
+/// the whole history. After a fault of the disk moves may stand behind it that were told to nobody, at most 64, some or
+/// all, and they are valid there. Before the opening a crash leaves only what it might have left at the start. A fault
+/// comes only where the count of faults of that object rose, and no other count rises.
+///
+/// The listener hears of each record that is read back when the store is opened, and changes nothing.
+pub fn run_clients<
+    K: Sink,
+    D: Disk + Drop + Send,
+    A: Address + Send,
+    R: Threads + Wait + Sync,
+    L: Listener,
+>(
     rt: &R,
     alloc: Global,
     work: Work,
     sink: &mut K,
     first: D,
     second: D,
+    listener: &mut L,
 ) -> (Status, D, D)
     ensures ran { (left : Option (List ℕ)) → Exchanges left left (K.given sink.old)
         (K.given sink.new)
@@ -308,24 +314,26 @@ pub fn run_clients<K: Sink, D: Disk + Drop + Send, A: Address + Send, R: Threads
     };
     match chosen.which {
         Which::First => {
-            let (status, first) = run_values::<K, D, A, R>(
+            let (status, first) = run_values::<K, D, A, R, L>(
                 rt,
                 alloc,
                 chosen.values,
                 work,
                 sink,
                 first,
+                listener,
             );
             (status, first, second)
         }
         Which::Second => {
-            let (status, second) = run_values::<K, D, A, R>(
+            let (status, second) = run_values::<K, D, A, R, L>(
                 rt,
                 alloc,
                 chosen.values,
                 work,
                 sink,
                 second,
+                listener,
             );
             (status, first, second)
         }

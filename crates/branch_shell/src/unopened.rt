@@ -13,6 +13,7 @@ ghost use Rattle.branch_shell.specs.Refusals.{UnopenedAs, FoundAs, unopened_text
 use crate::kinded::Kinded;
 use branch_address::Address;
 use branch_disk::Disk;
+use branch_progress::Listener;
 use mrdt_model::Mrdt;
 use std::alloc::Global;
 use store_core::{Core, OldRefused, OpenRefused, is_old};
@@ -45,10 +46,12 @@ fn why_no_store<U: Mrdt, D: Disk, A: Address>(alloc: Global, disk: &mut D) -> Un
 }
 
 /// Opens the store of the type's kind that a disk holds, as `Core::open` does. Where the files are no store, it looks
-/// whether they are of the old version, over the documents of that. It writes nothing. An `Err` hands the disk back.
-pub(crate) fn open_store<T: Kinded, U: Mrdt, D: Disk + Drop, A: Address>(
+/// whether they are of the old version, over the documents of that. It writes nothing. An `Err` hands the disk back. The
+/// listener hears of each record that was read back.
+pub(crate) fn open_store<T: Kinded, U: Mrdt, D: Disk + Drop, A: Address, L: Listener>(
     alloc: Global,
     disk: D,
+    listener: &mut L,
 ) -> Result<Core<T, D, A>, (Unopened, D)>
     ensures opened { IfOk result (λ core. core ≡ record {
       history = core.history;
@@ -81,7 +84,7 @@ pub(crate) fn open_store<T: Kinded, U: Mrdt, D: Disk + Drop, A: Address>(
         HasCauseOf {T = Unit {0}} (Unopened.Refused OpenRefused.DiskFault) (D.faults disk)
         (D.faults e.1) (Err e.0)) }
 {
-    match Core::<T, D, A>::open(alloc, disk, T::KIND) {
+    match Core::<T, D, A>::open(alloc, disk, T::KIND, listener) {
         Ok(core) => Ok(core),
         Err((refusal, disk)) => match refusal {
             OpenRefused::NotAStore => {

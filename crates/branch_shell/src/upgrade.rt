@@ -14,6 +14,7 @@ use branch_print::reports::{
     put_bad_commit, put_bad_object, put_bad_record, put_no_store, put_no_upgrade, put_not_empty,
     put_truncated, put_upgraded,
 };
+use branch_progress::Listener;
 use std::alloc::Global;
 use store_upgrade::{UpgradeRefused, upgrade};
 
@@ -68,12 +69,14 @@ fn say_upgraded<K: Sink>(alloc: Global, sink: &mut K, moves: u64) -> Status
 }
 
 /// Reads the store of the old version that the current disk holds, makes one with the same moves of the other disk,
-/// which holds no bytes, and says how many moves there are. It writes nothing to the current disk.
-pub(crate) fn run_upgrade<K: Sink, D: Disk + Drop, A: Address>(
+/// which holds no bytes, and says how many moves there are. It writes nothing to the current disk. The listener hears of
+/// each record that was read back.
+pub(crate) fn run_upgrade<K: Sink, D: Disk + Drop, A: Address, L: Listener>(
     alloc: Global,
     sink: &mut K,
     held: D,
     other: D,
+    listener: &mut L,
 ) -> (Status, D, D)
     ensures ran { Gives (K.given sink.old) (K.given sink.new)
         (RanUpgrade D.Disk A.address held result.1 other result.2 result.0) }
@@ -95,7 +98,7 @@ pub(crate) fn run_upgrade<K: Sink, D: Disk + Drop, A: Address>(
         → (D.faults result.1 ≡ D.faults held) × (D.faults result.2 ≡ D.faults other) }
 {
     let mut held = held;
-    match upgrade::<D, A>(alloc, &mut held, other) {
+    match upgrade::<D, A, L>(alloc, &mut held, other, listener) {
         Ok((moves, other)) => (say_upgraded(alloc, sink, moves), held, other),
         Err((why, other)) => (refuse_upgrade(alloc, sink, why), held, other),
     }

@@ -3,6 +3,7 @@ use branch_address::Address;
 use branch_disk::{Disk, MemoryDisk};
 use branch_io::{MemorySink, MemorySource};
 use branch_program::run_words;
+use branch_progress::NoListener;
 use branch_shell::{Status, run_alone};
 use std::alloc::{AllocError, Global};
 use std::process::Abort;
@@ -33,13 +34,14 @@ pub fn says<A: Address>(
     let mut source = MemorySource::new(input.to_vec(alloc)?, 16, Vec::new(alloc));
     let mut sink = MemorySink::new(Vec::new(alloc));
     let second = MemoryDisk::new(Vec::new(alloc));
-    let (status, disk, _) = run_alone::<_, _, _, A>(
+    let (status, disk, _) = run_alone::<_, _, _, A, _>(
         alloc,
         &words,
         &mut source,
         &mut sink,
         disk,
         second,
+        &mut NoListener,
     );
     assert_eq!(rt; (status, sink.bytes()), wanted);
     Ok(disk)
@@ -57,7 +59,7 @@ pub fn ran<A: Address + Send, D: Disk + Drop + Send, R: Threads + Wait + Sync>(
     let words = words_of(alloc, command)?;
     let mut source = MemorySource::new(Vec::new(alloc), 16, Vec::new(alloc));
     let mut sink = MemorySink::new(Vec::new(alloc));
-    let (ended, disk, _) = run_words::<_, _, _, A, R>(
+    let (ended, disk, _) = run_words::<_, _, _, A, R, _>(
         rt,
         alloc,
         &words,
@@ -65,6 +67,7 @@ pub fn ran<A: Address + Send, D: Disk + Drop + Send, R: Threads + Wait + Sync>(
         &mut sink,
         disk,
         second,
+        &mut NoListener,
     );
     let text = sink.bytes().to_vec(alloc)?;
     Ok((ended.status, text, disk))

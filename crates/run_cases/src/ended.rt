@@ -6,6 +6,7 @@ use branch_address::Sha256Address;
 use branch_disk::MemoryDisk;
 use branch_io::{MemorySink, MemorySource};
 use branch_program::run_words;
+use branch_progress::NoListener;
 use std::alloc::Global;
 use std::sync::Wait;
 use std::thread::Threads;
@@ -49,7 +50,7 @@ pub(crate) fn run_over<R: Threads + Wait + Sync>(
     let failing = of.failing.source.as_slice().to_vec(alloc)?;
     let mut source = MemorySource::new(input, PIECE, failing);
     let mut sink = MemorySink::new(of.failing.sink.as_slice().to_vec(alloc)?);
-    let (ended, disk, second) = run_words::<_, _, _, Sha256Address, R>(
+    let (ended, disk, second) = run_words::<_, _, _, Sha256Address, R, _>(
         rt,
         alloc,
         &of.words,
@@ -57,6 +58,7 @@ pub(crate) fn run_over<R: Threads + Wait + Sync>(
         &mut sink,
         disk,
         second,
+        &mut NoListener,
     );
     Ok(Ended {
         status: ended.status.number(),

@@ -1,5 +1,5 @@
 -- Clients over a store that was opened, which may have failed meanwhile.
-use Rattle.std.proofs.Common.{◌≡◌, ◌+◌, ℕ, List, refl, ap, sym, subst, ◌∙◌, inl, arith}
+use Rattle.std.proofs.Common.{◌≡◌, ◌+◌, ℕ, List, refl, ap, sym, subst, ◌∙◌, arith}
 use Rattle.std.specs.Prelude.{IfOk}
 use Rattle.std.specs.List.{AllByRecursion}
 use Rattle.branch_io.specs.Causes.{Rose}
@@ -10,10 +10,11 @@ use Rattle.branch_command.specs.Work.{Clients}
 use Rattle.parallel_clients.specs.declared.outcome.Outcome.{Outcome}
 use Rattle.parallel_clients.specs.Outcomes.{setting}
 use Rattle.client_runs.specs.Worked.{HaveWorked}
-use Rattle.store_core.specs.Images.{AllStand, MayBeLeft}
+use Rattle.store_core.specs.Images.{AllStand}
 use Rattle.branch_shell.specs.Together.{FindsAll, TellsClients, RanOver}
+use Rattle.branch_shell.proofs.Clients.{survives}
 use Rattle.branch_shell.proofs.Once.{answers_map}
-use Rattle.branch_shell.proofs.Outcomes.{reads_failed, reads_all, came_together, finds_all, fault_rose, reason_stays}
+use Rattle.branch_shell.proofs.Outcomes.{reads_all, came_together, finds_all, fault_rose, reason_stays}
 use Rattle.branch_shell.specs.Values.{value_type}
 use Rattle.branch_shell.specs.Stores.{Stored}
 use Rattle.branch_shell.proofs.together.together_over.Goals as goal
@@ -28,12 +29,9 @@ returns-then-has_failed-clause-survives g c =
     let clients : Clients = record { count = c.args.work.count; work = record { steps = c.args.work.steps; number = c.args.work.number } } in
     let after = c.run_on-core.result.core in
     let ran = c.run_on-core.ensures in
-    record {
-      history = after.history;
-      came = came_together of address store clients after.history (d.faults core.opened) (faults_since d.faults after) c.run_on-core.result.outcomes ran.grows ran.valid ran.worked ran.idle;
-      reads = λ i left. reads_failed of address c.reads_what_stands.ensures store after.history ran.valid i
-          (subst (λ (l : Terms). MayBeLeft (fix of.meaning l address) after.history i) ran.terms (c.moves.ensures.left i (subst (λ k. d.may_leave k i) c.close.ensures.same left)));
-    }
+    let came = came_together of address store clients after.history (d.faults core.opened) (faults_since d.faults after) c.run_on-core.result.outcomes ran.grows ran.valid ran.worked ran.idle in
+    rw c.close.ensures.same
+    (survives of address d clients c.reads_what_stands.ensures c.has_fully_valid_prefixes.ensures core after _ ran.crashes came (λ other. absurd (other refl)))
 
 pub returns-then-has_failed-clause-reason : goal.returns-then-has_failed-clause-reason
 returns-then-has_failed-clause-reason g c n =
@@ -103,12 +101,9 @@ returns-in-Ok-clause-survives g c =
     let clients : Clients = record { count = c.args.work.count; work = record { steps = c.args.work.steps; number = c.args.work.number } } in
     let after = c.run_on-core.result.core in
     let ran = c.run_on-core.ensures in
-    let stands = subst (λ (l : Terms). AllStand (fix of.meaning l address) after.history (d.may_leave after.disk)) ran.terms (c.moves.ensures.stands (sym c.has_failed.ensures ∙ c.if-has_failed.false)) in
-    record {
-      history = after.history;
-      came = came_together of address store clients after.history (d.faults core.opened) (faults_since d.faults after) c.run_on-core.result.outcomes ran.grows ran.valid ran.worked ran.idle;
-      reads = λ i left. inl (reads_all of address c.reads_what_stands.ensures store after.history ran.valid (d.may_leave after.disk) stands i (subst (λ k. d.may_leave k i) c.close-in-Ok.ensures.same left));
-    }
+    let came = came_together of address store clients after.history (d.faults core.opened) (faults_since d.faults after) c.run_on-core.result.outcomes ran.grows ran.valid ran.worked ran.idle in
+    rw c.close-in-Ok.ensures.same
+    (survives of address d clients c.reads_what_stands.ensures c.has_fully_valid_prefixes.ensures core after _ ran.crashes came (λ other. sym c.has_failed.ensures ∙ c.if-has_failed.false))
 
 pub returns-in-Ok-clause-reason : goal.returns-in-Ok-clause-reason
 returns-in-Ok-clause-reason g c n =
@@ -154,9 +149,6 @@ returns-in-Err-clause-survives g c =
     let clients : Clients = record { count = c.args.work.count; work = record { steps = c.args.work.steps; number = c.args.work.number } } in
     let after = c.run_on-core.result.core in
     let ran = c.run_on-core.ensures in
-    let stands = subst (λ (l : Terms). AllStand (fix of.meaning l address) after.history (d.may_leave after.disk)) ran.terms (c.moves.ensures.stands (sym c.has_failed.ensures ∙ c.if-has_failed.false)) in
-    record {
-      history = after.history;
-      came = came_together of address store clients after.history (d.faults core.opened) (faults_since d.faults after) c.run_on-core.result.outcomes ran.grows ran.valid ran.worked ran.idle;
-      reads = λ i left. inl (reads_all of address c.reads_what_stands.ensures store after.history ran.valid (d.may_leave after.disk) stands i (subst (λ k. d.may_leave k i) c.close-in-Err.ensures.same left));
-    }
+    let came = came_together of address store clients after.history (d.faults core.opened) (faults_since d.faults after) c.run_on-core.result.outcomes ran.grows ran.valid ran.worked ran.idle in
+    rw c.close-in-Err.ensures.same
+    (survives of address d clients c.reads_what_stands.ensures c.has_fully_valid_prefixes.ensures core after _ ran.crashes came (λ other. sym c.has_failed.ensures ∙ c.if-has_failed.false))
