@@ -9,7 +9,7 @@ use std::test::Fail;
 const CALLERS: u64 = 200;
 
 // The steps of as many clients, each of which forks a branch of its own and lands an operation there.
-fn scripts(alloc: Global, count: u64) -> Result<Vec<Listing<Step>>, Fail> {
+pub(crate) fn scripts(alloc: Global, count: u64) -> Result<Vec<Listing<Step>>, Fail> {
     let mut scripts = Vec::new(alloc);
     for number in 0..count {
         let fork = format!(in alloc; "fork q{number} main")?;

@@ -1,5 +1,5 @@
 // Calls of a store of sums, by one thread and by two.
-ghost use Rattle.std.specs.Prelude.{◌≡◌, ◌<◌};
+ghost use Rattle.std.specs.Prelude.{◌≡◌, ◌<◌, false};
 ghost use mathlib.Core.List.{IsPrefix};
 
 use branch_address::Sha256Address;
@@ -21,7 +21,8 @@ pub(crate) type Store<N> = Shared<Sum, MemoryDisk, Sha256Address, N>;
 
 /// A store of an empty disk, of which listed calls fail.
 pub(crate) fn unnamed(rt: &impl Abort, alloc: Global, failing: Vec<u64>) -> Unnamed
-    ensures { result.parts ≡ 2 }
+    ensures parts { result.parts ≡ 2 }
+    ensures working { result.core.failed ≡ false }
 {
     let disk = MemoryDisk::new(failing);
     let Ok(core) = Sums::init(alloc, disk, Terms::under(Limits::default())) else {

@@ -9,6 +9,8 @@ mod calls;
 #[cfg(test)]
 mod clients;
 #[cfg(test)]
+mod crashes;
+#[cfg(test)]
 mod meeting;
 #[cfg(test)]
 mod plays;

@@ -53,7 +53,7 @@ impl Gate for Meeting {
         }
     }
 
-    fn after_land<R: Wait>(&self, _rt: &R, client: u64, _moves: u64) {
+    fn after_land<R: Wait>(&self, _rt: &R, client: u64) {
         if client != 0 {
             self.landed.fetch_add(1, Ordering::SeqCst);
         }

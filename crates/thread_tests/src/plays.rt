@@ -1,9 +1,10 @@
 // Clients of a store of documents.
 ghost use Rattle.std.specs.Prelude.{◌≡◌, ◌*◌, ◌<◌, true, length};
+ghost use Rattle.branch_shared.specs.Crashes.{IsSharedAt};
 ghost use Rattle.branch_shared.specs.Names.{IsNamed};
 
 use branch_address::Sha256Address;
-use branch_disk::MemoryDisk;
+use branch_disk::{Disk, MemoryDisk};
 use branch_doc::{DocOp, DocReply};
 use branch_names::{Limits, Terms};
 use branch_script::{Line, Step, read_line};
@@ -19,13 +20,14 @@ use std::test::Fail;
 use std::thread::Threads;
 use store_core::Core;
 
-/// What became of clients over a new store of documents: of each of them, and the store's moves behind them, and whether
-/// its disk has failed.
+/// What became of clients over a new store of documents: of each of them, and the store's moves behind them, whether its
+/// disk has failed, and that disk.
 #[derive(Drop)]
 pub(crate) struct Played {
     pub(crate) outcomes: Listing<Outcome>,
     pub(crate) moves: u64,
     pub(crate) has_failed: bool,
+    pub(crate) disk: MemoryDisk,
 }
 
 /// The steps of these lines.
@@ -69,6 +71,7 @@ fn share<N: Named<DocOp, DocReply> + Drop + Send + Sync, G: Gate, R: Threads + W
     gate: &G,
 ) -> Played
     requires name { IsNamed blank N.table N.queue N.begun N.terms N.parts N.opened }
+    requires since { IsSharedAt ⟦<MemoryDisk as Disk>⟧ N.since N.left blank.core }
     requires drops { N.drops ≡ true }
     requires parts { 2 * length scripts.now < blank.parts }
 {
@@ -82,5 +85,6 @@ fn share<N: Named<DocOp, DocReply> + Drop + Send + Sync, G: Gate, R: Threads + W
         outcomes,
         moves: closed.core.moves(),
         has_failed: closed.core.has_failed(),
+        disk: closed.core.close(),
     }
 }

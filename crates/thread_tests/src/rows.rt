@@ -1,8 +1,10 @@
 // Callers of one store of sums, on a disk in memory.
 ghost use Rattle.std.specs.Prelude.{◌≡◌};
+ghost use Rattle.branch_shared.specs.Crashes.{IsSharedAt};
 ghost use Rattle.branch_shared.specs.Names.{IsNamed};
 
 use crate::calls::{Store, Turns, Unnamed, adds, beside, unnamed};
+use branch_disk::{Disk, MemoryDisk};
 use branch_names::Name;
 use branch_shared::{Named, Pass, Shared};
 use mrdt_counter::{Sum, SumOp};
@@ -22,6 +24,7 @@ fn in_two_threads<N: Named<SumOp, ()> + Send + Sync, R: Threads + Wait + Abort +
     blank: Unnamed,
 )
     requires name { IsNamed blank N.table N.queue N.begun N.terms N.parts N.opened }
+    requires since { IsSharedAt ⟦<MemoryDisk as Disk>⟧ N.since N.left blank.core }
     requires parts { blank.parts ≡ 2 }
 {
     let (shared, mut u): (Store<N>, Pass<Sum, N>) = Shared::new(blank);
@@ -45,6 +48,7 @@ fn two_threads(rt: HostRuntime) {
 // The disk fails under one caller, and another goes on looking.
 fn fails<N: Named<SumOp, ()>, R: Wait + Abort>(rt: &R, blank: Unnamed)
     requires name { IsNamed blank N.table N.queue N.begun N.terms N.parts N.opened }
+    requires since { IsSharedAt ⟦<MemoryDisk as Disk>⟧ N.since N.left blank.core }
     requires parts { blank.parts ≡ 2 }
 {
     let (shared, mut u): (Store<N>, Pass<Sum, N>) = Shared::new(blank);

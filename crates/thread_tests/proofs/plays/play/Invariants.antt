@@ -1,6 +1,17 @@
 -- The store's name says what the store is. Scripts may drop branches of it.
 use Rattle.std.proofs.Common.{true}
+use Rattle.branch_disk.specs.Memory.{left_since, moment}
 use Rattle.thread_tests.proofs.plays.play.Given as goal
 
 abbrev pub ghosts-share : goal.ghosts-share
-ghosts-share g a = record { table = a.blank.table; queue = a.blank.queue; begun = a.blank.core.history; terms = a.blank.core.terms; parts = a.blank.parts; opened = a.blank.opened; drops = true }
+ghosts-share g a = record {
+  table = a.blank.table;
+  queue = a.blank.queue;
+  begun = a.blank.core.history;
+  terms = a.blank.core.terms;
+  parts = a.blank.parts;
+  opened = a.blank.opened;
+  drops = true;
+  since = moment a.blank.core.disk;
+  left = left_since a.blank.core.disk;
+}

@@ -53,3 +53,9 @@ has_failed-requires-send-T g c κs = let d = Doc-send in search sendable
 
 pub has_failed-requires-sync-T : goal.has_failed-requires-sync-T
 has_failed-requires-sync-T g c κs = let d = Doc-sync in search sendable
+
+pub close-requires-send-T : goal.close-requires-send-T
+close-requires-send-T g c κs = let d = Doc-send in search sendable
+
+pub close-requires-sync-T : goal.close-requires-sync-T
+close-requires-sync-T g c κs = let d = Doc-sync in search sendable

@@ -1,6 +1,17 @@
 -- The store's name says what the store is.
 use Rattle.std.proofs.Common.{false}
+use Rattle.branch_disk.specs.Memory.{left_since, moment}
 use Rattle.thread_tests.proofs.rows.a_fault.Given as goal
 
 abbrev pub ghosts-fails : goal.ghosts-fails
-ghosts-fails g a = record { table = a.blank.table; queue = a.blank.queue; begun = a.blank.core.history; terms = a.blank.core.terms; parts = a.blank.parts; opened = a.blank.opened; drops = false }
+ghosts-fails g a = record {
+  table = a.blank.table;
+  queue = a.blank.queue;
+  begun = a.blank.core.history;
+  terms = a.blank.core.terms;
+  parts = a.blank.parts;
+  opened = a.blank.opened;
+  drops = false;
+  since = moment a.blank.core.disk;
+  left = left_since a.blank.core.disk;
+}

@@ -1,6 +1,17 @@
 -- The store's name says what the store is.
 use Rattle.std.proofs.Common.{false}
+use Rattle.branch_disk.specs.Memory.{left_since, moment}
 use Rattle.thread_tests.proofs.rows.two_threads.Given as goal
 
 abbrev pub ghosts-in_two_threads : goal.ghosts-in_two_threads
-ghosts-in_two_threads g a = record { table = a.blank.table; queue = a.blank.queue; begun = a.blank.core.history; terms = a.blank.core.terms; parts = a.blank.parts; opened = a.blank.opened; drops = false }
+ghosts-in_two_threads g a = record {
+  table = a.blank.table;
+  queue = a.blank.queue;
+  begun = a.blank.core.history;
+  terms = a.blank.core.terms;
+  parts = a.blank.parts;
+  opened = a.blank.opened;
+  drops = false;
+  since = moment a.blank.core.disk;
+  left = left_since a.blank.core.disk;
+}
