@@ -181,9 +181,9 @@ impl<T: Mrdt, D: Disk + Drop, A: Address> Core<T, D, A> {
 
     /// Opens the store of a kind of values that a disk holds, in the layout that its header tells, which a crash may have
     /// left. It syncs both parts and reads, and writes nothing. `Ok` and each refusal but `DiskFault` and `Memory` come
-    /// exactly where the files read so for one that asks for this kind: what it opens is the one answer of the files, and so is why it refuses them. The store of
-    /// another kind is `NotAStore`. An `Err` hands the disk back. The listener hears of each record that was read back, and
-    /// changes nothing; `NoListener` is one for those who want none.
+    /// exactly where the files read so for one that asks for this kind: what it opens is the one answer of the files, and
+    /// so is why it refuses them. The store of another kind is `NotAStore`. An `Err` hands the disk back. The listener
+    /// hears of each record that was read back, and changes nothing; `NoListener` is one for those who want none.
     pub fn open<L: Listener>(
         alloc: Global,
         disk: D,
@@ -615,10 +615,9 @@ impl<T: Mrdt, D: Disk + Drop, A: Address> Core<T, D, A> {
     }
 
     /// Places a new branch at a commit, which has to be there. It is refused exactly as the machine refuses it, and
-    /// then nothing has changed:
-    /// `Failed` before `NameTaken` before `FullBranches` before `FullMoves`. At every moment a crash leaves the history
-    /// before, or that with the branch; after `Ok`, the latter. Both are valid. What a disk tells is then as after
-    /// `land`.
+    /// then nothing has changed: `Failed` before `NameTaken` before `FullBranches` before `FullMoves`. At every moment a
+    /// crash leaves the history before, or that with the branch; after `Ok`, the latter. Both are valid. What a disk
+    /// tells is then as after `land`.
     pub fn place(&mut self, name: Name, commit: u32) -> Result<Forked, PlaceRefused>
         requires { commit < length (store_of self.old.terms.origin self.old.history).commits }
         ensures takes { Takes (turn_of T.meaning A.address self.old (machine.Place name commit))
