@@ -1,6 +1,7 @@
 -- What a crash leaves of a shared store goes on from call to call.
 use Rattle.std.proofs.Common.{◌≡◌, inl, inr, ⊎_elim, ℕ, ◌≤◌, true, false, List, [], ◌++◌, length, refl, ap, sym, subst, ◌∙◌, arith, append_assoc}
 use Rattle.std.proofs.lemmas.List.{append-nil}
+use Rattle.std.specs.List.{AllByRecursion}
 use mathlib.Core.List.{IsPrefix}
 use Rattle.branch_disk.specs.Disk.{Files, LeavesOnly}
 use Rattle.branch_disk.specs.declared.disk.Disk.{Ghosts}
@@ -32,9 +33,9 @@ module _ {S O R Q A : Type 0} (fixed : Fixed S O R Q A) where
     stands = is.2;
   }
 
-module _ {D S O R Q A : Type 0} (disk : Ghosts D) (fixed : Fixed S O R Q A) (since : ℕ) (left : ℕ → Files → Type 0) (begun : List (Move O R)) where
+module _ {D S O R Q A : Type 0} (disk : Ghosts D) (fixed : Fixed S O R Q A) (since : ℕ) (left : ℕ → Files → Type 0) (begun : List (Move O R)) (allows : Move O R → Type 0) where
   abbrev Safe : StoreView (Move O R) D → Type 0
-  Safe core = IsSafe disk fixed since left begun core
+  Safe core = IsSafe disk fixed since left begun allows core
 
   -- a store that has just got its name
   pub safe-first : (core : StoreView (Move O R) D) → ((d : D) (c : Files) → disk.left_since d (disk.moment d) c → disk.may_leave d c) → IsSharedAt disk since left core → core.history ≡ begun → IsFullyValid fixed core.history
@@ -47,6 +48,7 @@ module _ {D S O R Q A : Type 0} (disk : Ghosts D) (fixed : Fixed S O R Q A) (sin
         begins = whole;
         none = λ works. refl;
         few = omega arith;
+        allowed = tt;
         valid = subst (IsFullyValid fixed) (sym none) valid;
         now = λ c image. ([], ([], refl), subst (λ (h : List (Move O R)). Stands fixed h c) (sym none) (stand c image));
         moments = record {
@@ -95,6 +97,7 @@ module _ {D S O R Q A : Type 0} (disk : Ghosts D) (fixed : Fixed S O R Q A) (sin
         begins = prefix_trans begun old.history new.history safe.begins (made, sym grown);
         none = λ works. refl;
         few = omega arith;
+        allowed = tt;
         valid = subst (IsFullyValid fixed) (sym none) valid;
         now = λ c image. ([], ([], refl), subst (λ (h : List (Move O R)). Stands fixed h c) (sym none) (stand c image));
         moments = subst (λ (h : List (Move O R)). LeavesSince disk since left new.disk (StandsFrom fixed begun h)) (sym (none ∙ grown)) (goes-on old safe worked made new.disk call);
@@ -102,14 +105,15 @@ module _ {D S O R Q A : Type 0} (disk : Ghosts D) (fixed : Fixed S O R Q A) (sin
 
   -- the disk failed under them
   pub safe-failed : (old new : StoreView (Move O R) D) (made : List (Move O R)) → Safe old → old.failed ≡ false → LeavesOnly disk.moment disk.left_since old.disk new.disk (WithFirst fixed old.history made)
-      → new ≡ record old { failed = true; disk = new.disk } → length made ≤ 64 → IsFullyValid fixed (old.history ++ made) → ((c : Files) → disk.may_leave new.disk c → WithFirst fixed old.history made c) → Safe new
-  safe-failed old new made safe worked call kept few valid leaves =
+      → new ≡ record old { failed = true; disk = new.disk } → length made ≤ 64 → AllByRecursion allows made → IsFullyValid fixed (old.history ++ made) → ((c : Files) → disk.may_leave new.disk c → WithFirst fixed old.history made c) → Safe new
+  safe-failed old new made safe worked call kept few may valid leaves =
       let fails : StoreView (Move O R) D = record old { failed = true; disk = new.disk } in
       let is : Safe fails = record {
         tail = made;
         begins = safe.begins;
         none = λ works. let never : true ≡ false = works in absurd (cc never);
         few = few;
+        allowed = may;
         valid = valid;
         now = leaves;
         moments = goes-on old safe worked made new.disk call;

@@ -16,10 +16,12 @@ module _ {D S O R Q A : Type 0} (meaning : Meaning S O R Q A) (address : List �
   pub record IsLonger : Type 0 where
     pub made : Move O R
     pub history : new.history ≡ old.history ++ made ∷ []
+    pub one : (turn_of meaning address old (machine.Drop seen.branch seen.head)).made ≡ made ∷ []
 
   pub drop-made : (result : Result ℕ DropRefused) → Takes (turn_of meaning address old (machine.Drop seen.branch seen.head)) old.history new.history (drop_answer seen result) → is_ok result ≡ true → IsLonger
   drop-made (Ok moves) takes ok = record {
     made = takes.turns.0;
     history = takes.history ∙ ap (λ (t : Turn O R A). old.history ++ t.made) takes.turns.1;
+    one = ap (λ (t : Turn O R A). t.made) takes.turns.1;
   }
   drop-made (Err refused) takes ok = absurd (let never : ⊥ = cc in never)

@@ -1,5 +1,5 @@
 -- Entries and their moments.
-use Rattle.std.proofs.Common.{◌≡◌, ℕ, zero, suc, ◌+◌, Bool, true, false, cond, List, [], ◌∷◌, ◌++◌, length, replicate, refl, ap, sym, ◌∙◌, arith, append_assoc, length-append, nat_lt}
+use Rattle.std.proofs.Common.{◌≡◌, ℕ, ◌+◌, Bool, true, false, cond, List, [], ◌∷◌, ◌++◌, length, drop, replicate, refl, ap, sym, ◌∙◌, arith, append_assoc, length-append, nat_lt}
 use Rattle.std.proofs.lemmas.Bool.Decides.{nat_tests}
 use Rattle.std.proofs.lemmas.List.{append-nil, map-append, length-map}
 use mathlib.Core.List.{IsPrefix}
@@ -9,6 +9,11 @@ use Rattle.branch_history.specs.declared.moves.Move.{Move}
 use Rattle.branch_shared.specs.declared.name.Entry.{Entry}
 use Rattle.branch_shared.specs.Entries.{moves_of, moments_of, entries_at, AreNoted}
 use Rattle.branch_shared.specs.Passes.{PassView, KnowsMoments}
+
+-- what a list has behind its front
+pub drop-front : {X : Type 0} (front rest : List X) → drop (length front) (front ++ rest) ≡ rest
+drop-front [] rest = refl
+drop-front (x ∷ front) rest = drop-front front rest
 
 -- moments, and behind them some number of times this one
 pub record GoOn (since : ℕ) (old new : List ℕ) : Type 0 where

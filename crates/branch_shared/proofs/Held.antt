@@ -1,5 +1,5 @@
 -- What lies under the lock goes on from call to call.
-use Rattle.std.proofs.Common.{◌≡◌, ℕ, Bool, true, false, List, ◌++◌, ap, sym, subst, ◌∙◌, Result, Ok, Err, IfErr}
+use Rattle.std.proofs.Common.{◌≡◌, ℕ, true, false, List, ◌++◌, ap, sym, subst, ◌∙◌, Result, Ok, Err, IfErr}
 use Rattle.std.specs.Prelude.{is_ok}
 use Rattle.std.specs.List.{AllByRecursion}
 use Rattle.atomic_table.specs.Seated.{TableId}
@@ -9,7 +9,6 @@ use Rattle.branch_front.specs.Views.{View, IsIdle}
 use Rattle.branch_names.specs.declared.terms.Terms.{Terms}
 use Rattle.branch_history.specs.declared.moves.Move.{Move}
 use Rattle.branch_machine.specs.Fixed.{Fixed}
-use Rattle.machine_answers.specs.Answers.{Answer}
 use Rattle.store_seen.specs.Views.{SeenView}
 use Rattle.store_core.specs.declared.answers.LandRefused.{LandRefused}
 use Rattle.store_core.specs.declared.answers.LandRefused.TheVariants as land_refusal
@@ -23,7 +22,7 @@ use Rattle.store_core.specs.Views.{StoreView}
 use Rattle.branch_shared.specs.declared.name.Entry.{Entry}
 use Rattle.branch_shared.specs.Crashes.{IsSafe, AreSure}
 use Rattle.branch_shared.specs.Entries.{moves_of, moments_of}
-use Rattle.branch_shared.specs.Keeps.{IsKept, IsNoDrop, faults_since}
+use Rattle.branch_shared.specs.Keeps.{IsKept, faults_since}
 
 -- the same store: under the same terms, and opened at the same disk
 pub record IsSameStore {M D : Type 0} (old new : StoreView M D) : Type 0 where
@@ -84,29 +83,29 @@ module _ {O R D : Type 0} (old new : StoreView (Move O R) D) where
   drop-same A seen (Ok moves) kept is = same-grown new.history kept
   drop-same A seen (Err refused) kept is = absurd (let never : ⊥ = cc in never)
 
-module _ {D S O R Q A : Type 0} (disk : Ghosts D) (fixed : Fixed S O R Q A) (table : TableId) (begun : List (Move O R)) (terms : Terms) (opened : ℕ) (drops : Bool) (since : ℕ) (left : ℕ → Files → Type 0)
-    (old new : StoreView (Move O R) D) (was is : View (Entry O R)) (kept : IsKept disk fixed table begun terms opened drops since left old was)
-    (safe : IsSafe disk fixed since left begun new × AreSure disk fixed begun new.history (moments_of is.moves) new.disk) where
+module _ {D S O R Q A : Type 0} (disk : Ghosts D) (fixed : Fixed S O R Q A) (table : TableId) (begun : List (Move O R)) (terms : Terms) (opened : ℕ) (allows : Move O R → Type 0) (since : ℕ) (left : ℕ → Files → Type 0)
+    (old new : StoreView (Move O R) D) (was is : View (Entry O R)) (kept : IsKept disk fixed table begun terms opened allows since left old was)
+    (safe : IsSafe disk fixed since left begun allows new × AreSure disk fixed begun new.history (moments_of is.moves) new.disk) where
   -- the writer knows what the core has now
-  pub kept-on : IsSameStore old new → is.table ≡ was.table → new.history ≡ begun ++ moves_of is.moves → is.faults ≡ faults_since disk.faults new → IsIdle is → (drops ≡ false → AllByRecursion IsNoDrop (moves_of is.moves))
-      → IsKept disk fixed table begun terms opened drops since left new is
-  kept-on same named history counted idle none = record {
+  pub kept-on : IsSameStore old new → is.table ≡ was.table → new.history ≡ begun ++ moves_of is.moves → is.faults ≡ faults_since disk.faults new → IsIdle is → AllByRecursion allows (moves_of is.moves)
+      → IsKept disk fixed table begun terms opened allows since left new is
+  kept-on same named history counted idle may = record {
     table_is = named ∙ kept.table_is;
     history_is = history;
     terms_are = same.terms ∙ kept.terms_are;
     opened_is = ap disk.faults same.opened ∙ kept.opened_is;
     faults_are = counted;
     idle = idle;
-    drops_none = none;
+    allowed = may;
     safe = safe.0;
     sure = safe.1;
   }
 
   -- it has learnt of faults alone
-  pub kept-still : HasStayed old new → is ≡ record was { faults = faults_since disk.faults new } → IsKept disk fixed table begun terms opened drops since left new is
+  pub kept-still : HasStayed old new → is ≡ record was { faults = faults_since disk.faults new } → IsKept disk fixed table begun terms opened allows since left new is
   kept-still stays told =
       let moves : is.moves ≡ was.moves = ap (λ (w : View (Entry O R)). w.moves) told in
       let idle = kept.idle in
       kept-on stays.same (ap (λ (w : View (Entry O R)). w.table) told) (stays.history ∙ (kept.history_is ∙ ap (λ (l : List (Entry O R)). begun ++ moves_of l) (sym moves))) (ap (λ (w : View (Entry O R)). w.faults) told)
       (ap (λ (w : View (Entry O R)). w.mine) told ∙ idle.0, ap (λ (w : View (Entry O R)). w.others) told ∙ idle.1, ap (λ (w : View (Entry O R)). w.parts) told ∙ idle.2, ap (λ (w : View (Entry O R)). w.receipts) told ∙ idle.3)
-      (λ off. subst (λ (l : List (Entry O R)). AllByRecursion IsNoDrop (moves_of l)) (sym moves) (kept.drops_none off))
+      (subst (λ (l : List (Entry O R)). AllByRecursion allows (moves_of l)) (sym moves) kept.allowed)

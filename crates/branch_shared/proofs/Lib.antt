@@ -3,11 +3,10 @@ mod Adopts
 mod Behind
 mod Calls
 mod Crashes
-mod Drops
 mod Entries
 mod Dropping
-mod Fewer
 mod Held
+mod Makes
 mod Naming
 mod Places
 mod Spellings

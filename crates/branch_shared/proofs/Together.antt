@@ -25,18 +25,14 @@ use Rattle.store_core.specs.Views.{StoreView}
 use Rattle.branch_shared.specs.declared.name.Entry.{Entry}
 use Rattle.branch_shared.specs.Crashes.{IsSafe, AreSure}
 use Rattle.branch_shared.specs.Entries.{moves_of, moments_of}
-use Rattle.branch_shared.specs.Keeps.{IsKept, IsNoDrop, faults_since}
+use Rattle.branch_shared.specs.Keeps.{IsKept, faults_since}
 use Rattle.branch_shared.specs.Passes.{PassView, BatchRefusedAt}
 use Rattle.branch_shared.specs.Batches.{TakenView, LandsTogether, MayLand, Serves, IsBehind, pass_of, brings, bring, told, answered_all, seen_to, sure_after, shortage, with_refusal}
-use Rattle.branch_shared.proofs.Drops.{lands-no_drop}
+use Rattle.branch_shared.proofs.Makes.{AllowsAll, all-append, batch-allowed}
 
 no-items : {X : Type 0} (xs : List X) → length xs ≡ 0 → xs ≡ []
 no-items [] none = refl
 no-items (x ∷ xs) none = absurd (omega arith)
-
-all-append : {X : Type 0} (P : X → Type 0) (xs ys : List X) → AllByRecursion P xs → AllByRecursion P ys → AllByRecursion P (xs ++ ys)
-all-append P [] ys all more = more
-all-append P (x ∷ xs) ys all more = (all.0, all-append P xs ys all.1 more)
 
 module _ {S O R Q A : Type 0} (fixed : Fixed S O R Q A) where
   -- a job brings as many moves as its answer says
@@ -51,10 +47,6 @@ module _ {S O R Q A : Type 0} (fixed : Fixed S O R Q A) where
   brings-made history job (Err (refusal.Failed moves)) is = absurd is
   brings-made history job (Err refusal.Memory) is = absurd is
 
-  drops-made : (history : List (Move O R)) (job : PreparedView O R) (answer : Result (Landed R) LandRefused) → AnswersJob fixed history job answer → AllByRecursion IsNoDrop (job_made fixed history job)
-  drops-made history job (Ok landed) is = subst (AllByRecursion IsNoDrop) (sym (ap (λ (t : Turn O R A). t.made) is.turn_is)) (lands-no_drop job.seen.branch job.work, tt)
-  drops-made history job (Err why) is = subst (AllByRecursion IsNoDrop) (sym (no-items (job_made fixed history job) (brings-made history job (Err why) is))) tt
-
   bring-made : (history : List (Move O R)) (jobs : List (PreparedView O R)) (answers : List (Result (Landed R) LandRefused)) → AnswersAll fixed history jobs answers → bring answers ≡ length (batch_made fixed history jobs)
   bring-made history [] [] all = refl
   bring-made history [] (a ∷ answers) all = absurd all
@@ -63,14 +55,6 @@ module _ {S O R Q A : Type 0} (fixed : Fixed S O R Q A) where
       let first = job_made fixed history j in
       let later = batch_made fixed (history ++ first) jobs in
       omega (arith, brings-made history j a all.0, bring-made (history ++ first) jobs answers all.1, length-append first later)
-
-  none-dropped : (history : List (Move O R)) (jobs : List (PreparedView O R)) (answers : List (Result (Landed R) LandRefused)) → AnswersAll fixed history jobs answers → AllByRecursion IsNoDrop (batch_made fixed history jobs)
-  none-dropped history [] [] all = tt
-  none-dropped history [] (a ∷ answers) all = absurd all
-  none-dropped history (j ∷ jobs) [] all = absurd all
-  none-dropped history (j ∷ jobs) (a ∷ answers) all =
-      let first = job_made fixed history j in
-      all-append IsNoDrop first (batch_made fixed (history ++ first) jobs) (drops-made history j a all.0) (none-dropped (history ++ first) jobs answers all.1)
 
   one-each : (history : List (Move O R)) (jobs : List (PreparedView O R)) (answers : List (Result (Landed R) LandRefused)) → AnswersAll fixed history jobs answers → length answers ≡ length jobs
   one-each history [] [] all = refl
@@ -87,11 +71,11 @@ long-replicate zero x = refl
 long-replicate (suc n) x = ap suc (long-replicate n x)
 
 -- what a batch makes of a store, whatever became of it
-pub record Grows {D O R : Type 0} (jobs : List (PreparedView O R)) (old new : StoreView (Move O R) D) (answers : List (Result (Landed R) LandRefused)) : Type 0 where
+pub record Grows {D O R : Type 0} (jobs : List (PreparedView O R)) (old new : StoreView (Move O R) D) (answers : List (Result (Landed R) LandRefused)) : Type 1 where
   pub more : List (Move O R)
   pub history : new.history ≡ old.history ++ more
   pub many : bring answers ≡ length more
-  pub drops : AllByRecursion IsNoDrop more
+  pub allowed : (Allows : Move O R → Type 0) → AllowsAll Allows jobs → AllByRecursion Allows more
   pub terms : new.terms ≡ old.terms
   pub opened : new.opened ≡ old.opened
   pub long : length answers ≡ length jobs
@@ -102,7 +86,7 @@ module _ {D O R : Type 0} (jobs : List (PreparedView O R)) (old new : StoreView 
     more = [];
     history = history ∙ sym (append-nil old.history);
     many = ap (λ (l : List (Result (Landed R) LandRefused)). bring l) are ∙ none-brought (Landed R) why (length jobs);
-    drops = tt;
+    allowed = λ Allows may. tt;
     terms = terms;
     opened = opened;
     long = ap (λ (l : List (Result (Landed R) LandRefused)). length l) are ∙ long-replicate (length jobs) (Err why);
@@ -116,7 +100,7 @@ module _ {D O R : Type 0} (jobs : List (PreparedView O R)) (old new : StoreView 
           more = batch_made fixed old.history jobs;
           history = ap (λ (s : StoreView (Move O R) D). s.history) lands.history;
           many = bring-made fixed old.history jobs answers lands.answered;
-          drops = none-dropped fixed old.history jobs answers lands.answered;
+          allowed = λ Allows may. (batch-allowed fixed Allows old.history jobs may).1;
           terms = ap (λ (s : StoreView (Move O R) D). s.terms) lands.history;
           opened = ap (λ (s : StoreView (Move O R) D). s.opened) lands.history;
           long = one-each fixed old.history jobs answers lands.answered;
@@ -351,37 +335,41 @@ module _ {D S O R Q A : Type 0} (meaning : Meaning S O R Q A) (address : List �
     short-served = short-by old.failed refl (shortage old) refl
 
 -- what lies under the lock once the batch's answers are told
-pub kept-grown : {D S O R Q A : Type 0} (disk : Ghosts D) (fixed : Fixed S O R Q A) (table : TableId) (begun : List (Move O R)) (terms : Terms) (opened : ℕ) (drops : Bool) (since : ℕ) (left : ℕ → Files → Type 0)
+pub kept-grown : {D S O R Q A : Type 0} (disk : Ghosts D) (fixed : Fixed S O R Q A) (table : TableId) (begun : List (Move O R)) (terms : Terms) (opened : ℕ) (allows : Move O R → Type 0) (since : ℕ) (left : ℕ → Files → Type 0)
     (jobs : List (PreparedView O R)) (old new : StoreView (Move O R) D) (answers : List (Result (Landed R) LandRefused)) (was is : View (Entry O R))
-    → IsKept disk fixed table begun terms opened drops since left old was → Grows jobs old new answers
-    → is.table ≡ table → begun ++ moves_of is.moves ≡ new.history → is.faults ≡ faults_since disk.faults new → IsIdle is → IsSafe disk fixed since left begun new × AreSure disk fixed begun new.history (moments_of is.moves) new.disk
-    → IsKept disk fixed table begun terms opened drops since left new is
-kept-grown {D} {S} {O} {R} disk fixed table begun terms opened drops since left _ old new answers was is kept grown named history counted idle safe = record {
+    → IsKept disk fixed table begun terms opened allows since left old was → Grows jobs old new answers → AllowsAll allows jobs
+    → is.table ≡ table → begun ++ moves_of is.moves ≡ new.history → is.faults ≡ faults_since disk.faults new → IsIdle is → IsSafe disk fixed since left begun allows new × AreSure disk fixed begun new.history (moments_of is.moves) new.disk
+    → IsKept disk fixed table begun terms opened allows since left new is
+kept-grown {D} {S} {O} {R} disk fixed table begun terms opened allows since left _ old new answers was is kept grown may named history counted idle safe = record {
   table_is = named;
   history_is = sym history;
   terms_are = grown.terms ∙ kept.terms_are;
   opened_is = ap disk.faults grown.opened ∙ kept.opened_is;
   faults_are = counted;
   idle = idle;
-  drops_none = λ off.
+  allowed =
       let moves : moves_of is.moves ≡ moves_of was.moves ++ grown.more = append_cancel_left begun (moves_of is.moves) (moves_of was.moves ++ grown.more)
       (history ∙ (grown.history ∙ (ap (λ (l : List (Move O R)). l ++ grown.more) kept.history_is ∙ append_assoc begun (moves_of was.moves) grown.more))) in
-      subst (AllByRecursion IsNoDrop) (sym moves) (all-append IsNoDrop (moves_of was.moves) grown.more (kept.drops_none off) grown.drops);
+      subst (AllByRecursion allows) (sym moves) (all-append allows (moves_of was.moves) grown.more kept.allowed (grown.allowed allows may));
   safe = safe.0;
   sure = safe.1;
 }
 
 -- what may be landed was prepared on a beginning of the history that all have seen, under the store's terms
-module _ {O R : Type 0} (table : TableId) (begun : List (Move O R)) (terms : Terms) where
+module _ {O R : Type 0} (table : TableId) (begun : List (Move O R)) (terms : Terms) (allows : Move O R → Type 0) where
   pub may-begin : (faults : ℕ) (history : List (Move O R)) (sure : List ℕ) (all : List (TakenView O R)) → AllByRecursion (λ (t : TakenView O R). t.given.pass ≡ pass_of begun t.job.pass) all
-      → AllByRecursion (λ (t : TakenView O R). IsBehind faults history sure t.given.pass) all → AllByRecursion (λ (t : TakenView O R). MayLand table begun terms t.job) all
+      → AllByRecursion (λ (t : TakenView O R). IsBehind faults history sure t.given.pass) all → AllByRecursion (λ (t : TakenView O R). MayLand table begun terms allows t.job) all
       → AllByRecursion (λ (job : PreparedView O R). IsPrefix job.seen.history history) (map (λ (t : TakenView O R). t.job.prepared) all)
   may-begin faults history sure [] own behind may = tt
   may-begin faults history sure (t ∷ all) own behind may =
       let seen : IsPrefix (begun ++ moves_of t.job.pass.moves) history = (subst (IsBehind faults history sure) own.0 behind.0).0 in
       (prefix_trans t.job.prepared.seen.history (begun ++ moves_of t.job.pass.moves) history may.0.begins seen, may-begin faults history sure all own.1 behind.1 may.1)
 
-  pub may-terms : (held : Terms) → held ≡ terms → (all : List (TakenView O R)) → AllByRecursion (λ (t : TakenView O R). MayLand table begun terms t.job) all
+  pub may-terms : (held : Terms) → held ≡ terms → (all : List (TakenView O R)) → AllByRecursion (λ (t : TakenView O R). MayLand table begun terms allows t.job) all
       → AllByRecursion (λ (job : PreparedView O R). job.seen.terms ≡ held) (map (λ (t : TakenView O R). t.job.prepared) all)
   may-terms held same [] may = tt
   may-terms held same (t ∷ all) may = (may.0.terms_are ∙ sym same, may-terms held same all may.1)
+
+  pub may-all : (all : List (TakenView O R)) → AllByRecursion (λ (t : TakenView O R). MayLand table begun terms allows t.job) all → AllowsAll allows (map (λ (t : TakenView O R). t.job.prepared) all)
+  may-all [] may = tt
+  may-all (t ∷ all) may = (may.0.allowed, may-all all may.1)

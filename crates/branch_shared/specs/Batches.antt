@@ -13,6 +13,7 @@ use Rattle.store_core.specs.declared.answers.LandRefused.{LandRefused}
 use Rattle.store_core.specs.declared.answers.LandRefused.TheVariants as refusal
 use Rattle.store_core.specs.Views.{StoreView}
 use Rattle.branch_shared.specs.declared.name.Entry.{Entry}
+use Rattle.branch_shared.specs.Allowed.{AllowsWork}
 use Rattle.branch_shared.specs.Entries.{moves_of, moments_of}
 use Rattle.branch_shared.specs.Passes.{PassView, IsSeenOn, KnowsMoments, LandedAt, BatchRefusedAt}
 
@@ -35,12 +36,13 @@ pub record TakenView (O R : Type 0) : Type 0 where
   pub job : JobView O R
   pub given : GivenView O R
 
--- a store with this front, beginning and terms can land the job: its pass is one of the store, and has seen the history that it was prepared on
-pub record MayLand {O R : Type 0} (table : TableId) (begun : List (Move O R)) (terms : Terms) (job : JobView O R) : Type 0 where
+-- a store with this front, beginning and terms can land the job: its pass is one of the store, and has seen the history that it was prepared on; and the store's name allows it
+pub record MayLand {O R : Type 0} (table : TableId) (begun : List (Move O R)) (terms : Terms) (allows : Move O R → Type 0) (job : JobView O R) : Type 0 where
   pub table_is : job.pass.table ≡ table
   pub part : 0 < job.pass.parts
   pub begins : IsPrefix job.prepared.seen.history (begun ++ moves_of job.pass.moves)
   pub terms_are : job.prepared.seen.terms ≡ terms
+  pub allowed : AllowsWork allows job.prepared.seen.branch job.prepared.work
 
 -- What landing together with others makes of a pass, and how it is answered: as a landing alone is, at a beginning of the one history, but that a disk that fails does so for all.
 pub record LandsTogether {S O R Q A : Type 0} (fixed : Fixed S O R Q A) (opened : ℕ) (begun : List (Move O R)) (made : PreparedView O R) (old : PassView (Move O R)) (given : GivenView O R) : Type 0 where

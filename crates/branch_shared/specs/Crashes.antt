@@ -1,5 +1,6 @@
 -- What a crash leaves of a shared store, at each moment since it was shared.
 use Rattle.std.specs.Prelude.{◌≡◌, ◌⊎◌, ℕ, ◌+◌, ◌≤◌, false, List, [], ◌++◌, length, take, slice_get, Some}
+use Rattle.std.specs.List.{AllByRecursion}
 use mathlib.Core.List.{IsPrefix}
 use Rattle.branch_disk.specs.Disk.{Files, LeavesOnly}
 use Rattle.branch_disk.specs.declared.disk.Disk.{Ghosts}
@@ -26,11 +27,14 @@ pub record StandsFrom {S O R Q A : Type 0} (fixed : Fixed S O R Q A) (begun hist
   pub stands : Stands fixed moves c
 
 -- What a crash leaves of a store that began with some moves. Behind its history there may be a tail: no move until the disk fails, and then those of the one call that failed.
-pub record IsSafe {D S O R Q A : Type 0} (disk : Ghosts D) (fixed : Fixed S O R Q A) (since : ℕ) (left : ℕ → Files → Type 0) (begun : List (Move O R)) (core : StoreView (Move O R) D) : Type 0 where
+-- The store's name allows each of them.
+pub record IsSafe {D S O R Q A : Type 0} (disk : Ghosts D) (fixed : Fixed S O R Q A) (since : ℕ) (left : ℕ → Files → Type 0) (begun : List (Move O R)) (allows : Move O R → Type 0)
+    (core : StoreView (Move O R) D) : Type 0 where
   pub tail : List (Move O R)
   pub begins : IsPrefix begun core.history
   pub none : core.failed ≡ false → tail ≡ []
   pub few : length tail ≤ 64
+  pub allowed : AllByRecursion allows tail
   pub valid : IsFullyValid fixed (core.history ++ tail)
   -- now each image has the history, with the first moves of the tail behind it: none, some or all
   pub now : (c : Files) → disk.may_leave core.disk c → WithFirst fixed core.history tail c
@@ -55,11 +59,12 @@ pub record AreSure {D S O R Q A : Type 0} (disk : Ghosts D) (fixed : Fixed S O R
   pub each : (n since : ℕ) → slice_get sure n ≡ Some since → IsSureSince disk fixed (take (length begun + n + 1) moves) since now
 
 -- The same as `IsSafe`, for who knows the store as it was when it was shared.
-pub record IsSafeFrom {D S O R Q A : Type 0} (disk : Ghosts D) (fixed : Fixed S O R Q A) (old new : StoreView (Move O R) D) : Type 0 where
+pub record IsSafeFrom {D S O R Q A : Type 0} (disk : Ghosts D) (fixed : Fixed S O R Q A) (allows : Move O R → Type 0) (old new : StoreView (Move O R) D) : Type 0 where
   pub tail : List (Move O R)
   pub begins : IsPrefix old.history new.history
   pub none : new.failed ≡ false → tail ≡ []
   pub few : length tail ≤ 64
+  pub allowed : AllByRecursion allows tail
   pub valid : IsFullyValid fixed (new.history ++ tail)
   pub now : (c : Files) → disk.may_leave new.disk c → WithFirst fixed new.history tail c
   pub moments : LeavesOnly disk.moment disk.left_since old.disk new.disk (StandsFrom fixed old.history (new.history ++ tail))

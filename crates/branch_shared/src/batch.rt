@@ -39,7 +39,7 @@ impl<T: Mrdt, D: Disk + Drop, A: Address, N: Named<T::Op, T::Reply>> Kept<T, D, 
         requires prepared { prepared.items ≡ map (λ taken. taken.job.prepared) all.old }
         requires passes { AllByRecursion (λ taken.
             taken.given.pass ≡ pass_of N.begun taken.job.pass) all.old }
-        requires may { AllByRecursion (λ taken. MayLand N.table N.begun N.terms taken.job) all.old }
+        requires may { AllByRecursion (λ taken. MayLand N.table N.begun N.terms N.allows taken.job) all.old }
         ensures { AllByRecursion (λ taken.
             Serves (fix T.meaning N.terms A.address) N.opened N.begun taken.job taken.given)
             all.new }
@@ -61,7 +61,7 @@ impl<T: Mrdt, D: Disk + Drop, A: Address, N: Named<T::Op, T::Reply>> Kept<T, D, 
     /// Lands a job alone.
     pub(crate) fn land_alone(&mut self, front: &Front<EntryOf<T>>, job: Job<T, A>) -> Given<T, N>
         requires front { front.now ≡ front_of N.table N.begun N.parts }
-        requires may { MayLand N.table N.begun N.terms job }
+        requires may { MayLand N.table N.begun N.terms N.allows job }
         ensures { Serves (fix T.meaning N.terms A.address) N.opened N.begun job result }
     {
         let Job { prepared, pass } = job;

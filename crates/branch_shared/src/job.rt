@@ -59,7 +59,7 @@ impl<T: Mrdt, A: Address, N: Named<T::Op, T::Reply>> Service<Job<T, A>, Given<T,
 
     ghost table = { N.queue };
 
-    ghost takes = { MayLand N.table N.begun N.terms };
+    ghost takes = { MayLand N.table N.begun N.terms N.allows };
 
     ghost serves = { Serves (fix T.meaning N.terms A.address) N.opened N.begun };
 }

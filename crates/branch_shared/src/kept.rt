@@ -5,6 +5,7 @@ ghost use mathlib.Core.List.{IsPrefix};
 ghost use Rattle.branch_io.specs.Causes.{Rose};
 ghost use Rattle.branch_front.specs.Views.{IsIdle};
 ghost use Rattle.branch_history.specs.declared.moves.Move.{Move};
+ghost use Rattle.branch_history.specs.declared.moves.Move.TheVariants as move;
 ghost use Rattle.branch_history.specs.Machine.{turn, answers};
 ghost use Rattle.branch_history.specs.Steps as machine;
 ghost use Rattle.branch_machine.specs.Fixed.{fix};
@@ -13,8 +14,9 @@ ghost use Rattle.store_seen.specs.Groups.{IsGrouped, GroupRefusedAs};
 ghost use Rattle.store_seen.specs.Pairs.{IsPaired, PairRefusedAs};
 ghost use Rattle.store_seen.specs.Turns.{LookRefusedAs};
 ghost use Rattle.store_core.specs.Answers.{drop_answer};
+ghost use Rattle.branch_shared.specs.Allowed.{AllowsWork};
 ghost use Rattle.branch_shared.specs.Entries.{AreNoted, moments_of, moves_of};
-ghost use Rattle.branch_shared.specs.Keeps.{IsNoDrop, faults_since, front_of};
+ghost use Rattle.branch_shared.specs.Keeps.{faults_since, front_of};
 ghost use Rattle.branch_shared.specs.Passes.{seen_by, IsSeenOn, KnowsMoments, LandedAt, LandRefusedAt, ForkedAt, ForkRefusedAt, AnsweredAt};
 
 use crate::name::{EntryOf, Named};
@@ -50,7 +52,7 @@ impl<T: Mrdt, D: Disk + Drop, A: Address, N: Named<T::Op, T::Reply>> Model for K
     ghost view = { λ k. k.core };
 
     ghost invariant = { λ k.
-        IsKept D.Disk (fix T.meaning N.terms A.address) N.table N.begun N.terms N.opened N.drops
+        IsKept D.Disk (fix T.meaning N.terms A.address) N.table N.begun N.terms N.opened N.allows
         N.since N.left k.core k.writer };
 }
 
@@ -146,6 +148,7 @@ impl<T: Mrdt, D: Disk + Drop, A: Address, N: Named<T::Op, T::Reply>> Kept<T, D, 
         requires front { front.now ≡ front_of N.table N.begun N.parts }
         requires history { IsPrefix prepared.seen.history pass.old.moves }
         requires terms { prepared.seen.terms ≡ N.terms }
+        requires allowed { AllowsWork N.allows prepared.seen.branch prepared.work }
         ensures prefix { IsPrefix pass.old.moves pass.new.moves }
         ensures sure { KnowsMoments N.begun pass.old pass.new }
         ensures begun { IsPrefix N.begun pass.new.moves }
@@ -180,6 +183,7 @@ impl<T: Mrdt, D: Disk + Drop, A: Address, N: Named<T::Op, T::Reply>> Kept<T, D, 
         from: &Name,
     ) -> Result<Forked, ForkRefused>
         requires front { front.now ≡ front_of N.table N.begun N.parts }
+        requires allowed { (number source : ℕ) → N.allows (move.Fork new number source) }
         ensures prefix { IsPrefix pass.old.moves pass.new.moves }
         ensures sure { KnowsMoments N.begun pass.old pass.new }
         ensures begun { IsPrefix N.begun pass.new.moves }
@@ -213,7 +217,7 @@ impl<T: Mrdt, D: Disk + Drop, A: Address, N: Named<T::Op, T::Reply>> Kept<T, D, 
         seen: &Seen<T>,
     ) -> Result<u64, DropRefused>
         requires front { front.now ≡ front_of N.table N.begun N.parts }
-        requires drops { N.drops ≡ true }
+        requires allowed { N.allows (move.Drop seen.now.branch) }
         requires history { IsPrefix seen.now.history pass.old.moves }
         requires terms { seen.now.terms ≡ N.terms }
         ensures prefix { IsPrefix pass.old.moves pass.new.moves }
@@ -312,17 +316,15 @@ fn add<T: Mrdt, D: Disk + Drop, A: Address, N: Named<T::Op, T::Reply>>(
     requires idle { IsIdle writer.old }
     requires grown { (made : Move T.Op T.Reply)
         × (core.now.history ≡ (N.begun ++ moves_of writer.old.moves) ++ made ∷ [])
-        × (N.drops ≡ false → IsNoDrop made) }
-    requires drops_none { N.drops ≡ false
-        → AllByRecursion IsNoDrop (moves_of writer.old.moves) }
+        × N.allows made }
+    requires allowed { AllByRecursion N.allows (moves_of writer.old.moves) }
     requires rise { writer.old.faults ≤ faults_since D.faults core.now }
     requires room { length core.now.history ≤ 2 ^ 48 }
     ensures table { writer.new.table ≡ writer.old.table }
     ensures history { core.now.history ≡ N.begun ++ moves_of writer.new.moves }
     ensures noted { AreNoted (D.moment core.now.disk) writer.old.moves writer.new.moves }
     ensures writer { (writer.new.faults ≡ faults_since D.faults core.now) × IsIdle writer.new }
-    ensures drops_none { N.drops ≡ false
-        → AllByRecursion IsNoDrop (moves_of writer.new.moves) }
+    ensures allowed { AllByRecursion N.allows (moves_of writer.new.moves) }
     ensures pass { pass.new ≡ record pass.old {
       moves = core.now.history;
       sure = moments_of writer.new.moves;

@@ -20,7 +20,7 @@ pub(crate) type EntryOf<T> = Entry<<T as Mrdt>::Op, <T as Mrdt>::Reply>;
 /// A program hands its `Blank` to a function over `N: Named<O, R>`, which it calls with `Brand`; there it picks what the
 /// name says, which is what the blank is.
 pub trait Named<O, R> {
-    ghost use Rattle.std.specs.Prelude.{ℕ, Bool, List};
+    ghost use Rattle.std.specs.Prelude.{ℕ, List};
     ghost use Rattle.atomic_table.specs.Seated.{TableId};
     ghost use Rattle.branch_disk.specs.Disk.{Files};
     ghost use Rattle.branch_names.specs.declared.terms.Terms.{Terms};
@@ -44,8 +44,8 @@ pub trait Named<O, R> {
     // How many faults the disk had had when the core was opened.
     ghost opened: { ℕ };
 
-    // Whether branches may be dropped in it.
-    ghost drops: { Bool };
+    // The moves that are allowed in it: no other is made, nor left by a crash.
+    ghost allows: { Move O R → Type 0 };
 
     // The moment of its disk when it was shared.
     ghost since: { ℕ };
@@ -55,7 +55,7 @@ pub trait Named<O, R> {
 }
 
 impl<O, R> Named<O, R> for Brand {
-    ghost use Rattle.std.specs.Prelude.{[], false};
+    ghost use Rattle.std.specs.Prelude.{[]};
     ghost use Rattle.branch_batch.specs.Tickets.{no_table};
     ghost use Rattle.branch_shared.specs.Names.{least_terms};
 
@@ -71,7 +71,7 @@ impl<O, R> Named<O, R> for Brand {
 
     ghost opened = { 0 };
 
-    ghost drops = { false };
+    ghost allows = { λ made. ⊥ };
 
     ghost since = { 0 };
 

@@ -96,7 +96,7 @@ fn open_each<T: Mrdt, A: Address, N: Named<T::Op, T::Reply>>(
     ensures prepared { prepared.new.items ≡ map (λ taken. taken.job.prepared) taken.new.items }
     ensures passes { AllByRecursion (λ taken.
         taken.given.pass ≡ pass_of N.begun taken.job.pass) taken.new.items }
-    ensures may { AllByRecursion (λ taken. MayLand N.table N.begun N.terms taken.job)
+    ensures may { AllByRecursion (λ taken. MayLand N.table N.begun N.terms N.allows taken.job)
         taken.new.items }
 {
     for waiting in jobs {

@@ -1,7 +1,8 @@
 // A store that threads share.
-ghost use Rattle.std.specs.Prelude.{ℕ, ◌≡◌, ◌≢◌, ◌+◌, ◌-◌, ◌<◌, ◌≤◌, ◌++◌, true, false, [], length, max, vec_capacity, Err, IfOk, IfErr, OnErr, OnOk};
+ghost use Rattle.std.specs.Prelude.{ℕ, ◌≡◌, ◌≢◌, ◌+◌, ◌-◌, ◌<◌, ◌≤◌, ◌++◌, [], length, max, vec_capacity, Err, IfOk, IfErr, OnErr, OnOk};
 ghost use mathlib.Core.List.{IsPrefix};
 ghost use Rattle.branch_front.specs.Lists.{longer, AreAllWithin, AreApart, AreDistinct, AreSomeWithin};
+ghost use Rattle.branch_history.specs.declared.moves.Move.TheVariants as move;
 ghost use Rattle.branch_history.specs.Machine.{turn, answers};
 ghost use Rattle.branch_history.specs.Steps as machine;
 ghost use Rattle.branch_machine.specs.Fixed.{fix};
@@ -10,7 +11,8 @@ ghost use Rattle.store_seen.specs.Groups.{IsGrouped, GroupRefusedAs};
 ghost use Rattle.store_seen.specs.Pairs.{IsPaired, PairRefusedAs};
 ghost use Rattle.store_seen.specs.Turns.{LookRefusedAs};
 ghost use Rattle.store_core.specs.Answers.{drop_answer};
-ghost use Rattle.branch_shared.specs.Keeps.{DropsNone, faults_since};
+ghost use Rattle.branch_shared.specs.Allowed.{AllowsWork, GrowsBy};
+ghost use Rattle.branch_shared.specs.Keeps.{faults_since};
 ghost use Rattle.branch_shared.specs.Batches.{MayLand, Serves};
 ghost use Rattle.branch_shared.specs.Crashes.{AreSure, IsSafe, IsSharedAt};
 ghost use Rattle.branch_shared.specs.Names.{IsNamed};
@@ -248,6 +250,7 @@ impl<T: Mrdt, D: Disk + Drop, A: Address, N: Named<T::Op, T::Reply>> Shared<T, D
     ) -> Result<Landed<T::Reply>, LandRefused>
         requires history { IsPrefix prepared.seen.history pass.old.moves }
         requires terms { prepared.seen.terms ≡ N.terms }
+        requires allowed { AllowsWork N.allows prepared.seen.branch prepared.work }
         ensures prefix { IsPrefix pass.old.moves pass.new.moves }
         ensures sure { KnowsMoments N.begun pass.old pass.new }
         ensures begun { IsPrefix N.begun pass.new.moves }
@@ -287,6 +290,7 @@ impl<T: Mrdt, D: Disk + Drop, A: Address, N: Named<T::Op, T::Reply>> Shared<T, D
         requires parts { 1 < pass.old.parts }
         requires history { IsPrefix prepared.seen.history pass.old.moves }
         requires terms { prepared.seen.terms ≡ N.terms }
+        requires allowed { AllowsWork N.allows prepared.seen.branch prepared.work }
         ensures prefix { IsPrefix pass.old.moves pass.new.moves }
         ensures sure { KnowsMoments N.begun pass.old pass.new }
         ensures begun { IsPrefix N.begun pass.new.moves }
@@ -330,7 +334,7 @@ impl<T: Mrdt, D: Disk + Drop, A: Address, N: Named<T::Op, T::Reply>> Shared<T, D
 
     // Lands a job together with those of others, or alone where memory for the queue is short.
     fn land_together<R: Wait>(&self, rt: &R, job: Job<T, A>) -> Given<T, N>
-        requires may { MayLand N.table N.begun N.terms job }
+        requires may { MayLand N.table N.begun N.terms N.allows job }
         ensures { Serves (fix T.meaning N.terms A.address) N.opened N.begun job result }
     {
         match self.queue.put(rt, job) {
@@ -341,7 +345,7 @@ impl<T: Mrdt, D: Disk + Drop, A: Address, N: Named<T::Op, T::Reply>> Shared<T, D
 
     // What comes back for a job: the caller looks for it, and leads a round or waits for one where it is not there.
     fn await_answer<R: Wait>(&self, rt: &R, claim: Claim<T, A, N>) -> Given<T, N>
-        requires may { MayLand N.table N.begun N.terms claim.job }
+        requires may { MayLand N.table N.begun N.terms N.allows claim.job }
         ensures { Serves (fix T.meaning N.terms A.address) N.opened N.begun claim.job result }
     {
         let mut claim = claim;
@@ -356,7 +360,7 @@ impl<T: Mrdt, D: Disk + Drop, A: Address, N: Named<T::Op, T::Reply>> Shared<T, D
 
     // One turn: what came back for the job, if it is done, and else the claim to it, behind a round that some caller led.
     fn turn<R: Wait>(&self, rt: &R, claim: Claim<T, A, N>) -> Result<Given<T, N>, Claim<T, A, N>>
-        requires may { MayLand N.table N.begun N.terms claim.job }
+        requires may { MayLand N.table N.begun N.terms N.allows claim.job }
         ensures serves { IfOk result
             (Serves (fix T.meaning N.terms A.address) N.opened N.begun claim.job) }
         ensures back { IfErr result (λ back. back ≡ claim) }
@@ -375,7 +379,7 @@ impl<T: Mrdt, D: Disk + Drop, A: Address, N: Named<T::Op, T::Reply>> Shared<T, D
         claim: Claim<T, A, N>,
         ended: u64,
     ) -> Result<Given<T, N>, Claim<T, A, N>>
-        requires may { MayLand N.table N.begun N.terms claim.job }
+        requires may { MayLand N.table N.begun N.terms N.allows claim.job }
         ensures serves { IfOk result
             (Serves (fix T.meaning N.terms A.address) N.opened N.begun claim.job) }
         ensures back { IfErr result (λ back. back ≡ claim) }
@@ -395,7 +399,7 @@ impl<T: Mrdt, D: Disk + Drop, A: Address, N: Named<T::Op, T::Reply>> Shared<T, D
 
     // Under the store's lock: what has come back for the job, or else the next batch is landed, the job in it.
     fn lead<R: Wait>(&self, rt: &R, claim: Claim<T, A, N>) -> Result<Given<T, N>, Claim<T, A, N>>
-        requires may { MayLand N.table N.begun N.terms claim.job }
+        requires may { MayLand N.table N.begun N.terms N.allows claim.job }
         ensures serves { IfOk result
             (Serves (fix T.meaning N.terms A.address) N.opened N.begun claim.job) }
         ensures back { IfErr result (λ back. back ≡ claim) }
@@ -415,7 +419,7 @@ impl<T: Mrdt, D: Disk + Drop, A: Address, N: Named<T::Op, T::Reply>> Shared<T, D
         kept: &mut Kept<T, D, A, N>,
         claim: Claim<T, A, N>,
     ) -> Result<Given<T, N>, Claim<T, A, N>>
-        requires may { MayLand N.table N.begun N.terms claim.job }
+        requires may { MayLand N.table N.begun N.terms N.allows claim.job }
         ensures serves { IfOk result
             (Serves (fix T.meaning N.terms A.address) N.opened N.begun claim.job) }
         ensures back { IfErr result (λ back. back ≡ claim) }
@@ -454,7 +458,7 @@ impl<T: Mrdt, D: Disk + Drop, A: Address, N: Named<T::Op, T::Reply>> Shared<T, D
         kept: &mut Kept<T, D, A, N>,
         claim: Claim<T, A, N>,
     ) -> Result<Given<T, N>, Claim<T, A, N>>
-        requires may { MayLand N.table N.begun N.terms claim.job }
+        requires may { MayLand N.table N.begun N.terms N.allows claim.job }
         ensures serves { IfOk result
             (Serves (fix T.meaning N.terms A.address) N.opened N.begun claim.job) }
         ensures back { IfErr result (λ back. back ≡ claim) }
@@ -475,6 +479,7 @@ impl<T: Mrdt, D: Disk + Drop, A: Address, N: Named<T::Op, T::Reply>> Shared<T, D
         new: Name,
         from: &Name,
     ) -> Result<Forked, ForkRefused>
+        requires allowed { (number source : ℕ) → N.allows (move.Fork new number source) }
         ensures prefix { IsPrefix pass.old.moves pass.new.moves }
         ensures sure { KnowsMoments N.begun pass.old pass.new }
         ensures begun { IsPrefix N.begun pass.new.moves }
@@ -494,16 +499,15 @@ impl<T: Mrdt, D: Disk + Drop, A: Address, N: Named<T::Op, T::Reply>> Shared<T, D
     }
 
     /// Drops the branch of a look, taken now or earlier, from the head that was seen, and says how many moves the history
-    /// then has. Only a store whose name says that it drops branches has this call. After `Ok` the last move that the pass
-    /// has seen is this one. It is refused exactly as the machine refuses it on the history that the pass has seen then, or
-    /// where the disk fails or has failed.
+    /// then has. After `Ok` the last move that the pass has seen is this one. It is refused exactly as the machine refuses
+    /// it on the history that the pass has seen then, or where the disk fails or has failed.
     pub fn drop_branch<R: Wait>(
         &self,
         rt: &R,
         pass: &mut Pass<T, N>,
         seen: &Seen<T>,
     ) -> Result<u64, DropRefused>
-        requires drops { N.drops ≡ true }
+        requires allowed { N.allows (move.Drop seen.now.branch) }
         requires history { IsPrefix seen.now.history pass.old.moves }
         requires terms { seen.now.terms ≡ N.terms }
         ensures prefix { IsPrefix pass.old.moves pass.new.moves }
@@ -552,13 +556,14 @@ impl<T: Mrdt, D: Disk + Drop, A: Address, N: Named<T::Op, T::Reply>> Shared<T, D
     ///
     /// At each moment since the store was shared, a crash leaves a beginning of its history that has all moves that it
     /// began with. Once the disk has failed, more moves may stand behind the history, at most 64: those of the one call
-    /// that failed. They are valid there. Of a run of callers that never ends nothing is said.
+    /// that failed. They are valid there, and the store's name allows them. Of a run of callers that never ends nothing is
+    /// said.
     pub fn close(self) -> Core<T, D, A>
         ensures history { IsPrefix N.begun result.history }
         ensures terms { result.terms ≡ N.terms }
         ensures opened { D.faults result.opened ≡ N.opened }
         ensures crashes { IsSafe D.Disk (fix T.meaning N.terms A.address) N.since N.left N.begun
-            result }
+            N.allows result }
     {
         let Shared {
             alloc: _,
@@ -577,8 +582,8 @@ impl<T: Mrdt, D: Disk + Drop, A: Address, N: Named<T::Op, T::Reply>> Shared<T, D
     }
 
     /// The core, how many moves landed since the store was shared, and how many of them the last pass, and those that
-    /// left into it, landed: all, where it holds all parts, and then it claims each of them, once. None of these moves drops
-    /// a branch, but in a store whose name says that it drops some. What a crash leaves is as after `close`.
+    /// left into it, landed: all, where it holds all parts, and then it claims each of them, once. The store's name allows
+    /// each of these moves. What a crash leaves is as after `close`.
     ///
     /// Each move that the last pass has seen, since the store was shared, is in what a crash leaves at each moment since the
     /// one at which it was acknowledged, with all moves before it. The pass knew this moment when the call that landed the
@@ -589,11 +594,11 @@ impl<T: Mrdt, D: Disk + Drop, A: Address, N: Named<T::Op, T::Reply>> Shared<T, D
         ensures terms { result.core.terms ≡ N.terms }
         ensures opened { D.faults result.core.opened ≡ N.opened }
         ensures crashes { IsSafe D.Disk (fix T.meaning N.terms A.address) N.since N.left N.begun
-            result.core }
+            N.allows result.core }
         ensures sure { AreSure D.Disk (fix T.meaning N.terms A.address) N.begun last.moves last.sure
             result.core.disk }
         ensures faults { last.faults ≤ faults_since D.faults result.core }
-        ensures drops_none { N.drops ≡ false → DropsNone N.begun result.core.history }
+        ensures allowed { GrowsBy N.allows N.begun result.core.history }
         ensures landed { length N.begun + result.landed ≡ length result.core.history }
         ensures receipts { result.receipts ≡ last.receipts }
         ensures all { last.parts ≡ N.parts → result.receipts ≡ result.landed }

@@ -1,6 +1,5 @@
 -- Clients, from the opening of their store on.
-use Rattle.std.proofs.Common.{◌≡◌, ◌≢◌, ℕ, ◌≤◌, List, [], ◌++◌, refl, ap, sym, subst, ◌∙◌, inl, inr, false}
-use Rattle.std.proofs.lemmas.List.{append-nil}
+use Rattle.std.proofs.Common.{◌≡◌, ◌≢◌, ℕ, ◌≤◌, List, [], ◌++◌, refl, subst, inl, inr, false}
 use Rattle.std.specs.Prelude.{Option}
 use Rattle.branch_disk.specs.Disk.{Files}
 use Rattle.branch_disk.specs.declared.disk.Disk.{Ghosts}
@@ -11,9 +10,10 @@ use Rattle.branch_files.specs.Laws.{ReadsWhatStands}
 use Rattle.branch_history.specs.declared.moves.Move.{Move}
 use Rattle.branch_machine.specs.Laws.{HasFullyValidPrefixes}
 use Rattle.branch_shared.specs.Crashes.{IsSafeFrom, StandsFrom}
+use Rattle.client_runs.specs.Worked.{IsOfClients}
 use Rattle.store_core.specs.Views.{StoreView}
 use Rattle.branch_shell.specs.declared.status.Status.{Status}
-use Rattle.branch_shell.specs.declared.status.Status.TheVariants.{StoreRefused, DiskFault}
+use Rattle.branch_shell.specs.declared.status.Status.TheVariants.{DiskFault}
 use Rattle.branch_shell.specs.Bundling.{fixed_for}
 use Rattle.branch_shell.specs.Disks.{LeavesAsBefore}
 use Rattle.branch_shell.specs.Documents.{SaysUnopened}
@@ -32,7 +32,7 @@ module _ {S O R Q A : Type 0} (of : ValueType S O R Q A) (address : List ℕ →
     abbrev store_of : Stored O R
     store_of = record { terms = old.terms; history = old.history }
 
-    pub survives : IsSafeFrom disk (fixed_for of.meaning address store_of) old new → CameTogether of address store_of clients new.history → (status ≢ DiskFault → new.failed ≡ false)
+    pub survives : IsSafeFrom disk (fixed_for of.meaning address store_of) (IsOfClients of.forms clients.count clients.work.steps clients.work.number) old new → CameTogether of address store_of clients new.history → (status ≢ DiskFault → new.failed ≡ false)
         → SurvivesClients disk of address store_of clients old.disk new.disk status
     survives safe came worked =
         let whole : List (Move O R) = new.history ++ safe.tail in
@@ -42,6 +42,7 @@ module _ {S O R Q A : Type 0} (of : ValueType S O R Q A) (address : List ℕ →
           came = came;
           none = λ other. safe.none (worked other);
           few = safe.few;
+          allowed = safe.allowed;
           valid = safe.valid;
           any_moment = weakened disk.moment disk.left_since old.disk new.disk (StandsFrom (fixed_for of.meaning address store_of) old.history whole) (ReadsFrom of address store_of whole) safe.moments
               (λ c stands. reads_from of address reads store_of prefixes whole safe.valid c stands);

@@ -1,6 +1,7 @@
 -- Clients that work side by side on one store: what is written of them, and what a crash leaves.
 use Rattle.std.specs.Prelude.{◌≡◌, ◌≢◌, ℕ, ◌+◌, ◌≤◌, ◌⊎◌, List, [], ◌∷◌, ◌++◌, codes, length, slice_get, Some, None, option_map}
 use Rattle.std.specs.declared.option.Option.{Option}
+use Rattle.std.specs.List.{AllByRecursion}
 use mathlib.Core.List.{IsPrefix}
 use Rattle.branch_disk.specs.declared.disk.Disk.{Ghosts}
 use Rattle.branch_disk.specs.Disk.{Files, LeavesOnly}
@@ -16,7 +17,7 @@ use Rattle.parallel_clients.specs.declared.outcome.ClientRefusal.TheVariants as 
 use Rattle.parallel_clients.specs.declared.outcome.Outcome.{Outcome}
 use Rattle.parallel_clients.specs.declared.outcome.Outcome.TheVariants as outcome
 use Rattle.parallel_clients.specs.Outcomes.{setting}
-use Rattle.client_runs.specs.Worked.{HaveWorked}
+use Rattle.client_runs.specs.Worked.{HaveWorked, IsOfClients}
 use Rattle.branch_shell.specs.declared.status.Status.{Status}
 use Rattle.branch_shell.specs.declared.status.Status.TheVariants.{DiskFault, Memory}
 use Rattle.branch_shell.specs.Stores.{Stored, ReadsAsStore, IsOpenedAs}
@@ -120,7 +121,7 @@ ReadsWithFirst {S} {O} {R} of address store history more c =
     (first : List (Move O R)) × IsPrefix first more × ReadsAsStore of.meaning address (with_history store (history ++ first)) c
 
 -- What a crash leaves from the moment on when a store was opened on which clients work. They came to one history, however they ended. Behind it there may be a tail of
--- at most 64 moves that are valid there: none but after a fault of the disk. At each moment an image has a part of these moves with at least those that the store had;
+-- at most 64 moves that are valid there, each of which a drawn step of some client may make: none but after a fault of the disk. At each moment an image has a part of these moves with at least those that the store had;
 -- and at the end the whole history, with the first moves of the tail.
 pub record SurvivesClients {S O R Q A D : Type 0} (disk : Ghosts D) (of : ValueType S O R Q A) (address : List ℕ → List ℕ) (store : Stored O R) (clients : Clients) (opened new : D) (status : Status) : Type 0 where
   pub history : List (Move O R)
@@ -128,6 +129,7 @@ pub record SurvivesClients {S O R Q A D : Type 0} (disk : Ghosts D) (of : ValueT
   pub came : CameTogether of address store clients history
   pub none : status ≢ DiskFault → tail ≡ []
   pub few : length tail ≤ 64
+  pub allowed : AllByRecursion (IsOfClients of.forms clients.count clients.work.steps clients.work.number) tail
   pub valid : IsFullyValid (fixed_for of.meaning address store) (history ++ tail)
   pub any_moment : LeavesOnly disk.moment disk.left_since opened new (ReadsFrom of address store (history ++ tail))
   pub at_end : (c : Files) → disk.may_leave new c → ReadsWithFirst of address store history tail c

@@ -167,7 +167,8 @@ fn together_over<
     // Its clauses say what is known of a core.
     let _ = core.moves();
     if core.has_failed() {
-        return (Status::DiskFault, core.close());
+        let disk = core.close();
+        return (Status::DiskFault, disk);
     }
     match outcomes {
         Ok(outcomes) => (
@@ -260,8 +261,9 @@ fn run_values<
 /// Whatever the status, a crash at any moment from the opening of the store on leaves files that read as the store with a
 /// part of such a history, or of its own where no client began, and with no fewer moves than it had then; at the end with
 /// the whole history. After a fault of the disk moves may stand behind it that were told to nobody, at most 64, some or
-/// all, and they are valid there. Before the opening a crash leaves only what it might have left at the start. A fault
-/// comes only where the count of faults of that object rose, and no other count rises.
+/// all. They are valid there, and each is one that a drawn step of some client may make. Before the opening a crash leaves
+/// only what it might have left at the start. A fault comes only where the count of faults of that object rose, and no
+/// other count rises.
 ///
 /// The listener hears of each record that is read back when the store is opened, and changes nothing.
 pub fn run_clients<

@@ -1,16 +1,19 @@
 -- Of the steps of a client, each behind the first three is an operation or a merge of one of its two sessions, and names no branch but `main` and the client's own. None is of sequences.
-use Rattle.std.proofs.Common.{zero, suc, ◌≡◌, ℕ, ◌+◌, ◌%◌, ◌^◌, ◌==◌, ◌⊎◌, inl, inr, Bool, true, false, List, [], ◌∷◌, ◌++◌, codes, refl, subst, ◌∙◌, if◌then◌else◌, Some}
+use Rattle.std.proofs.Common.{zero, suc, ◌≡◌, ℕ, ◌+◌, ◌%◌, ◌^◌, ◌==◌, ◌⊎◌, inl, inr, Bool, true, false, List, [], ◌∷◌, codes, refl, subst, if◌then◌else◌, Some}
 use Rattle.std.specs.Prelude.{slice_get}
 use Rattle.std.specs.List.{AllByRecursion}
 use Rattle.branch_doc.specs.declared.plain.Kind.TheVariants as kind
 use Rattle.branch_doc.specs.declared.plain.PlainOp.{PlainOp}
 use Rattle.branch_doc.specs.Kinds.{op_kind}
+use Rattle.branch_doc.specs.Types.{PlainForms}
+use Rattle.branch_history.specs.declared.moves.Move.{Move}
+use Rattle.branch_history.specs.declared.moves.Move.TheVariants as move
 use Rattle.branch_script.specs.declared.step.Step.{Step}
 use Rattle.branch_script.specs.declared.step.Step.TheVariants.{Look, Fork, Merge, Join, Do, Ask, Drop}
 use Rattle.branch_gen.specs.Draws.{next, pick, Drawn}
 use Rattle.branch_gen.specs.Clients.{client_branch, own, top, step_for, step, drawn_steps, client_steps}
-use Rattle.parallel_clients.specs.Outcomes.{MayDrop, MayDropIn}
-use Rattle.client_runs.specs.Scripts.{scripts_of}
+use Rattle.parallel_clients.specs.Allowed.{AllowsScripts, AllowsStep, IsOfScripts, MayMake}
+use Rattle.client_runs.specs.Worked.{IsOfClients}
 
 -- one of a client's sessions
 abbrev pub IsSession : List ℕ → Type 0
@@ -23,6 +26,16 @@ IsOfBoth branch name = (name ≡ codes "main") ⊎ (name ≡ branch)
 -- an operation is on no sequence
 abbrev pub IsOfNoSequence : PlainOp → Type 0
 IsOfNoSequence op = op_kind op ≡ kind.Sequence → ⊥
+
+-- a move that drops no branch
+abbrev pub IsNoDrop : {O R : Type 0} → Move O R → Type 0
+IsNoDrop (move.Drop branch) = ⊥
+IsNoDrop made = Unit {0}
+
+-- a step that drops no branch
+abbrev pub KeepsBranch : Step → Type 0
+KeepsBranch (Drop session) = ⊥
+KeepsBranch step = Unit {0}
 
 abbrev pub IsDrawn : List ℕ → Step → Type 0
 IsDrawn branch (Do session op) = IsSession session × IsOfNoSequence op
@@ -58,29 +71,60 @@ module _ (branch : List ℕ) where
   steps-drawn (suc steps) x zero s is = let same : (step branch x).made ≡ s = cc in subst (IsDrawn branch) same (step-drawn x)
   steps-drawn (suc steps) x (suc k) s is = steps-drawn steps (step branch x).state k s is
 
-  drawn-may : (s : Step) → IsDrawn branch s → MayDrop false s
-  drawn-may (Do session op) is = tt
-  drawn-may (Merge session from) is = tt
-  drawn-may (Join session from) is = tt
-  drawn-may (Look session from) is = tt
-  drawn-may (Fork new from) is = tt
-  drawn-may (Ask from query) is = tt
-  drawn-may (Drop session) is = absurd is
+  drawn-keeps : (s : Step) → IsDrawn branch s → KeepsBranch s
+  drawn-keeps (Do session op) is = tt
+  drawn-keeps (Merge session from) is = tt
+  drawn-keeps (Join session from) is = tt
+  drawn-keeps (Look session from) is = tt
+  drawn-keeps (Fork new from) is = tt
+  drawn-keeps (Ask from query) is = tt
+  drawn-keeps (Drop session) is = absurd is
 
-  steps-may : (steps x : ℕ) → AllByRecursion (MayDrop false) (drawn_steps branch steps x)
-  steps-may zero x = tt
-  steps-may (suc steps) x = (drawn-may (step branch x).made (step-drawn x), steps-may steps (step branch x).state)
+  steps-keep : (steps x : ℕ) → AllByRecursion KeepsBranch (drawn_steps branch steps x)
+  steps-keep zero x = tt
+  steps-keep (suc steps) x = (drawn-keeps (step branch x).made (step-drawn x), steps-keep steps (step branch x).state)
 
 -- no step of a client drops a branch
-client-may : (client steps number : ℕ) → AllByRecursion (MayDrop false) (client_steps client steps number)
+client-keeps : (client steps number : ℕ) → AllByRecursion KeepsBranch (client_steps client steps number)
 unfolding client_steps
-client-may client steps number = (tt, (tt, (tt, steps-may (client_branch client) steps ((number + client) % 2 ^ 64))))
+client-keeps client steps number = (tt, (tt, (tt, steps-keep (client_branch client) steps ((number + client) % 2 ^ 64))))
 
-one-more : {X : Type 0} (P : X → Type 0) (xs : List X) (x : X) → AllByRecursion P xs → P x → AllByRecursion P (xs ++ x ∷ [])
-one-more P [] x all is = (is, tt)
-one-more P (y ∷ ys) x all is = (all.0, one-more P ys x all.1 is)
+pub all-mapped : {X : Type 0} (P Q : X → Type 0) → ((x : X) → P x → Q x) → (xs : List X) → AllByRecursion P xs → AllByRecursion Q xs
+all-mapped P Q says [] all = tt
+all-mapped P Q says (x ∷ xs) all = (says x all.0, all-mapped P Q says xs all.1)
 
-pub scripts-may : (count steps number : ℕ) → MayDropIn false (scripts_of count steps number)
-scripts-may zero steps number = tt
-scripts-may (suc count) steps number =
-    one-more (AllByRecursion (MayDrop false)) (scripts_of count steps number) (client_steps count steps number) (scripts-may count steps number) (client-may count steps number)
+got : {X : Type 0} (P : X → Type 0) (xs : List X) (k : ℕ) (x : X) → AllByRecursion P xs → slice_get xs k ≡ Some x → P x
+got P [] k x all is = let never : ⊥ = cc in absurd never
+got P (y ∷ ys) zero x all is = let same : y ≡ x = cc in subst P same all.0
+got P (y ∷ ys) (suc k) x all is = got P ys k x all.1 is
+
+all-placed : {X : Type 0} (P : X → Type 0) (xs : List X) → ((k : ℕ) (x : X) → slice_get xs k ≡ Some x → P x) → AllByRecursion P xs
+all-placed P [] placed = tt
+all-placed P (x ∷ xs) placed = (placed zero x refl, all-placed P xs (λ k y at. placed (suc k) y at))
+
+module _ {O R Q A : Type 0} (forms : PlainForms O Q R A) where
+  makes-no_drop : (s : Step) (made : Move O R) → KeepsBranch s → MayMake forms s made → IsNoDrop made
+  makes-no_drop (Do session op) (move.Drop branch) keeps may = may
+  makes-no_drop (Merge session from) (move.Drop branch) keeps may = may
+  makes-no_drop (Join session from) (move.Drop branch) keeps may = may
+  makes-no_drop (Look session from) (move.Drop branch) keeps may = may
+  makes-no_drop (Fork new from) (move.Drop branch) keeps may = may
+  makes-no_drop (Ask from query) (move.Drop branch) keeps may = may
+  makes-no_drop (Drop session) (move.Drop branch) keeps may = keeps
+  makes-no_drop s (move.Fork name number source) keeps may = tt
+  makes-no_drop s (move.Operation branch op reply) keeps may = tt
+  makes-no_drop s (move.Merge branch commit) keeps may = tt
+  makes-no_drop s (move.Join branch commits) keeps may = tt
+  makes-no_drop s (move.Forward branch commit) keeps may = tt
+  makes-no_drop s (move.Received parents origin clock act) keeps may = tt
+  makes-no_drop s (move.Place name number commit) keeps may = tt
+
+  pub clients-no_drop : (count steps number : ℕ) (made : Move O R) → IsOfClients forms count steps number made → IsNoDrop made
+  clients-no_drop count steps number made is = makes-no_drop is.step made (got KeepsBranch (client_steps is.client steps number) is.place is.step (client-keeps is.client steps number) is.is_step) is.may
+
+  -- the scripts allow what their own steps may make
+  pub scripts-own : (scripts : List (List Step)) → AllowsScripts forms (IsOfScripts forms scripts) scripts
+  scripts-own scripts =
+      all-placed (AllByRecursion (AllowsStep forms (IsOfScripts forms scripts))) scripts
+      (λ client steps is. all-placed (AllowsStep forms (IsOfScripts forms scripts)) steps
+      (λ place step at made may. record { client = client; steps = steps; is_script = is; place = place; step = step; is_step = at; may = may }))

@@ -29,15 +29,15 @@ use Rattle.branch_doc.specs.Types.{PlainForms}
 use Rattle.branch_script.specs.declared.step.Step.{Step}
 use Rattle.branch_script.specs.declared.step.Step.TheVariants.{Look, Fork, Merge, Join, Do, Ask, Drop}
 use Rattle.branch_gen.specs.Clients.{client_branch, own, top, drawn_steps, client_steps}
-use Rattle.branch_shared.specs.Keeps.{IsNoDrop, DropsNone}
+use Rattle.branch_shared.specs.Allowed.{GrowsBy}
 use Rattle.parallel_clients.specs.declared.outcome.ClientRefusal.{ClientRefusal}
 use Rattle.parallel_clients.specs.declared.outcome.ClientRefusal.TheVariants as refusal
 use Rattle.parallel_clients.specs.declared.outcome.Outcome.{Outcome}
 use Rattle.parallel_clients.specs.declared.outcome.Outcome.TheVariants.{Done, Refused, Unseen}
-use Rattle.parallel_clients.specs.Played.{Sights, no_sights, with_sight, IsMoveAt, WasHead, HadHead, HasBranch, IsDone, IsForked, IsMerged, IsJoined, IsTaken, IsReached, BringsNothing, TakesOne, TakesNone, IfSees, PlayedFrom, PlayedTo}
+use Rattle.parallel_clients.specs.Played.{Sights, no_sights, with_sight, IsMoveAt, WasHead, HadHead, HasBranch, IsDone, IsForked, IsMerged, IsJoined, IsReached, BringsNothing, TakesOne, TakesNone, IfSees, PlayedFrom, PlayedTo}
 use Rattle.parallel_clients.specs.Outcomes.{Setting, RefusesLook, RefusesJoin, RefusesLanding, RefusesStep, LacksKind, StepRefused, SeesNone, ComesTo}
 use Rattle.client_runs.specs.Worked.{MayRefuse, MayComeTo}
-use Rattle.client_runs.proofs.Drawn.{IsSession, IsOfBoth, IsOfNoSequence, IsDrawn, steps-drawn}
+use Rattle.client_runs.proofs.Drawn.{IsNoDrop, IsSession, IsOfBoth, IsOfNoSequence, IsDrawn, steps-drawn}
 use Rattle.client_runs.proofs.Reasons.{Says, reason-full, says-look, says-fork, says-land, says-merge}
 
 -- some branch has the name
@@ -53,8 +53,6 @@ Knows origin moves (Join session from) = AllByRecursion (IsThere origin moves) f
 Knows origin moves (Do session op) = IsOfNoSequence op
 Knows origin moves (Ask from query) = ⊥
 Knows origin moves (Drop session) = ⊥
-
--- moves that drop no branch
 
 all-first : {X : Type 0} (P : X → Type 0) (xs ys : List X) → AllByRecursion P (xs ++ ys) → AllByRecursion P xs
 all-first P [] ys all = tt
@@ -115,11 +113,11 @@ module _ {O R : Type 0} (origin : ℕ) where
 abbrev pub GoesOnFrom : {O R : Type 0} → List (Move O R) → List (Move O R) → Type 0
 GoesOnFrom {O} {R} old moves = (before : List (Move O R)) (begins : IsPrefix before moves) → length old ≤ length before → AllByRecursion IsNoDrop begins.0
 
-pub goes-on-from : {O R : Type 0} (old moves new : List (Move O R)) → DropsNone old new → IsPrefix moves new → GoesOnFrom old moves
+pub goes-on-from : {O R : Type 0} (old moves new : List (Move O R)) → GrowsBy IsNoDrop old new → IsPrefix moves new → GoesOnFrom old moves
 goes-on-from {O} {R} old moves new drops begins before first le =
     let whole : old ++ drops.more ≡ before ++ (first.0 ++ begins.0) =
     drops.is ∙ sym begins.1 ∙ ap (λ (ms : List (Move O R)). ms ++ begins.0) (sym first.1) ∙ append_assoc before first.0 begins.0 in
-    all-first IsNoDrop first.0 begins.0 (all-behind IsNoDrop old drops.more before (first.0 ++ begins.0) whole le drops.none)
+    all-first IsNoDrop first.0 begins.0 (all-behind IsNoDrop old drops.more before (first.0 ++ begins.0) whole le drops.all)
 
 module _ {O R : Type 0} (origin : ℕ) (old moves : List (Move O R)) (on : GoesOnFrom old moves) (main : IsKeptBranch (store_of origin moves).branches 0) where
   -- a branch is there with its name later
@@ -393,12 +391,12 @@ module _ {S O R Q A : Type 0} (on : Setting S O R Q A) (moves : List (Move O R))
             let e = ap (λ (ms : List (Move O R)). length (store_of on.fixed.terms.origin ms).branches) grows.1 in
             omega (arith, kept, e)
 
-    says-may : (old : List (Move O R)) → DropsNone old moves → (r : ClientRefusal) (faults : ℕ) (sights : Sights) (s : Step) → Knows on.fixed.terms.origin moves s → StepRefused on moves faults sights s r → MayRefuse on.fixed old later r
+    says-may : (old : List (Move O R)) → GrowsBy IsNoDrop old moves → (r : ClientRefusal) (faults : ℕ) (sights : Sights) (s : Step) → Knows on.fixed.terms.origin moves s → StepRefused on moves faults sights s r → MayRefuse on.fixed old later r
     says-may old drops (refusal.UnknownBranch name) faults sights s knows is = knows-says sights s (machine.UnknownBranch name) knows is
     says-may old drops (refusal.Dropped branch) faults sights s knows is =
         let origin : ℕ = on.fixed.terms.origin in
         let dropped : is_dropped (store_of origin moves).branches branch ≡ true = knows-says sights s (machine.Dropped branch) knows is in
-        dropped-before origin old drops.more branch drops.none (ap (λ (ms : List (Move O R)). is_dropped (store_of origin ms).branches branch) drops.is ∙ dropped)
+        dropped-before origin old drops.more branch drops.all (ap (λ (ms : List (Move O R)). is_dropped (store_of origin ms).branches branch) drops.is ∙ dropped)
     says-may old drops refusal.KeepsMain faults sights s knows is = knows-says sights s machine.KeepsMain knows is
     says-may old drops (refusal.Exhausted clock) faults sights s knows is = knows-says sights s (machine.Exhausted clock) knows is
     says-may old drops (refusal.FullCommits count) faults sights s knows is =
@@ -421,12 +419,12 @@ module _ {S O R Q A : Type 0} (on : Setting S O R Q A) (moves : List (Move O R))
     says-may old drops refusal.Memory faults sights s knows is = tt
 
 -- what may become of a client
-module _ {S O R Q A : Type 0} (on : Setting S O R Q A) (lacks : (op : PlainOp) → on.forms.op op ≡ None → op_kind op ≡ kind.Sequence) (old new : List (Move O R)) (drops : DropsNone old new)
+module _ {S O R Q A : Type 0} (on : Setting S O R Q A) (lacks : (op : PlainOp) → on.forms.op op ≡ None → op_kind op ≡ kind.Sequence) (old new : List (Move O R)) (drops : GrowsBy IsNoDrop old new)
     (within : (moves : List (Move O R)) → IsPrefix moves new → IsWithin on.fixed.terms moves)
     (main : (moves : List (Move O R)) → IsPrefix moves new → IsKeptBranch (store_of on.fixed.terms.origin moves).branches 0) where
   -- up to a first part that begins with the old history, no branch is dropped either
-  drops-none : (moves : List (Move O R)) → IsPrefix old moves → IsPrefix moves new → DropsNone old moves
-  drops-none moves begun begins = record { more = begun.0; is = begun.1; none = goes-on-from old moves new drops begins old begun (omega arith) }
+  drops-none : (moves : List (Move O R)) → IsPrefix old moves → IsPrefix moves new → GrowsBy IsNoDrop old moves
+  drops-none moves begun begins = record { more = begun.0; is = begun.1; all = goes-on-from old moves new drops begins old begun (omega arith) }
 
   pub may-come : (faults client steps number : ℕ) (outcome : Outcome) → ComesTo on old new faults (client_steps client steps number) outcome → MayComeTo on.fixed old new outcome
   may-come faults client steps number (Done places) is = tt

@@ -1,5 +1,5 @@
-pub mod Crashes
 pub mod Drawn
+pub mod Crashes
 pub mod Reasons
 pub mod Known
 pub mod Runs

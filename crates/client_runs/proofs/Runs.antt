@@ -22,13 +22,15 @@ use Rattle.branch_doc.specs.Kinds.{op_kind}
 use Rattle.branch_doc.specs.Types.{PlainForms}
 use Rattle.branch_script.specs.declared.step.Step.{Step}
 use Rattle.branch_gen.specs.Clients.{client_steps}
-use Rattle.branch_shared.specs.Keeps.{DropsNone}
+use Rattle.branch_shared.specs.Allowed.{GrowsBy}
 use Rattle.branch_shared.specs.Passes.{PassView}
 use Rattle.parallel_clients.specs.declared.outcome.Outcome.{Outcome}
+use Rattle.parallel_clients.specs.Allowed.{IsOfScripts}
 use Rattle.parallel_clients.specs.Clients.{Ran, all_places}
 use Rattle.parallel_clients.specs.Outcomes.{Setting, setting, IsOutcome, StaysOutcome}
 use Rattle.client_runs.specs.Scripts.{scripts_of}
-use Rattle.client_runs.specs.Worked.{HaveRun, HaveWorked}
+use Rattle.client_runs.specs.Worked.{HaveRun, HaveWorked, IsOfClients}
+use Rattle.client_runs.proofs.Drawn.{IsNoDrop, all-mapped}
 use Rattle.client_runs.proofs.Known.{may-come}
 
 -- what holds of an answer, in other words
@@ -162,6 +164,23 @@ scripts-at (suc count) steps number k s is =
     scripts-at count steps number k s (sym (slice_get-append first (last ∷ []) k there) ∙ is))
     (cases_eq k count)
 
+-- what a step of the clients' scripts may make, a client may
+pub of-clients : {O R Q A : Type 0} (forms : PlainForms O Q R A) (count steps number : ℕ) (scripts : List (List Step)) → scripts ≡ scripts_of count steps number → (made : Move O R) → IsOfScripts forms scripts made → IsOfClients forms count steps number made
+of-clients forms count steps number scripts drawn made is =
+    let at = subst (λ (xs : List (List Step)). slice_get xs is.client ≡ Some is.steps) drawn is.is_script in
+    record {
+      client = is.client;
+      is_one = omega (arith, slice_get_within (scripts_of count steps number) is.client is.steps at, length-scripts_of count steps number);
+      place = is.place;
+      step = is.step;
+      is_step = subst (λ (xs : List Step). slice_get xs is.place ≡ Some is.step) (scripts-at count steps number is.client is.steps at) is.is_step;
+      may = is.may;
+    }
+
+-- a history that grows by what allows less grows by what allows more
+pub grows-wider : {M : Type 0} (P Q : M → Type 0) → ((m : M) → P m → Q m) → (old new : List M) → GrowsBy P old new → GrowsBy Q old new
+grows-wider P Q wider old new grows = record { more = grows.more; is = grows.is; all = all-mapped P Q wider grows.more grows.all }
+
 -- what stands beside an item of the second list
 record Beside {X Y : Type 0} (Q : X → Y → Type 0) (xs : List X) (k : ℕ) (y : Y) : Type 0 where
   first : X
@@ -176,7 +195,7 @@ beside Q (x ∷ xs) (z ∷ ys) zero y all is = let same : z ≡ y = cc in record
 beside Q (x ∷ xs) (z ∷ ys) (suc k) y all is = let rest = beside Q xs ys k y all.1 is in record { first = rest.first; at = rest.at; holds = rest.holds }
 
 -- clients of drawn steps, over a valid history
-module _ {S O R Q A : Type 0} (on : Setting S O R Q A) (lacks : (op : PlainOp) → on.forms.op op ≡ None → op_kind op ≡ kind.Sequence) (old new : List (Move O R)) (drops : DropsNone old new)
+module _ {S O R Q A : Type 0} (on : Setting S O R Q A) (lacks : (op : PlainOp) → on.forms.op op ≡ None → op_kind op ≡ kind.Sequence) (old new : List (Move O R)) (drops : GrowsBy IsNoDrop old new)
     (within : (moves : List (Move O R)) → IsPrefix moves new → IsWithin on.fixed.terms moves)
     (main : (moves : List (Move O R)) → IsPrefix moves new → IsKeptBranch (store_of on.fixed.terms.origin moves).branches 0) (faults count steps number : ℕ) where
   pub have-worked : (outcomes : List Outcome) → HaveRun on old new faults (scripts_of count steps number) outcomes → HaveWorked on old new faults count steps number outcomes

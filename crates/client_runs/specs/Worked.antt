@@ -7,12 +7,14 @@ use Rattle.branch_names.specs.Heads.{is_dropped}
 use Rattle.branch_history.specs.declared.moves.Move.{Move}
 use Rattle.branch_history.specs.History.{store_of}
 use Rattle.branch_machine.specs.Fixed.{Fixed}
+use Rattle.branch_doc.specs.Types.{PlainForms}
 use Rattle.branch_script.specs.declared.step.Step.{Step}
 use Rattle.branch_gen.specs.Clients.{client_steps}
 use Rattle.parallel_clients.specs.declared.outcome.ClientRefusal.{ClientRefusal}
 use Rattle.parallel_clients.specs.declared.outcome.ClientRefusal.TheVariants as refusal
 use Rattle.parallel_clients.specs.declared.outcome.Outcome.{Outcome}
 use Rattle.parallel_clients.specs.declared.outcome.Outcome.TheVariants.{Done, Refused, Unseen}
+use Rattle.parallel_clients.specs.Allowed.{MayMake}
 use Rattle.parallel_clients.specs.Clients.{all_places, count_places, HavePlacesApart}
 use Rattle.parallel_clients.specs.Outcomes.{Setting, IsOutcome}
 
@@ -47,6 +49,15 @@ abbrev pub MayComeTo : {S O R Q A : Type 0} → Fixed S O R Q A → List (Move O
 MayComeTo fixed old new (Done places) = Unit {0}
 MayComeTo fixed old new (Refused step refusal places) = MayRefuse fixed old new refusal
 MayComeTo fixed old new (Unseen step places) = ⊥
+
+-- a step of one of so many clients of drawn steps may make the move
+pub record IsOfClients {O R Q A : Type 0} (forms : PlainForms O Q R A) (count steps number : ℕ) (made : Move O R) : Type 0 where
+  pub client : ℕ
+  pub is_one : client < count
+  pub place : ℕ
+  pub step : Step
+  pub is_step : slice_get (client_steps client steps number) place ≡ Some step
+  pub may : MayMake forms step made
 
 -- what became of a client with these steps, where a history grew from an old one to a new one, and the disk has had so many faults since it was opened
 pub record HasWorked {S O R Q A : Type 0} (on : Setting S O R Q A) (old new : List (Move O R)) (faults : ℕ) (steps : List Step) (outcome : Outcome) : Type 0 where

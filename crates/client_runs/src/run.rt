@@ -6,7 +6,7 @@ ghost use Rattle.branch_machine.specs.Validity.{IsFullyValid};
 ghost use Rattle.branch_shared.specs.Crashes.{IsSafeFrom};
 ghost use Rattle.branch_shared.specs.Keeps.{faults_since};
 ghost use Rattle.parallel_clients.specs.Outcomes.{setting};
-ghost use Rattle.client_runs.specs.Worked.{HaveWorked};
+ghost use Rattle.client_runs.specs.Worked.{HaveWorked, IsOfClients};
 
 use crate::scripts::scripts;
 use crate::share::{Finished, share};
@@ -46,7 +46,7 @@ pub struct Work {
 ///
 /// At each moment from the call on, a crash leaves a part of the history that the core comes back with, no shorter than
 /// the old one; once the disk has failed, perhaps with more moves behind it, at most 64, which are valid there: those of
-/// the one call that failed.
+/// the one call that failed. Some drawn step of some client may make each of these.
 pub fn run_on<
     T: Forms + Send + Sync,
     D: Disk + Drop + Send,
@@ -64,7 +64,8 @@ pub fn run_on<
         core.history result.core.history (faults_since D.faults result.core) work.count work.steps
         work.number) }
     ensures idle { OnErr result.outcomes (result.core.history ≡ core.history) }
-    ensures crashes { IsSafeFrom D.Disk (fix T.meaning core.terms A.address) core result.core }
+    ensures crashes { IsSafeFrom D.Disk (fix T.meaning core.terms A.address)
+        (IsOfClients T.forms work.count work.steps work.number) core result.core }
 {
     keeps_limits::<T>();
     keeps_order::<T>();

@@ -1,12 +1,14 @@
 // A core that clients share for the time of their scripts.
-ghost use Rattle.std.specs.Prelude.{◌≡◌, ◌*◌, ◌<◌, ◌≤◌, false, length, IfOk, OnErr};
+ghost use Rattle.std.specs.Prelude.{◌≡◌, ◌*◌, ◌<◌, ◌≤◌, length, IfOk, OnErr};
 ghost use mathlib.Core.List.{IsPrefix};
 ghost use Rattle.branch_machine.specs.Fixed.{fix};
 ghost use Rattle.branch_machine.specs.Validity.{IsFullyValid};
+ghost use Rattle.branch_shared.specs.Allowed.{GrowsBy};
 ghost use Rattle.branch_shared.specs.Crashes.{IsSafeFrom, IsSharedAt};
-ghost use Rattle.branch_shared.specs.Keeps.{DropsNone, faults_since};
+ghost use Rattle.branch_shared.specs.Keeps.{faults_since};
 ghost use Rattle.branch_shared.specs.Names.{IsNamed};
-ghost use Rattle.parallel_clients.specs.Outcomes.{MayDropIn, setting};
+ghost use Rattle.parallel_clients.specs.Allowed.{AllowsScripts};
+ghost use Rattle.parallel_clients.specs.Outcomes.{setting};
 ghost use Rattle.client_runs.specs.Worked.{HaveRun};
 
 use branch_address::Address;
@@ -43,10 +45,9 @@ pub(crate) fn share<
     requires name { IsNamed blank N.table N.queue N.begun N.terms N.parts N.opened }
     requires since { IsSharedAt D.Disk N.since N.left blank.core }
     requires parts { 2 * length scripts.now < blank.parts }
-    requires drops { N.drops ≡ false }
-    requires scripts { MayDropIn N.drops scripts.now }
+    requires allowed { AllowsScripts T.forms N.allows scripts.now }
     ensures grows { IsPrefix blank.core.history result.core.history }
-    ensures drops_none { DropsNone blank.core.history result.core.history }
+    ensures allowed { GrowsBy N.allows blank.core.history result.core.history }
     ensures valid { IsFullyValid (fix T.meaning blank.core.terms A.address) result.core.history }
     ensures terms { result.core.terms ≡ blank.core.terms }
     ensures opened { D.faults result.core.opened ≡ blank.opened }
@@ -56,8 +57,8 @@ pub(crate) fn share<
         (HaveRun (setting (fix T.meaning blank.core.terms A.address) T.forms blank.opened)
         blank.core.history result.core.history (faults_since D.faults result.core) scripts.now) }
     ensures idle { OnErr result.outcomes (result.core.history ≡ blank.core.history) }
-    ensures crashes { IsSafeFrom D.Disk (fix T.meaning blank.core.terms A.address) blank.core
-        result.core }
+    ensures crashes { IsSafeFrom D.Disk (fix T.meaning blank.core.terms A.address) N.allows
+        blank.core result.core }
 {
     stays_outcome::<T>();
     let (shared, mut pass) = Shared::<T, D, A, N>::new(blank);

@@ -1,3 +1,4 @@
+pub mod Allowing
 pub mod Machines
 pub mod Turned
 pub mod Went

@@ -1,4 +1,5 @@
 pub mod Played
+pub mod Allowed
 pub mod Outcomes
 pub mod Clients
 pub mod Sessions

@@ -1,5 +1,5 @@
 -- What becomes of a client.
-use Rattle.std.specs.Prelude.{◌≡◌, ℕ, ◌+◌, ◌<◌, ◌≤◌, ◌⊎◌, List, [], ◌∷◌, ◌++◌, length, take, slice_get, Option, Some, None, Bool, true}
+use Rattle.std.specs.Prelude.{◌≡◌, ℕ, ◌+◌, ◌<◌, ◌≤◌, ◌⊎◌, List, [], ◌∷◌, ◌++◌, length, take, slice_get, Option, Some, None}
 use Rattle.std.specs.List.{AllByRecursion}
 use mathlib.Core.List.{IsPrefix}
 use Rattle.branch_io.specs.Causes.{Rose}
@@ -67,15 +67,6 @@ RefusesStep on moves sights (Merge session from) refusal =
 RefusesStep on moves sights (Join session from) refusal = IfSees (sights session) (λ branch. RefusesLook on moves from refusal ⊎ RefusesJoin on moves branch from refusal)
 RefusesStep on moves sights (Drop session) refusal =
     IfSees (sights session) (λ branch. (head : ℕ) × HadHead on.fixed.terms.origin moves branch head × FullyRefuses on.fixed moves (machine.Drop branch head) refusal)
-
--- a step that drops a branch is one of a store that drops some
-abbrev pub MayDrop : Bool → Step → Type 0
-MayDrop drops (Drop session) = drops ≡ true
-MayDrop drops step = Unit {0}
-
--- each step of each script is
-abbrev pub MayDropIn : Bool → List (List Step) → Type 0
-MayDropIn drops scripts = AllByRecursion (AllByRecursion (MayDrop drops)) scripts
 
 -- the disk has failed since the store was opened
 abbrev pub HasFailed : {S O R Q A : Type 0} → Setting S O R Q A → ℕ → Type 0

@@ -4,7 +4,8 @@ ghost use Rattle.std.specs.List.{AllByRecursion, AllZip};
 ghost use Rattle.branch_machine.specs.Fixed.{fix};
 ghost use Rattle.parallel_clients.specs.Clients.{Ran};
 ghost use Rattle.parallel_clients.specs.Entrants.{HasRunOwn, HasWorked, HaveEntered, HaveLeft, IsReady, IsSeat};
-ghost use Rattle.parallel_clients.specs.Outcomes.{MayDrop, MayDropIn, setting};
+ghost use Rattle.parallel_clients.specs.Allowed.{AllowsScripts, AllowsStep};
+ghost use Rattle.parallel_clients.specs.Outcomes.{setting};
 
 use crate::client::Client;
 use crate::gate::Gate;
@@ -95,7 +96,7 @@ fn work<T: Forms, D: Disk + Drop, A: Address, N: Named<T::Op, T::Reply>, G: Gate
     alloc: Global,
     entrant: &mut Entrant<'_, Pass<T, N>>,
 )
-    requires drops { AllByRecursion (MayDrop N.drops) entrant.old.seat.steps.now }
+    requires allowed { AllByRecursion (AllowsStep T.forms N.allows) entrant.old.seat.steps.now }
     requires parts { 1 < entrant.old.pass.parts }
     requires none { entrant.old.seat.places.items ≡ [] }
     requires room { length entrant.old.seat.steps.now ≤ vec_capacity entrant.old.seat.places }
@@ -122,8 +123,9 @@ fn work_all<
     gate: &G,
     entrants: &mut [Entrant<'_, Pass<T, N>>],
 )
-    requires drops { (i : ℕ) (d : _) → i < length entrants.old
-        → AllByRecursion (MayDrop N.drops) (slice_index_or entrants.old i d).seat.steps.now }
+    requires allowed { (i : ℕ) (d : _) → i < length entrants.old
+        → AllByRecursion (AllowsStep T.forms N.allows)
+        (slice_index_or entrants.old i d).seat.steps.now }
     requires parts { (i : ℕ) (d : _) → i < length entrants.old
         → 1 < (slice_index_or entrants.old i d).pass.parts }
     requires none { (i : ℕ) (d : _) → i < length entrants.old
@@ -142,7 +144,7 @@ fn work_all<
         entrants,
         threads,
         &|number: usize, entrant: &mut Entrant<'_, Pass<T, N>>|
-            requires { AllByRecursion (MayDrop N.drops) entrant.old.seat.steps.now
+            requires { AllByRecursion (AllowsStep T.forms N.allows) entrant.old.seat.steps.now
                 × (1 < entrant.old.pass.parts)
                 × (entrant.old.seat.places.items ≡ [])
                 × (length entrant.old.seat.steps.now ≤ vec_capacity entrant.old.seat.places) }
@@ -193,7 +195,7 @@ fn leave_all<T: Forms, D: Disk + Drop, A: Address, N: Named<T::Op, T::Reply> + D
 /// thread is to be had, the caller's does them. Of threads no clause speaks. A client looks again after each of its moves
 /// but a drop, and where its landing or drop is stale, before it repeats the step; a look again at a branch that was dropped
 /// is passed over, also where another has its name by then, and so is a fork whose name is taken. Any other refusal ends
-/// it. A script drops branches only in a store whose name says that it drops some.
+/// it. The store's name has to allow what the steps may make.
 ///
 /// There is one outcome for each script, in their order, by what the pass has seen when all are done: the moves of a
 /// client's steps, in order, all behind what the pass had seen before, and a moment from there on at which each step that
@@ -215,7 +217,7 @@ pub fn run_clients<
     gate: &G,
 ) -> Result<Listing<Outcome>, Memory>
     requires parts { 2 * length scripts.now < pass.old.parts }
-    requires drops { MayDropIn N.drops scripts.now }
+    requires allowed { AllowsScripts T.forms N.allows scripts.now }
     ensures ran { IfOk result
         (Ran (setting (fix T.meaning N.terms A.address) T.forms N.opened) pass.old
         pass.new

@@ -4,6 +4,7 @@ ghost use mathlib.Core.List.{IsPrefix};
 ghost use Rattle.branch_machine.specs.Fixed.{fix};
 ghost use Rattle.branch_machine.specs.Validity.{IsFullyValid};
 ghost use Rattle.store_seen.specs.Turns.{move_of};
+ghost use Rattle.branch_shared.specs.Allowed.{AllowsWork};
 ghost use Rattle.parallel_clients.specs.Outcomes.{setting};
 ghost use Rattle.parallel_clients.specs.Sessions.{HasStayed, IsLanding, IsLandRefused};
 
@@ -65,6 +66,7 @@ impl<T: Forms, D: Disk + Drop, A: Address, N: Named<T::Op, T::Reply>, G: Gate, R
         places: &mut Vec<u64>,
         prepared: Prepared<T>,
     ) -> Result<Landing, ClientRefusal>
+        requires allowed { AllowsWork N.allows prepared.seen.branch prepared.work }
         requires made { IsPrefix prepared.seen.history pass.old.moves
             × (prepared.seen.terms ≡ N.terms) }
         requires parts { 1 < pass.old.parts }

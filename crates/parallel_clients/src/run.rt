@@ -3,7 +3,8 @@ ghost use Rattle.std.specs.Prelude.{◌≡◌, ◌<◌, ◌≤◌, [], length, v
 ghost use Rattle.std.specs.List.{AllByRecursion};
 ghost use Rattle.branch_machine.specs.Fixed.{fix};
 ghost use Rattle.parallel_clients.specs.Clients.{KeepsValid};
-ghost use Rattle.parallel_clients.specs.Outcomes.{IsOutcome, MayDrop, places_of, setting};
+ghost use Rattle.parallel_clients.specs.Allowed.{AllowsStep};
+ghost use Rattle.parallel_clients.specs.Outcomes.{IsOutcome, places_of, setting};
 ghost use Rattle.parallel_clients.specs.Sessions.{Advances, stopped_at};
 
 use crate::client::Client;
@@ -52,7 +53,7 @@ impl<T: Forms, D: Disk + Drop, A: Address, N: Named<T::Op, T::Reply>, G: Gate, R
         steps: &[Step],
         mut places: Vec<u64>,
     ) -> Outcome
-        requires drops { AllByRecursion (MayDrop N.drops) steps.now }
+        requires allowed { AllByRecursion (AllowsStep T.forms N.allows) steps.now }
         requires parts { 1 < pass.old.parts }
         requires none { places.items ≡ [] }
         requires room { length steps.now ≤ vec_capacity places }

@@ -1,11 +1,12 @@
 // The steps of a client.
-ghost use Rattle.std.specs.Prelude.{◌≡◌, ◌<◌, ◌≤◌, ◌+◌, true, [], ◌∷◌, length, vec_capacity, IfErr, OnOk};
+ghost use Rattle.std.specs.Prelude.{◌≡◌, ◌<◌, ◌≤◌, ◌+◌, [], ◌∷◌, length, vec_capacity, IfErr, OnOk};
 ghost use mathlib.Core.List.{IsPrefix};
 ghost use Rattle.branch_machine.specs.Fixed.{fix};
 ghost use Rattle.branch_script.specs.declared.step.Step.TheVariants as step;
 ghost use Rattle.branch_shared.specs.Passes.{IsSeenOn};
+ghost use Rattle.parallel_clients.specs.Allowed.{AllowsStep};
 ghost use Rattle.parallel_clients.specs.Clients.{KeepsValid};
-ghost use Rattle.parallel_clients.specs.Outcomes.{MayDrop, setting};
+ghost use Rattle.parallel_clients.specs.Outcomes.{setting};
 ghost use Rattle.parallel_clients.specs.Sessions.{AreSessions, Advances, IsStopped, PlaysOn, Stops, sights_of, stage_of};
 
 use crate::client::{Client, Sessions};
@@ -81,6 +82,7 @@ impl<T: Forms, D: Disk + Drop, A: Address, N: Named<T::Op, T::Reply>, G: Gate, R
         session: &Name,
         op: &PlainOp,
     ) -> Result<bool, Stop>
+        requires allowed { AllowsStep T.forms N.allows (step.Do session.now op.now) }
         requires sessions { AreSessions N.terms pass.old.moves sessions.old.entries }
         requires parts { 1 < pass.old.parts }
         requires room { length places.old.items < vec_capacity places.old }
@@ -122,6 +124,7 @@ impl<T: Forms, D: Disk + Drop, A: Address, N: Named<T::Op, T::Reply>, G: Gate, R
         session: &Name,
         from: &Name,
     ) -> Result<bool, Stop>
+        requires allowed { AllowsStep T.forms N.allows (step.Merge session.now from.now) }
         requires sessions { AreSessions N.terms pass.old.moves sessions.old.entries }
         requires parts { 1 < pass.old.parts }
         requires room { length places.old.items < vec_capacity places.old }
@@ -164,6 +167,7 @@ impl<T: Forms, D: Disk + Drop, A: Address, N: Named<T::Op, T::Reply>, G: Gate, R
         session: &Name,
         from: &[Name],
     ) -> Result<bool, Stop>
+        requires allowed { AllowsStep T.forms N.allows (step.Join session.now from.now) }
         requires sessions { AreSessions N.terms pass.old.moves sessions.old.entries }
         requires parts { 1 < pass.old.parts }
         requires room { length places.old.items < vec_capacity places.old }
@@ -206,7 +210,7 @@ impl<T: Forms, D: Disk + Drop, A: Address, N: Named<T::Op, T::Reply>, G: Gate, R
         places: &mut Vec<u64>,
         session: &Name,
     ) -> Result<(), Stop>
-        requires drops { N.drops ≡ true }
+        requires allowed { AllowsStep T.forms N.allows (step.Drop session.now) }
         requires sessions { AreSessions N.terms pass.old.moves sessions.old.entries }
         requires room { length places.old.items < vec_capacity places.old }
         ensures advances { Advances pass.old pass.new places.old.items places.new.items }
@@ -245,7 +249,8 @@ impl<T: Forms, D: Disk + Drop, A: Address, N: Named<T::Op, T::Reply>, G: Gate, R
         new: &Name,
         from: &Name,
     ) -> Result<(), Stop>
-        requires { length places.old.items < vec_capacity places.old }
+        requires allowed { AllowsStep T.forms N.allows (step.Fork new.now from.now) }
+        requires room { length places.old.items < vec_capacity places.old }
         ensures advances { Advances pass.old pass.new places.old.items places.new.items }
         ensures valid { KeepsValid (fix T.meaning N.terms A.address) pass.old pass.new }
         ensures capacity { vec_capacity places.old ≤ vec_capacity places.new }
@@ -363,7 +368,7 @@ impl<T: Forms, D: Disk + Drop, A: Address, N: Named<T::Op, T::Reply>, G: Gate, R
         places: &mut Vec<u64>,
         step: &Step,
     ) -> Result<bool, Stop>
-        requires drops { MayDrop N.drops step.now }
+        requires allowed { AllowsStep T.forms N.allows step.now }
         requires sessions { AreSessions N.terms pass.old.moves sessions.old.entries }
         requires parts { 1 < pass.old.parts }
         requires room { length places.old.items < vec_capacity places.old }

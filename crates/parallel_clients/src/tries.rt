@@ -1,10 +1,11 @@
 // The tries of a client to move.
-ghost use Rattle.std.specs.Prelude.{◌≡◌, ◌<◌, ◌≤◌, true, length, vec_capacity, IfOk, IfErr};
+ghost use Rattle.std.specs.Prelude.{◌≡◌, ◌<◌, ◌≤◌, length, vec_capacity, IfOk, IfErr};
 ghost use mathlib.Core.List.{IsPrefix};
 ghost use Rattle.branch_machine.specs.Fixed.{fix};
 ghost use Rattle.branch_machine.specs.Validity.{IsFullyValid};
 ghost use Rattle.branch_script.specs.declared.step.Step.TheVariants as step;
 ghost use Rattle.branch_shared.specs.Passes.{IsSeenOn, seen_by};
+ghost use Rattle.parallel_clients.specs.Allowed.{AllowsStep};
 ghost use Rattle.parallel_clients.specs.Clients.{KeepsValid};
 ghost use Rattle.parallel_clients.specs.Outcomes.{setting};
 ghost use Rattle.parallel_clients.specs.Sessions.{AreSessions, IsJoinReady, IsJoinUnready, IsTried, IsTriedDrop, IsTriedJoin, IsTriedMerge, Stops, sights_of, undropped_as, ungrouped_as};
@@ -68,6 +69,7 @@ impl<T: Forms, D: Disk + Drop, A: Address, N: Named<T::Op, T::Reply>, G: Gate, R
         session: &Name,
         op: &PlainOp,
     ) -> Result<Landing, Stop>
+        requires allowed { AllowsStep T.forms N.allows (step.Do session.now op.now) }
         requires sessions { AreSessions N.terms pass.old.moves sessions.now.entries }
         requires parts { 1 < pass.old.parts }
         requires room { length places.old.items < vec_capacity places.old }
@@ -116,6 +118,7 @@ impl<T: Forms, D: Disk + Drop, A: Address, N: Named<T::Op, T::Reply>, G: Gate, R
         session: &Name,
         from: &Name,
     ) -> Result<Landing, Stop>
+        requires allowed { AllowsStep T.forms N.allows (step.Merge session.now from.now) }
         requires sessions { AreSessions N.terms pass.old.moves sessions.now.entries }
         requires parts { 1 < pass.old.parts }
         requires room { length places.old.items < vec_capacity places.old }
@@ -201,6 +204,7 @@ impl<T: Forms, D: Disk + Drop, A: Address, N: Named<T::Op, T::Reply>, G: Gate, R
         session: &Name,
         from: &[Name],
     ) -> Result<Landing, Stop>
+        requires allowed { AllowsStep T.forms N.allows (step.Join session.now from.now) }
         requires sessions { AreSessions N.terms pass.old.moves sessions.now.entries }
         requires parts { 1 < pass.old.parts }
         requires room { length places.old.items < vec_capacity places.old }
@@ -244,7 +248,7 @@ impl<T: Forms, D: Disk + Drop, A: Address, N: Named<T::Op, T::Reply>, G: Gate, R
         places: &mut Vec<u64>,
         session: &Name,
     ) -> Result<Landing, Stop>
-        requires drops { N.drops ≡ true }
+        requires allowed { AllowsStep T.forms N.allows (step.Drop session.now) }
         requires sessions { AreSessions N.terms pass.old.moves sessions.now.entries }
         requires room { length places.old.items < vec_capacity places.old }
         ensures prefix { IsPrefix pass.old.moves pass.new.moves }

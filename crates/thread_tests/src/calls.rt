@@ -52,7 +52,9 @@ pub(crate) fn adds<N: Named<SumOp, ()>, R: Wait + Abort>(
     rt: &R,
     shared: &Store<N>,
     pass: &mut Pass<Sum, N>,
-) -> Result<Landed<()>, LandRefused> {
+) -> Result<Landed<()>, LandRefused>
+    requires allowed { (made : _) → N.allows made }
+{
     let prepared = prepares(rt, shared, pass);
     shared.land(rt, pass, prepared)
 }
@@ -91,7 +93,9 @@ fn is_late<N: Named<SumOp, ()>, R: Wait + Abort>(
     shared: &Store<N>,
     turns: &Turns,
     mut pass: Pass<Sum, N>,
-) -> Pass<Sum, N> {
+) -> Pass<Sum, N>
+    requires allowed { (made : _) → N.allows made }
+{
     let prepared = prepares(rt, shared, &mut pass);
     turns.reach(rt, 1);
     turns.wait(rt, 2);
@@ -108,7 +112,9 @@ fn is_early<N: Named<SumOp, ()>, R: Wait + Abort>(
     shared: &Store<N>,
     turns: &Turns,
     mut pass: Pass<Sum, N>,
-) -> Pass<Sum, N> {
+) -> Pass<Sum, N>
+    requires allowed { (made : _) → N.allows made }
+{
     turns.wait(rt, 1);
     let landed = adds(rt, shared, &mut pass).expect(rt, "a landing");
     assert_eq!(rt; landed.moves, 1);
@@ -123,10 +129,16 @@ pub(crate) fn beside<N: Named<SumOp, ()> + Send + Sync, R: Threads + Wait + Abor
     turns: &Turns,
     late: Pass<Sum, N>,
     early: Pass<Sum, N>,
-) -> (Pass<Sum, N>, Pass<Sum, N>) {
+) -> (Pass<Sum, N>, Pass<Sum, N>)
+    requires allowed { (made : _) → N.allows made }
+{
     join(
         rt,
-        || is_late(rt, shared, turns, late),
-        || is_early(rt, shared, turns, early),
+        || -> Pass<Sum, N>
+            requires { (made : _) → N.allows made }
+        { is_late(rt, shared, turns, late) },
+        || -> Pass<Sum, N>
+            requires { (made : _) → N.allows made }
+        { is_early(rt, shared, turns, early) },
     )
 }

@@ -1,5 +1,5 @@
 // Clients of a store of documents.
-ghost use Rattle.std.specs.Prelude.{◌≡◌, ◌*◌, ◌<◌, true, length};
+ghost use Rattle.std.specs.Prelude.{◌*◌, ◌<◌, length};
 ghost use Rattle.branch_shared.specs.Crashes.{IsSharedAt};
 ghost use Rattle.branch_shared.specs.Names.{IsNamed};
 
@@ -72,7 +72,7 @@ fn share<N: Named<DocOp, DocReply> + Drop + Send + Sync, G: Gate, R: Threads + W
 ) -> Played
     requires name { IsNamed blank N.table N.queue N.begun N.terms N.parts N.opened }
     requires since { IsSharedAt ⟦<MemoryDisk as Disk>⟧ N.since N.left blank.core }
-    requires drops { N.drops ≡ true }
+    requires allowed { (made : _) → N.allows made }
     requires parts { 2 * length scripts.now < blank.parts }
 {
     let (shared, mut pass) = Shared::<Doc, MemoryDisk, Sha256Address, N>::new(blank);

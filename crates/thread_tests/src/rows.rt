@@ -25,6 +25,7 @@ fn in_two_threads<N: Named<SumOp, ()> + Send + Sync, R: Threads + Wait + Abort +
 )
     requires name { IsNamed blank N.table N.queue N.begun N.terms N.parts N.opened }
     requires since { IsSharedAt ⟦<MemoryDisk as Disk>⟧ N.since N.left blank.core }
+    requires allowed { (made : _) → N.allows made }
     requires parts { blank.parts ≡ 2 }
 {
     let (shared, mut u): (Store<N>, Pass<Sum, N>) = Shared::new(blank);
@@ -49,6 +50,7 @@ fn two_threads(rt: HostRuntime) {
 fn fails<N: Named<SumOp, ()>, R: Wait + Abort>(rt: &R, blank: Unnamed)
     requires name { IsNamed blank N.table N.queue N.begun N.terms N.parts N.opened }
     requires since { IsSharedAt ⟦<MemoryDisk as Disk>⟧ N.since N.left blank.core }
+    requires allowed { (made : _) → N.allows made }
     requires parts { blank.parts ≡ 2 }
 {
     let (shared, mut u): (Store<N>, Pass<Sum, N>) = Shared::new(blank);

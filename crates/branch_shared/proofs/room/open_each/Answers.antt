@@ -1,5 +1,5 @@
 -- One job more is opened.
-use Rattle.std.proofs.Common.{◌≡◌, List, [], ◌∷◌, ◌++◌, length, map, refl, ap, sym, subst, ◌∙◌, arith}
+use Rattle.std.proofs.Common.{◌≡◌, List, [], ◌∷◌, ◌++◌, length, map, ap, sym, subst, ◌∙◌, arith}
 use Rattle.std.proofs.lemmas.List.{map-append}
 use Rattle.std.specs.List.{AllByRecursion}
 use Rattle.branch_shared.specs.Batches.{JobView, TakenView, MayLand, pass_of}
@@ -32,6 +32,6 @@ loop-waiting-preserved g c =
           ∙ map-pushed (λ (t : TakenView _ _). t.job.prepared) _ _ _ _ _ c.push_reserved.ensures.items inv.prepared (ap (λ (j : JobView _ _). j.prepared) inside);
       passes = all-pushed (λ (t : TakenView _ _). t.given.pass ≡ pass_of begun t.job.pass) _ _ _ c.push_reserved.ensures.items inv.passes
           (c.pass_again.ensures ∙ ap (λ (j : JobView _ _). pass_of begun j.pass) (sym inside));
-      may = all-pushed (λ (t : TakenView _ _). MayLand g.N.Named.table begun g.N.Named.terms t.job) _ _ _ c.push_reserved.ensures.items inv.may
-          (subst (MayLand g.N.Named.table begun g.N.Named.terms) (sym job) c.open-job.ensures.takes);
+      may = all-pushed (λ (t : TakenView _ _). MayLand g.N.Named.table begun g.N.Named.terms g.N.Named.allows t.job) _ _ _ c.push_reserved.ensures.items inv.may
+          (subst (MayLand g.N.Named.table begun g.N.Named.terms g.N.Named.allows) (sym job) c.open-job.ensures.takes);
     }

@@ -13,5 +13,5 @@ invariant-loop-waiting g l = record {
   capacity_prepared : 64 ≤ vec_capacity l.prepared;
   prepared : l.prepared.items ≡ map (λ taken. taken.job.prepared) l.taken.items;
   passes : AllByRecursion (λ taken. taken.given.pass ≡ pass_of g.N.Named.begun taken.job.pass) l.taken.items;
-  may : AllByRecursion (λ taken. MayLand g.N.Named.table g.N.Named.begun g.N.Named.terms taken.job) l.taken.items;
+  may : AllByRecursion (λ taken. MayLand g.N.Named.table g.N.Named.begun g.N.Named.terms g.N.Named.allows taken.job) l.taken.items;
 }

@@ -30,7 +30,7 @@ returns-then-has_failed-clause-survives g c =
     let after = c.run_on-core.result.core in
     let ran = c.run_on-core.ensures in
     let came = came_together of address store clients after.history (d.faults core.opened) (faults_since d.faults after) c.run_on-core.result.outcomes ran.grows ran.valid ran.worked ran.idle in
-    rw c.close.ensures.same
+    rw c.close-disk.ensures.same
     (survives of address d clients c.reads_what_stands.ensures c.has_fully_valid_prefixes.ensures core after _ ran.crashes came (λ other. absurd (other refl)))
 
 pub returns-then-has_failed-clause-reason : goal.returns-then-has_failed-clause-reason
@@ -40,7 +40,7 @@ returns-then-has_failed-clause-reason g c n =
     let after = c.run_on-core.result.core in
     let failed = sym c.has_failed.ensures ∙ c.if-has_failed.true in
     let opened : faults after.opened ≡ faults core.disk = c.run_on-core.ensures.opened ∙ ap faults c.requires.fresh in
-    let closed : faults c.close.result ≡ faults after.disk = ap faults c.close.ensures.same in
+    let closed : faults c.close-disk.result ≡ faults after.disk = ap faults c.close-disk.ensures.same in
     let rose = subst (λ (k : ℕ). Rose k (faults after.disk)) opened (c.moves.ensures.caused failed) in
     (subst (λ (k : ℕ). Rose (faults core.disk) k) (sym closed) rose, refl, refl)
 
@@ -73,7 +73,7 @@ returns-in-Ok-clause-wrote g c =
     let seen = c.as_slice.result.now in
     let working = sym c.has_failed.ensures ∙ c.if-has_failed.false in
     let stands = subst (λ (l : Terms). AllStand (fix of.meaning l address) after.history (d.may_leave after.disk)) ran.terms (c.moves.ensures.stands working) in
-    answers_map (TellsClients after.terms.origin seen after.history) (λ whole. ⊥) (RanOver d.may_leave of address store clients c.close-in-Ok.result) (λ whole. ⊥)
+    answers_map (TellsClients after.terms.origin seen after.history) (λ whole. ⊥) (RanOver d.may_leave of address store clients c.close.result) (λ whole. ⊥)
     (λ whole tells. record {
       history = after.history;
       told = record {
@@ -87,7 +87,7 @@ returns-in-Ok-clause-wrote g c =
         };
         tells = subst (λ (l : Terms). TellsClients l.origin seen after.history whole) ran.terms tells;
       };
-      reads = λ i left. reads_all of address c.reads_what_stands.ensures store after.history ran.valid (d.may_leave after.disk) stands i (subst (λ k. d.may_leave k i) c.close-in-Ok.ensures.same left);
+      reads = λ i left. reads_all of address c.reads_what_stands.ensures store after.history ran.valid (d.may_leave after.disk) stands i (subst (λ k. d.may_leave k i) c.close.ensures.same left);
     })
     (λ whole no. no) c.say_together.result (g.K.Sink.given c.args.sink.now) (g.K.Sink.given c.say_together.new.sink) c.say_together.ensures.wrote
 
@@ -102,7 +102,7 @@ returns-in-Ok-clause-survives g c =
     let after = c.run_on-core.result.core in
     let ran = c.run_on-core.ensures in
     let came = came_together of address store clients after.history (d.faults core.opened) (faults_since d.faults after) c.run_on-core.result.outcomes ran.grows ran.valid ran.worked ran.idle in
-    rw c.close-in-Ok.ensures.same
+    rw c.close.ensures.same
     (survives of address d clients c.reads_what_stands.ensures c.has_fully_valid_prefixes.ensures core after _ ran.crashes came (λ other. sym c.has_failed.ensures ∙ c.if-has_failed.false))
 
 pub returns-in-Ok-clause-reason : goal.returns-in-Ok-clause-reason
@@ -120,10 +120,10 @@ returns-in-Ok-clause-reason g c n =
     let working = sym c.has_failed.ensures ∙ c.if-has_failed.false in
     let quiet : faults after.disk ≡ faults after.opened = c.moves.ensures.quiet working in
     let opened : faults after.opened ≡ faults core.opened = c.run_on-core.ensures.opened in
-    let closed : faults c.close-in-Ok.result ≡ faults after.disk = ap faults c.close-in-Ok.ensures.same in
+    let closed : faults c.close.result ≡ faults after.disk = ap faults c.close.ensures.same in
     let fresh : faults core.opened ≡ faults core.disk = ap faults c.requires.fresh in
-    let last : faults core.opened + since ≡ faults c.close-in-Ok.result = omega (arith, quiet, opened, closed) in
-    reason_stays (TellsClients after.terms.origin seen after.history) (λ whole. ⊥) n (g.K.Sink.faults c.args.sink.now) (g.K.Sink.faults c.say_together.new.sink) (faults core.disk) (faults c.close-in-Ok.result)
+    let last : faults core.opened + since ≡ faults c.close.result = omega (arith, quiet, opened, closed) in
+    reason_stays (TellsClients after.terms.origin seen after.history) (λ whole. ⊥) n (g.K.Sink.faults c.args.sink.now) (g.K.Sink.faults c.say_together.new.sink) (faults core.disk) (faults c.close.result)
     (g.K.Sink.given c.args.sink.now) (g.K.Sink.given c.say_together.new.sink) c.say_together.result c.say_together.ensures.wrote (closed ∙ quiet ∙ opened ∙ fresh)
     (λ is.
     let rose = fault_rose on core.history after.history since work.count work.steps work.number seen own (c.say_together.ensures.fault is) in

@@ -1,5 +1,5 @@
--- The store's name says what the store is. No branch is dropped in it.
-use Rattle.std.proofs.Common.{false}
+-- The store's name says what the store is. It allows what the steps of the scripts may make.
+use Rattle.parallel_clients.specs.Allowed.{IsOfScripts}
 use Rattle.client_runs.proofs.run.run_on.Given as goal
 
 abbrev pub ghosts-share : goal.ghosts-share
@@ -10,7 +10,7 @@ ghosts-share g a = record {
   terms = a.blank.core.terms;
   parts = a.blank.parts;
   opened = a.blank.opened;
-  drops = false;
+  allows = IsOfScripts g.T.Forms.forms a.scripts.now;
   since = g.D.Disk.moment a.blank.core.disk;
   left = g.D.Disk.left_since a.blank.core.disk;
 }

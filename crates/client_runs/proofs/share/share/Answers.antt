@@ -6,8 +6,9 @@ use Rattle.branch_front.specs.Lists.{AreAllWithin}
 use Rattle.branch_history.specs.declared.moves.Move.{Move}
 use Rattle.branch_machine.specs.Fixed.{fix}
 use Rattle.branch_names.specs.declared.terms.Terms.{Terms}
+use Rattle.branch_shared.specs.Allowed.{GrowsBy}
 use Rattle.branch_shared.specs.Crashes.{IsSafe}
-use Rattle.branch_shared.specs.Keeps.{DropsNone, faults_since}
+use Rattle.branch_shared.specs.Keeps.{faults_since}
 use Rattle.parallel_clients.specs.Clients.{Ran}
 use Rattle.parallel_clients.specs.Outcomes.{setting}
 use Rattle.client_runs.proofs.Crashes.{safe-from}
@@ -61,8 +62,8 @@ returns-clause-idle g c =
     stays-so (setting (fix g.T.Mrdt.meaning c.args.blank.core.terms g.A.Address.address) g.T.Forms.forms c.args.blank.opened) c.args.blank.core.history c.close_with-closed.result.core.history
     (faults_since g.D.Disk.faults c.args.blank.core) (faults_since g.D.Disk.faults c.close_with-closed.result.core) c.args.blank.parts c.args.scripts.now c.run_clients-outcomes.result (over g c)
 
-pub returns-clause-drops_none : goal.returns-clause-drops_none
-returns-clause-drops_none g c = subst (λ (ms : List (Move _ _)). DropsNone ms c.close_with-closed.result.core.history) (sym c.requires.name.history_is) (c.close_with-closed.ensures.drops_none c.requires.drops)
+pub returns-clause-allowed : goal.returns-clause-allowed
+returns-clause-allowed g c = subst (λ (ms : List (Move _ _)). GrowsBy g.N.Named.allows ms c.close_with-closed.result.core.history) (sym c.requires.name.history_is) c.close_with-closed.ensures.allowed
 
 pub returns-clause-crashes : goal.returns-clause-crashes
 returns-clause-crashes g c =
@@ -71,5 +72,5 @@ returns-clause-crashes g c =
     let blank = c.args.blank in
     let name = c.requires.name in
     let new = c.close_with-closed.result.core in
-    let safe = subst (λ (t : Terms). IsSafe disk (fix g.T.Mrdt.meaning t g.A.Address.address) n.since n.left n.begun new) (sym name.terms_are) c.close_with-closed.ensures.crashes in
-    safe-from disk (fix g.T.Mrdt.meaning blank.core.terms g.A.Address.address) n.since n.left n.begun blank.core new c.requires.since name.history_is safe
+    let safe = subst (λ (t : Terms). IsSafe disk (fix g.T.Mrdt.meaning t g.A.Address.address) n.since n.left n.begun n.allows new) (sym name.terms_are) c.close_with-closed.ensures.crashes in
+    safe-from disk (fix g.T.Mrdt.meaning blank.core.terms g.A.Address.address) n.allows n.since n.left n.begun blank.core new c.requires.since name.history_is safe

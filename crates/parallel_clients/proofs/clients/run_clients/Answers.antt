@@ -5,7 +5,8 @@ use Rattle.std.proofs.lemmas.Slice.Zip.{AllZip-long}
 use Rattle.branch_machine.specs.Fixed.{fix}
 use Rattle.parallel_clients.specs.Clients.{Ran}
 use Rattle.parallel_clients.specs.Entrants.{IsSeat, IsReady, HasRunOwn, HaveLeft}
-use Rattle.parallel_clients.specs.Outcomes.{MayDrop, setting}
+use Rattle.parallel_clients.specs.Allowed.{AllowsStep}
+use Rattle.parallel_clients.specs.Outcomes.{setting}
 use Rattle.parallel_clients.proofs.Ended.{whole-again}
 use Rattle.parallel_clients.proofs.Started.{all-indexed, HasParts, all-parts, HasRoom, all-room, all-scripts, as-many, all-ran, ran-all}
 use Rattle.parallel_clients.proofs.clients.run_clients.Goals as goal
@@ -22,15 +23,15 @@ enter_all-entrants-requires-clause-room g c κs within =
     let room = c.in_ok-entrants.ensures.capacity in
     omega arith
 
-pub work_all-requires-clause-drops : goal.work_all-requires-clause-drops
-work_all-requires-clause-drops g c κs within i d lt =
+pub work_all-requires-clause-allowed : goal.work_all-requires-clause-allowed
+work_all-requires-clause-allowed g c κs within i d lt =
     let from = c.args.pass.now in
     let scripts = c.args.scripts.now in
     let seats = c.in_ok-seats.seats.items in
     let before = c.deref_mut.result.now in
     let ready = subst (AllZip (IsReady from) seats) (sym c.deref_mut.ensures.value) c.enter_all-entrants.ensures.ready in
-    all-indexed (λ e. AllByRecursion (MayDrop g.N.Named.drops) e.seat.steps.now) before
-    (all-scripts from scripts seats before c.in_ok-seats.ensures ready (AllByRecursion (MayDrop g.N.Named.drops)) c.requires.drops) i d lt
+    all-indexed (λ e. AllByRecursion (AllowsStep g.T.Forms.forms g.N.Named.allows) e.seat.steps.now) before
+    (all-scripts from scripts seats before c.in_ok-seats.ensures ready (AllByRecursion (AllowsStep g.T.Forms.forms g.N.Named.allows)) c.requires.allowed) i d lt
 
 pub work_all-requires-clause-none : goal.work_all-requires-clause-none
 work_all-requires-clause-none g c κs within i d lt =

@@ -1,5 +1,4 @@
--- The store's name says what the store is. Scripts may drop branches of it.
-use Rattle.std.proofs.Common.{true}
+-- The store's name says what the store is. Each move is allowed in it.
 use Rattle.branch_disk.specs.Memory.{left_since, moment}
 use Rattle.thread_tests.proofs.plays.play.Given as goal
 
@@ -11,7 +10,7 @@ ghosts-share g a = record {
   terms = a.blank.core.terms;
   parts = a.blank.parts;
   opened = a.blank.opened;
-  drops = true;
+  allows = λ made. Unit {0};
   since = moment a.blank.core.disk;
   left = left_since a.blank.core.disk;
 }

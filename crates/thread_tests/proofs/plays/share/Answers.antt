@@ -1,9 +1,8 @@
--- In a store that drops branches each step may come.
-use Rattle.std.proofs.Common.{◌≡◌, Bool, true, List, [], ◌∷◌}
+-- Where each move is allowed each step is.
+use Rattle.std.proofs.Common.{List, [], ◌∷◌}
 use Rattle.std.specs.List.{AllByRecursion}
-use Rattle.branch_script.specs.declared.step.Step.{Step}
-use Rattle.branch_script.specs.declared.step.Step.TheVariants.{Look, Fork, Merge, Join, Do, Ask, Drop}
-use Rattle.parallel_clients.specs.Outcomes.{MayDrop}
+use Rattle.branch_doc.specs.Forms.{doc_forms}
+use Rattle.parallel_clients.specs.Allowed.{AllowsStep}
 use denote.Param.Send.{sendable}
 use Rattle.documents_cross.proofs.Crosses.{Doc-send, Doc-sync}
 use Rattle.thread_tests.proofs.plays.share.Goals as goal
@@ -12,17 +11,9 @@ each : {X : Type 0} (P : X → Type 0) → ((x : X) → P x) → (xs : List X) �
 each P holds [] = tt
 each P holds (x ∷ xs) = (holds x, each P holds xs)
 
-may : (drops : Bool) → drops ≡ true → (s : Step) → MayDrop drops s
-may drops is (Look session branch) = tt
-may drops is (Fork new from) = tt
-may drops is (Merge session from) = tt
-may drops is (Join session from) = tt
-may drops is (Do session op) = tt
-may drops is (Ask branch query) = tt
-may drops is (Drop session) = is
-
-pub run_clients-requires-clause-drops : goal.run_clients-requires-clause-drops
-run_clients-requires-clause-drops g c κs within = each (AllByRecursion (MayDrop g.N.Named.drops)) (each (MayDrop g.N.Named.drops) (may g.N.Named.drops c.requires.drops)) c.args.scripts.now
+pub run_clients-requires-clause-allowed : goal.run_clients-requires-clause-allowed
+run_clients-requires-clause-allowed g c κs within =
+    each (AllByRecursion (AllowsStep doc_forms g.N.Named.allows)) (each (AllowsStep doc_forms g.N.Named.allows) (λ step made may. c.requires.allowed made)) c.args.scripts.now
 
 pub new-shared-requires-send-T : goal.new-shared-requires-send-T
 new-shared-requires-send-T g c κs within = let d = Doc-send in search sendable

@@ -1,5 +1,6 @@
 -- A drop that was made lengthens what the pass has seen.
 use Rattle.std.proofs.Common.{◌≡◌, ◌∷◌, ◌++◌, [], length, ap, sym, subst, ◌∙◌}
+use Rattle.std.specs.List.{AllByRecursion}
 use mathlib.Core.List.{IsPrefix}
 use Rattle.branch_front.proofs.Prefixes.{prefix_trans}
 use Rattle.branch_front.specs.Views.{View}
@@ -13,7 +14,18 @@ use Rattle.branch_shared.proofs.Calls.{safe-answered, safe-under}
 use Rattle.branch_shared.proofs.Dropping.{drop-made}
 use Rattle.branch_shared.proofs.Entries.{GoOn, each-known, knows-both, noted-moments, noted-none}
 use Rattle.branch_shared.proofs.Held.{kept-on, kept-still, drop-same, drop-stayed}
+use Rattle.branch_shared.proofs.Makes.{drop-allowed}
 use Rattle.branch_shared.proofs.kept.Kept.drop_branch.Goals as goal
+
+pub add-requires-clause-grown : goal.add-requires-clause-grown
+add-requires-clause-grown g c κs within =
+    let old = c.self.inside.core in
+    let seen = c.args.seen.now in
+    let begun = g.N.Named.begun in
+    let made = drop-made g.T.Mrdt.meaning g.A.Address.address seen old c.drop_branch-outcome.new.self c.drop_branch-outcome.result c.drop_branch-outcome.ensures.takes (sym c.is_ok.ensures.value ∙ c.if-is_ok.true) in
+    let known : old.history ≡ begun ++ moves_of c.see.new.writer.moves = c.self.invariant.history_is ∙ sym (ap (λ w. begun ++ moves_of w.moves) c.see.ensures.writer) in
+    let all = drop-allowed (fix g.T.Mrdt.meaning old.terms g.A.Address.address) g.N.Named.allows old.history seen.branch seen.head c.requires.allowed in
+    (made.made, made.history ∙ ap (λ w. w ++ made.made ∷ []) known, (subst (AllByRecursion g.N.Named.allows) made.one all).0)
 
 pub returns-then-is_ok-clause-prefix : goal.returns-then-is_ok-clause-prefix
 returns-then-is_ok-clause-prefix g c =
@@ -43,11 +55,11 @@ invariant_of-self g c =
     let on = subst (λ (w : View (Entry _ _)). GoOn (disk.moment new.disk) (moments_of w.moves) vs) c.see.ensures.writer (noted-moments (disk.moment new.disk) c.see.new.writer.moves c.add.new.writer.moves c.add.ensures.noted) in
     let long = each-known n.begun c.add.new.writer.moves ∙ ap (λ h. length h) (sym c.add.ensures.history) in
     let only_now = g.met.D.Disk.only_now in
-    let safe = safe-under disk meaning address n.since n.left n.begun old new only_now us vs on long n.terms c.self.invariant.terms_are c.self.invariant.safe c.self.invariant.sure
-    (λ was. safe-answered disk meaning address n.since n.left n.begun old new only_now us vs on long (machine.Drop seen.branch seen.head) (drop_answer seen call.result) was call.ensures.takes call.ensures.leaves c.add.ensures.valid) in
-    kept-on disk (fix meaning n.terms address) n.table n.begun n.terms n.opened n.drops n.since n.left old new c.self.inside.writer c.add.new.writer c.self.invariant safe
+    let safe = safe-under disk meaning address n.since n.left n.begun n.allows old new only_now us vs on long n.terms c.self.invariant.terms_are c.self.invariant.safe c.self.invariant.sure
+    (λ was. safe-answered disk meaning address n.since n.left n.begun n.allows old new only_now us vs on long (machine.Drop seen.branch seen.head) (drop_answer seen call.result) (drop-allowed (fix meaning old.terms address) n.allows old.history seen.branch seen.head c.requires.allowed) was call.ensures.takes call.ensures.leaves c.add.ensures.valid) in
+    kept-on disk (fix meaning n.terms address) n.table n.begun n.terms n.opened n.allows n.since n.left old new c.self.inside.writer c.add.new.writer c.self.invariant safe
     (drop-same old new _ seen call.result call.ensures.leaves.keeps (sym c.is_ok.ensures.value ∙ c.if-is_ok.true))
-    (c.add.ensures.table ∙ ap (λ w. w.table) c.see.ensures.writer) c.add.ensures.history c.add.ensures.writer.0 c.add.ensures.writer.1 c.add.ensures.drops_none
+    (c.add.ensures.table ∙ ap (λ w. w.table) c.see.ensures.writer) c.add.ensures.history c.add.ensures.writer.0 c.add.ensures.writer.1 c.add.ensures.allowed
 
 pub invariant_of-self-else-is_ok : goal.invariant_of-self-else-is_ok
 invariant_of-self-else-is_ok g c =
@@ -67,7 +79,7 @@ invariant_of-self-else-is_ok g c =
     let on = noted-moments (disk.moment new.disk) c.self.inside.writer.moves c.see-else-is_ok.new.writer.moves (subst (AreNoted (disk.moment new.disk) c.self.inside.writer.moves) (sym same) (noted-none (disk.moment new.disk) c.self.inside.writer.moves)) in
     let long = each-known n.begun c.see-else-is_ok.new.writer.moves ∙ (ap (λ l. length (n.begun ++ moves_of l)) same ∙ ap (λ h. length h) (sym (stays.history ∙ c.self.invariant.history_is))) in
     let only_now = g.met.D.Disk.only_now in
-    let safe = safe-under disk meaning address n.since n.left n.begun old new only_now us vs on long n.terms c.self.invariant.terms_are c.self.invariant.safe c.self.invariant.sure
-    (λ was. safe-answered disk meaning address n.since n.left n.begun old new only_now us vs on long (machine.Drop seen.branch seen.head) (drop_answer seen call.result) was call.ensures.takes call.ensures.leaves c.see-else-is_ok.ensures.valid) in
-    kept-still disk (fix meaning n.terms address) n.table n.begun n.terms n.opened n.drops n.since n.left old new c.self.inside.writer c.see-else-is_ok.new.writer c.self.invariant safe
+    let safe = safe-under disk meaning address n.since n.left n.begun n.allows old new only_now us vs on long n.terms c.self.invariant.terms_are c.self.invariant.safe c.self.invariant.sure
+    (λ was. safe-answered disk meaning address n.since n.left n.begun n.allows old new only_now us vs on long (machine.Drop seen.branch seen.head) (drop_answer seen call.result) (drop-allowed (fix meaning old.terms address) n.allows old.history seen.branch seen.head c.requires.allowed) was call.ensures.takes call.ensures.leaves c.see-else-is_ok.ensures.valid) in
+    kept-still disk (fix meaning n.terms address) n.table n.begun n.terms n.opened n.allows n.since n.left old new c.self.inside.writer c.see-else-is_ok.new.writer c.self.invariant safe
     stays told

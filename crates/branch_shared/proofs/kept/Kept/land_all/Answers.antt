@@ -17,14 +17,15 @@ use Rattle.branch_shared.specs.Keeps.{faults_since}
 use Rattle.branch_shared.specs.Batches.{TakenView, Serves, answered_all, bring, seen_to, shortage, with_refusal}
 use Rattle.branch_shared.proofs.Calls.{safe-batched, safe-under}
 use Rattle.branch_shared.proofs.Entries.{GoOn, each-known, noted-moments}
-use Rattle.branch_shared.proofs.Together.{grows, served, short-served, kept-grown, may-begin, may-terms}
+use Rattle.branch_shared.proofs.Makes.{AllowsAll}
+use Rattle.branch_shared.proofs.Together.{grows, served, short-served, kept-grown, may-all, may-begin, may-terms}
 use Rattle.branch_shared.proofs.kept.Kept.land_all.Goals as goal
 
 pub land_all_addressed-requires-clause-history : goal.land_all_addressed-requires-clause-history
 land_all_addressed-requires-clause-history g c κs within =
     let history = c.self.inside.core.history in
     let n = g.N.Named in
-    let all = may-begin n.table n.begun n.terms (faults_since g.D.Disk.faults c.self.inside.core) history (moments_of c.self.inside.writer.moves) c.args.all.now c.requires.passes c.see_each.ensures.behind c.requires.may in
+    let all = may-begin n.table n.begun n.terms n.allows (faults_since g.D.Disk.faults c.self.inside.core) history (moments_of c.self.inside.writer.moves) c.args.all.now c.requires.passes c.see_each.ensures.behind c.requires.may in
     All-from_recursion (λ (job : PreparedView _ _). IsPrefix job.seen.history history) c.args.prepared.items
     (subst (AllByRecursion (λ (job : PreparedView _ _). IsPrefix job.seen.history history)) (sym c.requires.prepared) all)
 
@@ -32,7 +33,7 @@ pub land_all_addressed-requires-clause-terms : goal.land_all_addressed-requires-
 land_all_addressed-requires-clause-terms g c κs within =
     let held = c.self.inside.core.terms in
     let n = g.N.Named in
-    let all = may-terms n.table n.begun n.terms held c.self.invariant.terms_are c.args.all.now c.requires.may in
+    let all = may-terms n.table n.begun n.terms n.allows held c.self.invariant.terms_are c.args.all.now c.requires.may in
     All-from_recursion (λ (job : PreparedView _ _). job.seen.terms ≡ held) c.args.prepared.items
     (subst (AllByRecursion (λ (job : PreparedView _ _). job.seen.terms ≡ held)) (sym c.requires.prepared) all)
 
@@ -94,15 +95,16 @@ invariant_of-self g c =
     let grown = grows jobs old new answers (fix meaning old.terms address) c.in-Ok.ensures.answers in
     let named = c.answer_each.ensures.table ∙ (ap (λ w. w.table) c.note_faults.ensures ∙ (ap (λ w. w.table) c.see_each.ensures.writer ∙ c.self.invariant.table_is)) in
     let many : length jobs ≤ 64 = omega (arith, ap (λ l. length l) c.requires.prepared, length-map c.args.all.now (λ (t : TakenView _ _). t.job.prepared), c.requires.few) in
+    let may = subst (AllowsAll n.allows) (sym c.requires.prepared) (may-all n.table n.begun n.terms n.allows c.args.all.now c.requires.may) in
     let moves : c.note_faults.new.writer.moves ≡ c.self.inside.writer.moves = ap (λ w. w.moves) c.note_faults.ensures ∙ ap (λ w. w.moves) c.see_each.ensures.writer in
     let us = moments_of c.self.inside.writer.moves in
     let vs = moments_of c.answer_each.new.writer.moves in
     let on = subst (λ (l : List (Entry _ _)). GoOn (disk.moment new.disk) (moments_of l) vs) moves (noted-moments (disk.moment new.disk) c.note_faults.new.writer.moves c.answer_each.new.writer.moves c.answer_each.ensures.noted) in
     let long = each-known n.begun c.answer_each.new.writer.moves ∙ ap (λ h. length h) c.answer_each.ensures.history in
     let only_now = g.met.D.Disk.only_now in
-    let safe = safe-under disk meaning address n.since n.left n.begun old new only_now us vs on long n.terms c.self.invariant.terms_are c.self.invariant.safe c.self.invariant.sure
-    (λ was. safe-batched disk meaning address n.since n.left n.begun old new only_now us vs on long jobs many answers was c.in-Ok.ensures.answers c.in-Ok.ensures.leaves c.moves-in-Ok.ensures.valid) in
-    kept-grown disk (fix meaning n.terms address) n.table n.begun n.terms n.opened n.drops n.since n.left jobs old new answers c.self.inside.writer c.answer_each.new.writer c.self.invariant grown
+    let safe = safe-under disk meaning address n.since n.left n.begun n.allows old new only_now us vs on long n.terms c.self.invariant.terms_are c.self.invariant.safe c.self.invariant.sure
+    (λ was. safe-batched disk meaning address n.since n.left n.begun n.allows old new only_now us vs on long jobs many may answers was c.in-Ok.ensures.answers c.in-Ok.ensures.leaves c.moves-in-Ok.ensures.valid) in
+    kept-grown disk (fix meaning n.terms address) n.table n.begun n.terms n.opened n.allows n.since n.left jobs old new answers c.self.inside.writer c.answer_each.new.writer c.self.invariant grown may
     named c.answer_each.ensures.history c.answer_each.ensures.faults c.answer_each.ensures.idle safe
 
 pub returns-in-Ok : goal.returns-in-Ok

@@ -18,11 +18,11 @@ returns-clause-all g c parts =
     let history : length c.core.inside.core.history ≡ length g.N.Named.begun + length c.core.inside.writer.moves = long-behind g.N.Named.begun c.core.inside.writer.moves c.core.inside.core.history c.core.invariant.history_is in
     omega (arith, all, history, c.moves.ensures.moves, c.self.invariant.1)
 
-pub returns-clause-drops_none : goal.returns-clause-drops_none
-returns-clause-drops_none g c = λ off. record {
+pub returns-clause-allowed : goal.returns-clause-allowed
+returns-clause-allowed g c = record {
   more = moves_of c.core.inside.writer.moves;
   is = sym c.core.invariant.history_is;
-  none = c.core.invariant.drops_none off;
+  all = c.core.invariant.allowed;
 }
 
 pub returns-clause-every : goal.returns-clause-every

@@ -26,6 +26,6 @@ invariant_of-kept g c =
     let shared = subst (λ (b : BlankView (Move _ _) _). IsSharedAt disk n.since n.left b.core) (sym c.blank.view_is) c.requires.since in
     let valid = subst (λ (t : Terms). IsFullyValid (fix meaning t address) core.history) named.terms_are c.moves.ensures.valid in
     let stands = subst (λ (t : Terms). AllStand (fix meaning t address) core.history (disk.may_leave core.disk)) named.terms_are (c.moves.ensures.stands shared.works) in
-    let safe = safe-first disk fixed n.since n.left n.begun core g.met.D.Disk.only_now shared named.history_is valid stands in
+    let safe = safe-first disk fixed n.since n.left n.begun n.allows core g.met.D.Disk.only_now shared named.history_is valid stands in
     let is = c.first-pass.ensures.writer ∙ ap (λ (w : View (Entry _ _)). record w { mine = []; others = []; parts = 0; receipts = 0 }) c.blank.invariant.0 in
-    kept-first disk fixed n.table n.begun n.terms n.opened n.drops n.since n.left core blank.front.parts blank.front.table c.first-pass.new.self named.table_is named.history_is named.terms_are named.opened_is is safe
+    kept-first disk fixed n.table n.begun n.terms n.opened n.allows n.since n.left core blank.front.parts blank.front.table c.first-pass.new.self named.table_is named.history_is named.terms_are named.opened_is is safe

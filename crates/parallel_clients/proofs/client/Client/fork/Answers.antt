@@ -9,6 +9,9 @@ use Rattle.parallel_clients.proofs.Single.{plays-forked, plays-taken}
 use Rattle.parallel_clients.proofs.Turned.{fork-named, fork-has}
 use Rattle.parallel_clients.proofs.client.Client.fork.Goals as goal
 
+pub fork-requires-clause-allowed : goal.fork-requires-clause-allowed
+fork-requires-clause-allowed g c κs within number source = c.requires.allowed (move.Fork c.args.new.now number source) refl
+
 pub returns-in-Ok-clause-plays : goal.returns-in-Ok-clause-plays
 returns-in-Ok-clause-plays g c =
     let mid = c.args.pass.now in

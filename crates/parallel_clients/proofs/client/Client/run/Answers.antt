@@ -6,7 +6,8 @@ use Rattle.std.proofs.lemmas.List.{take_all}
 use Rattle.std.proofs.lemmas.Option.{slice_get_read}
 use Rattle.branch_machine.specs.Fixed.{fix}
 use Rattle.parallel_clients.specs.declared.outcome.Outcome.TheVariants.{Done}
-use Rattle.parallel_clients.specs.Outcomes.{IsOutcome, MayDrop, setting}
+use Rattle.parallel_clients.specs.Allowed.{AllowsStep}
+use Rattle.parallel_clients.specs.Outcomes.{IsOutcome, setting}
 use Rattle.parallel_clients.specs.Sessions.{IsPlaying}
 use Rattle.parallel_clients.proofs.Runs.{all-got, playing-none, playing-more, done-became, stopped-became, blind-became}
 use Rattle.parallel_clients.proofs.client.Client.run.Goals as goal
@@ -21,13 +22,13 @@ loop-number-init g c =
     let few : length c.args.places.items ≡ 0 = ap length c.requires.none in
     (playing, omega arith, c.requires.room, λ valid. valid)
 
-pub step-requires-clause-drops : goal.step-requires-clause-drops
-step-requires-clause-drops g c κs within =
+pub step-requires-clause-allowed : goal.step-requires-clause-allowed
+step-requires-clause-allowed g c κs within =
     let steps = c.args.steps.now in
     let number = c.loop-number.number in
     let step = c.index-steps-number.result in
     let is_step : slice_get steps number ≡ Some step = slice_get_read steps (length steps) number step refl c.loop-number-test.true c.index-steps-number.is in
-    all-got (MayDrop g.N.Named.drops) steps number step c.requires.drops is_step
+    all-got (AllowsStep g.T.Forms.forms g.N.Named.allows) steps number step c.requires.allowed is_step
 
 pub returns-then-not-sees-clause-became : goal.returns-then-not-sees-clause-became
 returns-then-not-sees-clause-became g c =

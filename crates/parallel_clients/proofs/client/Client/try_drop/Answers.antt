@@ -1,11 +1,15 @@
 -- A try to drop, by what became of it.
 use Rattle.std.proofs.Common.{◌≡◌, ◌∙◌, sym, Some, refl}
+use Rattle.branch_history.specs.declared.moves.Move.TheVariants as move
 use Rattle.branch_machine.specs.Fixed.{fix}
 use Rattle.parallel_clients.specs.Outcomes.{setting}
 use Rattle.parallel_clients.specs.Sessions.{session_named, sights_of}
 use Rattle.parallel_clients.proofs.Sessioned.{sight-found}
 use Rattle.parallel_clients.proofs.Droppings.{drop-done, drop-stays, drop-refused}
 use Rattle.parallel_clients.proofs.client.Client.try_drop.Goals as goal
+
+pub drop_branch-requires-clause-allowed : goal.drop_branch-requires-clause-allowed
+drop_branch-requires-clause-allowed g c κs within = c.requires.allowed (move.Drop c.in-Some.at.now.seen.branch) tt
 
 pub drop_branch-requires-clause-history : goal.drop_branch-requires-clause-history
 drop_branch-requires-clause-history g c κs within =

@@ -5,6 +5,7 @@ use Rattle.store_seen.specs.declared.pair.PairStep.TheVariants as step
 use Rattle.branch_shared.specs.Passes.{seen_by}
 use Rattle.parallel_clients.specs.Outcomes.{setting}
 use Rattle.parallel_clients.specs.Sessions.{session_named, sights_of, IsJoinReady}
+use Rattle.parallel_clients.proofs.Allowing.{group-allowed}
 use Rattle.parallel_clients.proofs.Sessioned.{sight-found}
 use Rattle.parallel_clients.proofs.Mergings.{stayed-earlier}
 use Rattle.parallel_clients.proofs.Joinings.{join-same, join-unready, join-begins, join-unlanded, join-tried}
@@ -73,6 +74,14 @@ land-requires-clause-made g c κs within =
     let ready : IsJoinReady g.T.Mrdt.meaning (seen_by mid g.N.Named.terms) s.seen from (step.Land made) = rw c.in-Ok-Land.field-0-is at c.in-Ok-Land.ensures.ready in
     let work = ready.is in
     join-begins on old mid c.prepare_join.ensures.prefix c.prepare_join.ensures.rest s is (sights_of sessions) session from sees ready.group ready.grouped made work.0 work.1 work.2
+
+pub land-requires-clause-allowed : goal.land-requires-clause-allowed
+land-requires-clause-allowed g c κs within =
+    let mid = c.prepare_join.new.pass in
+    let seen = c.in-Some.at.now.seen in
+    let made = c.in-Ok-Land.prepared in
+    let ready : IsJoinReady g.T.Mrdt.meaning (seen_by mid g.N.Named.terms) seen c.args.from.now (step.Land made) = rw c.in-Ok-Land.field-0-is at c.in-Ok-Land.ensures.ready in
+    group-allowed g.N.Named.allows made.seen.branch c.requires.allowed g.T.Mrdt.meaning ready.group made.work ready.is.1
 
 pub returns-in-Ok-clause-tried : goal.returns-in-Ok-clause-tried
 returns-in-Ok-clause-tried g c =

@@ -4,6 +4,7 @@ use Rattle.branch_history.specs.Steps as machine
 use Rattle.branch_machine.specs.Fixed.{fix}
 use Rattle.parallel_clients.specs.Outcomes.{setting}
 use Rattle.parallel_clients.specs.Sessions.{session_named, sights_of}
+use Rattle.parallel_clients.proofs.Allowing.{pair-allowed}
 use Rattle.parallel_clients.proofs.Sessioned.{sight-found}
 use Rattle.parallel_clients.proofs.Mergings.{stayed-earlier, merge-unknown, merge-same, merge-unprepared, merge-begins, merge-unlanded, merge-tried}
 use Rattle.parallel_clients.proofs.client.Client.try_merge.Goals as goal
@@ -73,6 +74,12 @@ land-requires-clause-made g c κs within =
     let work = rw c.in-Ok-Land.field-0-is at c.in-Ok-Land.ensures.step in
     let made = c.in-Ok-Land.prepared in
     merge-begins (setting (fix g.T.Mrdt.meaning g.N.Named.terms g.A.Address.address) g.T.Forms.forms g.N.Named.opened) old mid c.in-Ok.ensures.prefix c.in-Ok.ensures.rest s is (sights_of sessions) session from (sight-found sessions session s found) c.in-Ok.pair c.in-Ok.ensures.paired made work.0 work.1
+
+pub land-requires-clause-allowed : goal.land-requires-clause-allowed
+land-requires-clause-allowed g c κs within =
+    let work = rw c.in-Ok-Land.field-0-is at c.in-Ok-Land.ensures.step in
+    let made = c.in-Ok-Land.prepared in
+    pair-allowed g.N.Named.allows made.seen.branch c.requires.allowed g.T.Mrdt.meaning c.in-Ok.pair made.work work.1
 
 pub returns-in-Ok-land-clause-tried : goal.returns-in-Ok-land-clause-tried
 returns-in-Ok-land-clause-tried g c =

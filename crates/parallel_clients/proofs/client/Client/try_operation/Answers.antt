@@ -1,5 +1,6 @@
 -- A try to land an operation, by what became of its preparation and its landing.
 use Rattle.std.proofs.Common.{◌≡◌, ◌∙◌, sym, Some, refl}
+use Rattle.branch_history.specs.declared.moves.Move.TheVariants as move
 use Rattle.branch_history.specs.Steps as machine
 use Rattle.branch_history.specs.History.{store_of}
 use Rattle.branch_history.specs.Commits.{visible}
@@ -47,6 +48,11 @@ land-requires-clause-made g c κs within =
     let found : session_named c.args.sessions.now.entries c.args.session.now ≡ Some s = sym c.in-Some.ensures.value in
     let is = c.requires.sessions.each c.args.session.now s found in
     rw c.in-Ok.ensures.prepared (is.begins, is.terms_are)
+
+pub land-requires-clause-allowed : goal.land-requires-clause-allowed
+land-requires-clause-allowed g c κs within =
+    let is = sym c.in-Ok-Some.ensures ∙ c.in-Ok-Some.field-0-is in
+    rw c.in-Ok.ensures.prepared (λ any. c.requires.allowed (move.Operation c.in-Some.at.now.seen.branch c.in-Ok-Some.op any) is)
 
 pub returns-in-Ok-land-clause-tried : goal.returns-in-Ok-land-clause-tried
 returns-in-Ok-land-clause-tried g c =
