@@ -14,7 +14,7 @@ module _ {O R : Type 0} (allows : Move O R → Type 0) (all : (made : Move O R) 
   }
 
   pub each-work : (work : Work O R) → AllowsWork allows branch work
-  each-work (Operation op reply) any = all (move.Operation branch op any)
+  each-work (Operation op reply) = λ any. all (move.Operation branch op any)
   each-work (Merge commit) = brings
   each-work (Join commits) = brings
   each-work (Forward commit) = brings
