@@ -16,13 +16,13 @@ use store_core::Core;
 const MADE: u64 = 10;
 
 // The store that a crash leaves while the call behind so many is made.
-fn left<R: Abort>(
+fn left<T: Mrdt, R: Abort>(
     rt: &R,
     alloc: Global,
     disk: &MemoryDisk,
     calls: u64,
     fill: Fill,
-) -> Core<Doc, MemoryDisk, Sha256Address> {
+) -> Core<T, MemoryDisk, Sha256Address> {
     let Ok(image) = disk.image(calls, fill) else {
         panic!(rt; "memory")
     };
@@ -45,26 +45,31 @@ fn is_part_of<T: Mrdt, D: Disk + Drop, A: Address>(
     true
 }
 
-// Eight clients fork a branch each and land an operation there. Whenever a crash comes, it leaves the first of their moves,
-// never fewer than one that came before; and all of them when they are done.
+// Whenever a crash comes while the calls of the disk are made, it leaves the first of so many moves, never fewer than one
+// that came before; and all of them in the end.
+fn leaves_parts<T: Mrdt, R: Abort>(rt: &R, alloc: Global, disk: &MemoryDisk, all: u64) {
+    let last = disk.calls();
+    let whole = left::<T, R>(rt, alloc, disk, last, Fill::Old);
+    for fill in [Fill::Old, Fill::New, Fill::Byte(90)] {
+        let mut before = 0;
+        for calls in MADE..=last {
+            let core = left::<T, R>(rt, alloc, disk, calls, fill);
+            let moves = core.moves();
+            assert!(rt; before <= moves && moves <= all);
+            assert!(rt; is_part_of(&core, &whole));
+            before = moves;
+        }
+        assert_eq!(rt; before, all);
+    }
+}
+
+// Eight clients fork a branch each and land an operation there.
 #[test]
 fn a_crash_at_each_call(rt: HostRuntime) -> Result<(), Fail> {
     let alloc = rt.alloc();
     let scripts = scripts(alloc, 8)?;
     let played = play(&rt, alloc, Vec::new(alloc), &scripts, &OpenGate);
     assert_eq!(rt; played.moves, 16);
-    let last = played.disk.calls();
-    let whole = left(&rt, alloc, &played.disk, last, Fill::Old);
-    for fill in [Fill::Old, Fill::New, Fill::Byte(90)] {
-        let mut before = 0;
-        for calls in MADE..=last {
-            let core = left(&rt, alloc, &played.disk, calls, fill);
-            let moves = core.moves();
-            assert!(rt; before <= moves && moves <= 16);
-            assert!(rt; is_part_of(&core, &whole));
-            before = moves;
-        }
-        assert_eq!(rt; before, 16);
-    }
+    leaves_parts::<Doc, _>(&rt, alloc, &played.disk, played.moves);
     Ok(())
 }

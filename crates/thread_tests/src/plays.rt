@@ -5,7 +5,7 @@ ghost use Rattle.branch_shared.specs.Names.{IsNamed};
 
 use branch_address::Sha256Address;
 use branch_disk::{Disk, MemoryDisk};
-use branch_doc::{DocOp, DocReply};
+use branch_doc::Forms;
 use branch_names::{Limits, Terms};
 use branch_script::{Line, Step, read_line};
 use branch_shared::{Blank, Named, Shared};
@@ -50,23 +50,39 @@ pub(crate) fn play<G: Gate, R: Threads + Wait + Abort + Sync>(
     scripts: &[Listing<Step>],
     gate: &G,
 ) -> Played {
+    play_over::<Doc, G, R>(rt, alloc, failing, scripts, gate)
+}
+
+// The same of values of any type.
+fn play_over<T: Forms + Send + Sync, G: Gate, R: Threads + Wait + Abort + Sync>(
+    rt: &R,
+    alloc: Global,
+    failing: Vec<u64>,
+    scripts: &[Listing<Step>],
+    gate: &G,
+) -> Played {
     let terms = Terms::under(Limits::default());
-    let made = Core::<Doc, MemoryDisk, Sha256Address>::init(alloc, MemoryDisk::new(failing), terms);
+    let made = Core::<T, MemoryDisk, Sha256Address>::init(alloc, MemoryDisk::new(failing), terms);
     let Ok(core) = made else {
         panic!(rt; "no store")
     };
     let parts = 2 * scripts.len() as u64 + 1;
     match Blank::new(alloc, core, parts) {
-        Ok(blank) => share::<Brand, G, R>(rt, alloc, blank, scripts, gate),
+        Ok(blank) => share::<T, Brand, G, R>(rt, alloc, blank, scripts, gate),
         Err(_) => panic!(rt; "memory"),
     }
 }
 
 // The same over a store with no name yet.
-fn share<N: Named<DocOp, DocReply> + Drop + Send + Sync, G: Gate, R: Threads + Wait + Abort + Sync>(
+fn share<
+    T: Forms + Send + Sync,
+    N: Named<T::Op, T::Reply> + Drop + Send + Sync,
+    G: Gate,
+    R: Threads + Wait + Abort + Sync,
+>(
     rt: &R,
     alloc: Global,
-    blank: Blank<Doc, MemoryDisk, Sha256Address>,
+    blank: Blank<T, MemoryDisk, Sha256Address>,
     scripts: &[Listing<Step>],
     gate: &G,
 ) -> Played
@@ -75,7 +91,7 @@ fn share<N: Named<DocOp, DocReply> + Drop + Send + Sync, G: Gate, R: Threads + W
     requires allowed { (made : _) → N.allows made }
     requires parts { 2 * length scripts.now < blank.parts }
 {
-    let (shared, mut pass) = Shared::<Doc, MemoryDisk, Sha256Address, N>::new(blank);
+    let (shared, mut pass) = Shared::<T, MemoryDisk, Sha256Address, N>::new(blank);
     let Ok(outcomes) = run_clients(rt, alloc, &shared, &mut pass, scripts, gate) else {
         panic!(rt; "memory")
     };

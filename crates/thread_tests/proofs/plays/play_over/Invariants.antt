@@ -1,6 +1,6 @@
 -- The store's name says what the store is. Each move is allowed in it.
 use Rattle.branch_disk.specs.Memory.{left_since, moment}
-use Rattle.thread_tests.proofs.plays.play.Given as goal
+use Rattle.thread_tests.proofs.plays.play_over.Given as goal
 
 abbrev pub ghosts-share : goal.ghosts-share
 ghosts-share g a = record {
